@@ -1,0 +1,76 @@
+-- `step` meets its contract: each part of the text gives up its last byte.
+use Prim.Native.Nat.{ℕ, _-_, _/_}
+use mathlib.Core.Path.{sym, ap, ap₂, _∙_}
+use mathlib.Core.List.{List, [], _∷_, _++_}
+use Rattle.decimal.specs.Tail.{remaining, remainingOf}
+use Rattle.decimal.specs.declared.Part.the-variants.{Fraction}
+use Rattle.decimal.proofs.Text.{tail-point, tail-fraction, tail-units, tail-none, tail-higher}
+use borrow.Author.Needs.{needs}
+use Rattle.decimal.proofs.Tail.step.Statement.{statement}
+use Rattle.decimal.proofs.Tail.step.Tie as tie
+
+enum-told : tie.Need-enum-told
+enum-told c = search needs
+
+whole-tail-requires : tie.Need-whole-tail-requires
+whole-tail-requires c κs = search needs
+
+returns : tie.Need-returns
+returns c = tail-point (c .before .before .before .before .before .args .self) (c .before .before .before .enum-told .given .1) (c .before .if1 .taken) ∙ ap (λ (l : List ℕ). l ++ (46 ∷ [])) (sym (c .whole-tail .ensures))
+
+last-digit-requires : tie.Need-last-digit-requires
+last-digit-requires c κs = search needs
+
+sub-t8 : tie.Need-sub-t8
+sub-t8 c = search needs
+
+enum-told-2 : tie.Need-enum-told-2
+enum-told-2 c = search needs
+
+last-digit-requires-2 : tie.Need-last-digit-requires-2
+last-digit-requires-2 c κs = search needs
+
+higher-requires : tie.Need-higher-requires
+higher-requires c κs = search needs
+
+enum-told-3 : tie.Need-enum-told-3
+enum-told-3 c = search needs
+
+returns-2 : tie.Need-returns-2
+returns-2 c = tail-none (c .before .before .before .before .args .self) (c .before .before .enum-told3 .given .1) (c .if2 .taken)
+
+last-digit-requires-3 : tie.Need-last-digit-requires-3
+last-digit-requires-3 c κs = search needs
+
+higher-requires-2 : tie.Need-higher-requires-2
+higher-requires-2 c κs = search needs
+
+returns-3 : tie.Need-returns-3
+unfolding remaining
+returns-3 c = tail-fraction (c .before .before .before .before .before .before .before .args .self) (c .before .before .before .before .before .enum-told .given .1) (c .before .before .before .if1 .left) ∙ ap (λ (b : ℕ). remainingOf Fraction ((c .before .before .before .before .before .before .before .args .self) .digits / 10) ((c .before .before .before .before .before .before .before .args .self) .decimals - 1) ++ (b ∷ [])) (sym (c .before .before .last-digit .ensures))
+
+returns-4 : tie.Need-returns-4
+returns-4 c = tail-units (c .before .before .before .before .args .self) (c .before .before .enum-told2 .given .1) ∙ ap₂ (λ (l : List ℕ) (b : ℕ). l ++ (b ∷ [])) (sym (c .higher .ensures)) (sym (c .before .last-digit2 .ensures))
+
+returns-5 : tie.Need-returns-5
+returns-5 c = tail-higher (c .before .before .before .before .before .before .args .self) (c .before .before .before .before .enum-told3 .given .1) (c .before .before .if2 .left) ∙ ap₂ (λ (l : List ℕ) (b : ℕ). l ++ (b ∷ [])) (sym (c .higher2 .ensures)) (sym (c .before .last-digit3 .ensures))
+
+pub step-spec : {M : Type 1} → statement M
+step-spec =
+    tie.close
+    (tie.spec
+    enum-told
+    whole-tail-requires
+    returns
+    last-digit-requires
+    sub-t8
+    enum-told-2
+    last-digit-requires-2
+    higher-requires
+    enum-told-3
+    returns-2
+    last-digit-requires-3
+    higher-requires-2
+    returns-3
+    returns-4
+    returns-5)

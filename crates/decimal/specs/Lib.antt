@@ -1,0 +1,8 @@
+-- In reading order: digits; decimals; whole numbers; a text laid into a buffer; a text handed out from its end; worked examples.
+pub mod Digits
+pub mod Decimal
+pub mod Whole
+pub mod Reads
+pub mod Buffer
+pub mod Tail
+pub mod Examples

@@ -1,0 +1,185 @@
+// Numbers as text: laid into a lent buffer, or handed out from the last byte to the first.
+ghost use mathlib.Core.Path.{_≡_};
+ghost use Prim.Native.Nat.{_+_, _-_, _/_, _%_, _^_, _<_, _≤_};
+ghost use lib.ListN.{length};
+ghost use Rattle.decimal.specs.Digits.{significant, written};
+ghost use Rattle.decimal.specs.Decimal.{number, text, stripped, Within};
+ghost use Rattle.decimal.specs.Buffer.{overlaid, Laid};
+ghost use Rattle.decimal.specs.Tail.{remaining, Stepped};
+use crate::Decimal;
+use crate::Part;
+use crate::Step;
+use crate::Tail;
+use crate::Written;
+
+const POINT: u8 = 46;
+
+// Lays the text of a decimal into a buffer at a position.
+pub fn write(a: Decimal, buffer: &mut [u8], at: usize) -> Written
+    requires { ⌜ Within (number a) ⌝ }
+    ensures { λ r. ⌜ Laid (now (buffer .entry)) at (text (number a)) (now (buffer .exit)) r ⌝ }
+{
+    lay(text_tail(a), buffer, at)
+}
+
+// Lays the digits of a whole number into a buffer at a position.
+pub fn write_whole(n: u64, buffer: &mut [u8], at: usize) -> Written
+    ensures { λ r. ⌜ Laid (now (buffer .entry)) at (written n) (now (buffer .exit)) r ⌝ }
+{
+    lay(whole_tail(n), buffer, at)
+}
+
+// How many bytes the text of a decimal has.
+pub fn text_length(a: Decimal) -> usize
+    requires { ⌜ Within (number a) ⌝ }
+    ensures { λ r. ⌜ r ≡ length (text (number a)) ⌝ }
+{
+    tail_length(text_tail(a))
+}
+
+// How many digits a whole number has.
+pub fn whole_length(n: u64) -> usize
+    ensures { λ r. ⌜ r ≡ length (written n) ⌝ }
+{
+    tail_length(whole_tail(n))
+}
+
+// The text of a decimal.
+pub fn text_tail(a: Decimal) -> Tail
+    ensures { λ r. ⌜ remaining r ≡ text (number a) ⌝ }
+{
+    if a.decimals == 0 {
+        return whole_tail(a.digits);
+    }
+    Tail {
+        digits: a.digits,
+        decimals: a.decimals,
+        part: Part::Fraction,
+    }
+}
+
+// The digits of a decimal without its point and leading zeros.
+pub fn stripped_tail(a: Decimal) -> Tail
+    ensures { λ r. ⌜ remaining r ≡ stripped (number a) ⌝ }
+{
+    Tail {
+        digits: a.digits,
+        decimals: 0,
+        part: Part::Higher,
+    }
+}
+
+// The digits of a whole number.
+pub fn whole_tail(n: u64) -> Tail
+    ensures { λ r. ⌜ remaining r ≡ written n ⌝ }
+{
+    Tail {
+        digits: n,
+        decimals: 0,
+        part: Part::Units,
+    }
+}
+
+impl Tail {
+    // The last byte, and the text before it.
+    pub fn step(self) -> Step
+        ensures { λ r. ⌜ Stepped self r ⌝ }
+    {
+        let part = self.part;
+        match part {
+            Part::Fraction => {
+                if self.decimals == 0 {
+                    return Step::Byte(POINT, whole_tail(self.digits));
+                }
+                Step::Byte(
+                    last_digit(self.digits),
+                    Tail {
+                        digits: self.digits / 10,
+                        decimals: self.decimals - 1,
+                        part: Part::Fraction,
+                    },
+                )
+            }
+            Part::Units => Step::Byte(last_digit(self.digits), higher(self.digits)),
+            Part::Higher => {
+                if self.digits == 0 {
+                    return Step::End;
+                }
+                Step::Byte(last_digit(self.digits), higher(self.digits))
+            }
+        }
+    }
+}
+
+fn last_digit(n: u64) -> u8
+    ensures { λ r. ⌜ r ≡ 48 + n % 10 ⌝ }
+{
+    48 + (n % 10) as u8
+}
+
+// The digits of n before its last one, without leading zeros.
+fn higher(n: u64) -> Tail
+    ensures { λ r. ⌜ remaining r ≡ significant (n / 10) ⌝ }
+{
+    Tail {
+        digits: n / 10,
+        decimals: 0,
+        part: Part::Higher,
+    }
+}
+
+fn tail_length(t: Tail) -> usize
+    requires { ⌜ length (remaining t) < 2 ^ 64 ⌝ }
+    ensures { λ r. ⌜ r ≡ length (remaining t) ⌝ }
+{
+    let mut rest = t;
+    let mut n = 0;
+    loop {
+        match rest.step() {
+            Step::Byte(_, shorter) => {
+                rest = shorter;
+                n += 1;
+            }
+            Step::End => {
+                return n;
+            }
+        }
+    }
+}
+
+// Lays a text into a buffer at a position.
+fn lay(t: Tail, buffer: &mut [u8], at: usize) -> Written
+    requires { ⌜ length (remaining t) < 2 ^ 64 ⌝ }
+    ensures { λ r. ⌜ Laid (now (buffer .entry)) at (remaining t) (now (buffer .exit)) r ⌝ }
+{
+    let n = tail_length(t);
+    if buffer.len() < at {
+        return Written::Full;
+    }
+    if buffer.len() - at < n {
+        return Written::Full;
+    }
+    fill(t, buffer, at + n);
+    Written::To(at + n)
+}
+
+// Lays a text into a buffer so that it ends at a position.
+fn fill(t: Tail, buffer: &mut [u8], end: usize)
+    requires { ⌜ (length (remaining t) ≤ end) × (end ≤ length (now buffer)) ⌝ }
+    ensures { λ r. ⌜ now (buffer .exit) ≡ overlaid (now (buffer .entry)) (end - length (remaining t)) (remaining t) ⌝ }
+{
+    let mut rest = t;
+    let mut i = end;
+    loop {
+        match rest.step() {
+            Step::Byte(b, shorter) => {
+                rest = shorter;
+                i -= 1;
+                buffer[i] = b;
+            }
+            Step::End => {
+                return;
+            }
+        }
+    }
+}

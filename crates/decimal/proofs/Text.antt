@@ -62,7 +62,7 @@ module _ (t : Tail) where
 
 -- ---- the whole text
 
-after-some : (k m : ℕ) → afterPoint (suc k) m ≡ point ∷ fixed (suc k) m
+pub after-some : (k m : ℕ) → afterPoint (suc k) m ≡ point ∷ fixed (suc k) m
 unfolding afterPoint
 after-some k m = refl
 

@@ -48,8 +48,8 @@ scaled x y p h = at (ltb x y) (eqb x y) refl refl
 
 raised : (d k j : ℕ) → k ≤ j → j ≤ maxDecimals → d * 10 ^ (maxDecimals - k) ≡ d * 10 ^ (j - k) * 10 ^ (maxDecimals - j)
 raised d k j l m =
-    let q : 9 - k ≡ (j - k) + (9 - j) = omega arith in
-    ap (λ (n : ℕ). d * 10 ^ n) q ∙ ap (λ (n : ℕ). d * n) (pow-add 10 (j - k) (9 - j)) ∙ sym (mul-assoc d (10 ^ (j - k)) (10 ^ (9 - j)))
+    let q : maxDecimals - k ≡ (j - k) + (maxDecimals - j) = omega arith in
+    ap (λ (n : ℕ). d * 10 ^ n) q ∙ ap (λ (n : ℕ). d * n) (pow-add 10 (j - k) (maxDecimals - j)) ∙ sym (mul-assoc d (10 ^ (j - k)) (10 ^ (maxDecimals - j)))
 
 pub order-raised-left : (a b : Number) → a .decimals ≤ b .decimals → b .decimals ≤ maxDecimals →
     order a b ≡ orderOf (a .digits * 10 ^ (b .decimals - a .decimals)) (b .digits)

@@ -11,7 +11,7 @@ mod writing;
 
 ghost use mathlib.Core.Path.{_≡_};
 ghost use Prim.Native.Nat.{_≤_, _^_};
-ghost use Rattle.decimal.specs.Decimal.{number, order, orderOf, isZero, Within};
+ghost use Rattle.decimal.specs.Decimal.{number, order, orderOf, isZero, Within, maxDecimals};
 pub use reading::parse;
 pub use reading::parse_at;
 pub use reading::parse_checksum;
@@ -115,9 +115,9 @@ fn compare_numbers(x: u64, y: u64) -> Order
     Order::Greater
 }
 
-// Ten to the k, for any number of decimals.
+// Ten to the k, for as many decimals as there may be.
 fn power(k: u64) -> u64
-    requires { ⌜ k ≤ 9 ⌝ }
+    requires { ⌜ k ≤ maxDecimals ⌝ }
     ensures { λ r. ⌜ r ≡ 10 ^ k ⌝ }
 {
     match k {

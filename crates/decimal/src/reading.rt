@@ -14,6 +14,15 @@ use crate::ParsedChecksum;
 use crate::ParsedFront;
 use crate::ParsedWhole;
 
+// Digits before the point, after it, and of a whole number; the largest checksum.
+const MAX_WHOLE: usize = 10;
+
+const MAX_DECIMALS: usize = 9;
+
+const MAX_WHOLE_NUMBER: usize = 19;
+
+const MAX_CHECKSUM: u64 = 4_294_967_295;
+
 const POINT: u8 = 46;
 
 const ZERO: u8 = 48;
@@ -45,7 +54,7 @@ pub fn parse(s: &[u8]) -> Parsed
 pub fn parse_at(s: &[u8], at: usize) -> ParsedFront
     ensures { λ r. ⌜ parsedFront at r ≡ prefix (drop at (now (s .entry))) ⌝ }
 {
-    let whole = digits_at(s, at, 0, 10);
+    let whole = digits_at(s, at, 0, MAX_WHOLE);
     let end = whole.end;
     if end == at {
         return ParsedFront::Refused;
@@ -66,7 +75,7 @@ pub fn parse_at(s: &[u8], at: usize) -> ParsedFront
         );
     }
     let start = end + 1;
-    let fraction = digits_at(s, start, whole.value, 9);
+    let fraction = digits_at(s, start, whole.value, MAX_DECIMALS);
     let stop = fraction.end;
     if stop == start {
         return ParsedFront::Refused;
@@ -87,7 +96,7 @@ pub fn parse_at(s: &[u8], at: usize) -> ParsedFront
 pub fn parse_whole(s: &[u8]) -> ParsedWhole
     ensures { λ r. ⌜ parsedWhole r ≡ readWhole (now (s .entry)) ⌝ }
 {
-    let w = digits_at(s, 0, 0, 19);
+    let w = digits_at(s, 0, 0, MAX_WHOLE_NUMBER);
     let end = w.end;
     if end == 0 {
         return ParsedWhole::Refused;
@@ -107,7 +116,7 @@ pub fn parse_checksum(s: &[u8]) -> ParsedChecksum
 {
     match parse_whole(s) {
         ParsedWhole::Number(n) => {
-            if n <= 4_294_967_295 {
+            if n <= MAX_CHECKSUM {
                 return ParsedChecksum::Number(n as u32);
             }
             ParsedChecksum::Refused

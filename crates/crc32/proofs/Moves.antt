@@ -2,17 +2,27 @@
 -- Assumes nothing.
 use mathlib.Core.Path.{_≡_, refl, sym, ap, ap₂, _∙_, subst}
 use Prim.Native.Nat.{ℕ, zero, suc, _+_, _-_, _*_, _/_, _%_, _^_, _≤_, _<_}
-use native.Mathlib.Nat.{div-eq-of-lt, mod-eq-of-lt, mod-lt, mod-one, mul-mod-left, add-zero}
+use native.Mathlib.Nat.{div-eq-of-lt, mod-eq-of-lt, mod-lt, mod-one, mul-mod-left, add-zero, lt-of-lt-of-le}
+use native.Mathlib.Numerals.{add-one}
 use native.Mathlib.Omega.{arith}
-use lib.Pow.{shr-shr, shl-shr, mod-pow-add, pow-pos}
+use lib.Pow.{shr-shr, shl-shr, mod-pow-add, pow-pos, pow-mono}
 use lib.Bits.{bitXor, xor-shr, xor-mod, xor-comm, xor-zero-r}
 use Rattle.crc32_spec.specs.Crc.{bit, bits, step}
 use Rattle.crc32_spec.specs.Laws.{peel, xor-assoc, bits-add, bits-even, bits-xor, bits-zero}
-use Rattle.crc32_spec.specs.Text.{bits-byte}
+use Rattle.crc32_spec.specs.Text.{bits-byte, whole-word}
 use Rattle.crc32_spec.specs.Rows.{entry}
 
 bits-at : {m n : ℕ} (s : ℕ) → m ≡ n → bits m s ≡ bits n s
 bits-at s e = ap (λ (k : ℕ). bits k s) e
+
+-- moving by j bytes and by the others
+pub shifted : (j n s : ℕ) → j ≤ n → bits (8 * (n - j)) (bits (8 * j) s) ≡ bits (8 * n) s
+shifted j n s h =
+    let z : 8 * j + 8 * (n - j) ≡ 8 * n = omega arith in
+    sym (bits-add (8 * j) (8 * (n - j)) s) ∙ bits-at s z
+
+pub one-more : (n s : ℕ) → bits (8 * n) (bits 8 s) ≡ bits (8 * (n + 1)) s
+one-more n s = bits-byte n s ∙ bits-at s (ap (λ (k : ℕ). 8 * k) (sym (add-one n)))
 
 -- ---- a byte, by two entries
 
@@ -115,13 +125,12 @@ pub no-bytes : (n s w : ℕ) → n ≡ 0 → s ≡ bits (8 * n) (bitXor s (w % 2
 unfolding bits
 no-bytes n s w e = sym (ap (λ (k : ℕ). bits (8 * k) (bitXor s (w % 2 ^ (8 * k)))) e ∙ ap (bitXor s) (mod-one w) ∙ xor-zero-r s)
 
+-- eight bytes or more take a word in whole
+pub long-word : (n s w : ℕ) → 8 ≤ n → w < 2 ^ 64 → bits (8 * (n - 8)) (bits 64 (bitXor s w)) ≡ bits (8 * n) (bitXor s (w % 2 ^ (8 * n)))
+long-word n s w h l =
+    let e : 64 ≤ 8 * n = omega arith in
+    shifted 8 n (bitXor s w) h ∙ sym (whole-word n s w (lt-of-lt-of-le l (pow-mono e)))
+
 pub zero-bytes : (n s : ℕ) → n ≡ 0 → s ≡ bits (8 * n) s
 unfolding bits
 zero-bytes n s e = sym (ap (λ (k : ℕ). bits (8 * k) s) e)
-
--- ---- moving twice
-
-pub shifted : (j n s : ℕ) → j ≤ n → bits (8 * (n - j)) (bits (8 * j) s) ≡ bits (8 * n) s
-shifted j n s h =
-    let z : 8 * j + 8 * (n - j) ≡ 8 * n = omega arith in
-    sym (bits-add (8 * j) (8 * (n - j)) s) ∙ bits-at s z

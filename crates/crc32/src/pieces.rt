@@ -3,10 +3,10 @@ ghost use mathlib.Core.Path.{_≡_};
 ghost use Prim.Native.Nat.{_+_, _*_, _<_};
 ghost use lib.Bits.{bitXor};
 ghost use Rattle.crc32_spec.specs.Crc.{bits};
-use crate::words::absorb_some;
 use crate::lookup::byte_moved;
 use crate::lookup::byte_near;
 use crate::lookup::state_moved;
+use crate::words::absorb_some;
 
 // The state moved by n bytes: after n bytes that are 0. From 4 to 104 it is one round of look-ups.
 pub fn shift(s: u32, n: u64) -> u32

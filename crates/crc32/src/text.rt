@@ -5,8 +5,8 @@ ghost use lib.ListN.{take, drop};
 ghost use Rattle.crc32_spec.specs.Crc.{run, crc};
 ghost use Rattle.crc32_spec.specs.Text.{word};
 use crate::START;
-use crate::words::absorb8;
 use crate::words::absorb_some;
+use crate::words::absorb8;
 use crate::words::step;
 
 // The checksum of a text.

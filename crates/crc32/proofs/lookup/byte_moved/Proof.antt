@@ -9,7 +9,7 @@ use Rattle.crc32.proofs.lookup.byte_moved.Statement.{statement}
 use Rattle.crc32.proofs.lookup.byte_moved.Tie as tie
 
 returns : tie.Need-returns
-returns c = 
+returns c =
     c .two-entries .ensures
     ∙ byte-entries ((c .before .args .n - 1) / 8) ((c .before .args .n - 1) % 8) (c .before .args .n) (c .before .args .b) (omega arith) (omega arith) (c .before .fits .b .fits)
 

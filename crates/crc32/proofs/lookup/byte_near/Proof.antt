@@ -10,7 +10,7 @@ use Rattle.crc32.proofs.lookup.byte_near.Statement.{statement}
 use Rattle.crc32.proofs.lookup.byte_near.Tie as tie
 
 returns : tie.Need-returns
-returns c = 
+returns c =
     ap₂ bitXor (c .before .rows0 .ensures) (c .rows02 .ensures)
     ∙ byte-entries 0 (c .before .before .args .n - 1) (c .before .before .args .n) (c .before .before .args .b) (omega arith) (omega arith) (c .before .before .fits .b .fits)
 

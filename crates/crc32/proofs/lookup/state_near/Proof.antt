@@ -7,7 +7,7 @@ use Rattle.crc32.proofs.lookup.state_near.Statement.{statement}
 use Rattle.crc32.proofs.lookup.state_near.Tie as tie
 
 returns : tie.Need-returns
-returns c = 
+returns c =
     four-bytes (c .before .before .before .before .before .before .before .before .args .n) (c .before .before .before .before .before .before .before .before .args .s) _ _ _ _ _ _ _ _ (omega arith) (c .before .before .before .before .before .before .before .before .fits .s .fits)
     (c .before .before .before .before .before .before .before .low-byte .ensures) (c .before .before .before .before .before .low-byte2 .ensures) (c .before .before .before .low-byte3 .ensures) (c .before .low-byte4 .ensures)
     (c .before .before .before .before .before .before .byte-near .ensures) (c .before .before .before .before .byte-near2 .ensures) (c .before .before .byte-near3 .ensures) (c .byte-near4 .ensures)

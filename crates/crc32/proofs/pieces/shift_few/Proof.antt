@@ -15,7 +15,7 @@ returns : tie.Need-returns
 returns c = zero-bytes (c .before .args .n) (c .before .args .s) (c .if1 .taken)
 
 returns-2 : tie.Need-returns-2
-returns-2 c = 
+returns-2 c =
     c .absorb-some .ensures
     ∙ ap (bits (8 * c .before .before .args .n)) (ap (bitXor (c .before .before .args .s)) (mod-eq-of-lt (pow-pos (8 * c .before .before .args .n))) ∙ xor-zero-r (c .before .before .args .s))
 

@@ -20,7 +20,7 @@ returns : tie.Need-returns Inv-loop μ-loop
 returns c = at-end (c .before .before .args .t .now) (c .before .before .args .s) (c .before .before .args .at) (omega arith)
 
 returns-2 : tie.Need-returns-2 Inv-loop μ-loop
-returns-2 c = 
+returns-2 c =
     last-absorbed (c .before .before .before .before .before .args .t .now) (c .before .before .before .before .before .args .at) (λ j. c .before .before .before .before .shared-slice-known .given j .fits) (omega arith) (omega arith) (omega arith)
     (c .before .before .before .before .before .args .s) (c .before .load8 .result) (c .absorb-some .result) (c .before .load8 .ensures) (c .absorb-some .ensures)
 

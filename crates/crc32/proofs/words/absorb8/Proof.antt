@@ -6,7 +6,7 @@ use Rattle.crc32.proofs.words.absorb8.Statement.{statement}
 use Rattle.crc32.proofs.words.absorb8.Tie as tie
 
 returns : tie.Need-returns
-returns c = 
+returns c =
     two-halves (c .before .before .before .before .args .s) (c .before .before .before .before .args .w) _ _ _ _ (c .before .before .before .before .fits .s .fits)
     (c .before .lower-half .ensures) (c .before .before .before .upper-half .ensures) (c .before .before .state-near .ensures) (c .state-near2 .ensures)
 

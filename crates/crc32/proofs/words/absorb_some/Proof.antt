@@ -14,7 +14,7 @@ cast-result : tie.Need-cast-result
 cast-result c = omega (arith, shr-le (c .before .args .s) (8 * c .before .args .n))
 
 returns : tie.Need-returns
-returns c = 
+returns c =
     ap (λ (x : ℕ). bitXor x (c .before .args .s / 2 ^ (8 * c .before .args .n))) (c .absorb8 .ensures)
     ∙ some-bits (8 * c .before .args .n) (c .before .args .s) (c .before .args .w) (omega arith)
 

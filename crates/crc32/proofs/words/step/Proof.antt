@@ -8,7 +8,7 @@ use Rattle.crc32.proofs.words.step.Statement.{statement}
 use Rattle.crc32.proofs.words.step.Tie as tie
 
 returns : tie.Need-returns
-returns c = 
+returns c =
     step-byte (c .before .before .args .s) (c .before .before .args .b) (c .byte-near .result) (c .before .before .fits .b .fits) (c .byte-near .ensures ∙ ap (bits 8) (c .before .low-byte .ensures))
 
 pub step-spec : {M : Type 1} → statement M

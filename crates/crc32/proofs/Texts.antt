@@ -3,20 +3,15 @@
 use mathlib.Core.Path.{_≡_, refl, sym, ap, ap₂, _∙_, subst}
 use mathlib.Core.List.{List, [], _∷_, _++_}
 use Prim.Native.Nat.{ℕ, zero, suc, _+_, _-_, _*_, _/_, _%_, _^_, _≤_, _<_}
-use native.Mathlib.Nat.{add-zero, add-suc}
-use native.Mathlib.Numerals.{add-one}
+use native.Mathlib.Nat.{add-zero, add-suc, le-refl, lt-of-lt-of-le}
 use native.Mathlib.Omega.{arith}
-use lib.Pow.{high}
+use lib.Pow.{high, pow-mono}
 use lib.Dec.{lit<}
 use lib.Bits.{bitXor}
 use lib.ListN.{length, getD, take, drop, length-take, length-drop, take-append-drop, drop-of-length-le}
 use lib.Seq.{take-all, drop-cons, drop-drop}
-use Rattle.crc32_spec.specs.Crc.{bits, step, run}
+use Rattle.crc32_spec.specs.Crc.{bits, run}
 use Rattle.crc32_spec.specs.Text.{Bytes, bytes-drop, bytes-take, word, word-append, word-lt, whole-word, run-append, run-word}
-
-pub one-byte : (t : List ℕ) (s i : ℕ) → i < length t → run (step s (getD t i 0)) (drop (i + 1) t) ≡ run s (drop i t)
-unfolding run
-one-byte t s i h = ap (λ (k : ℕ). run (step s (getD t i 0)) (drop k t)) (add-one i) ∙ ap (run s) (sym (drop-cons t i 0 h))
 
 pub at-end : (t : List ℕ) (s i : ℕ) → length t ≤ i → s ≡ run s (drop i t)
 unfolding run
@@ -50,27 +45,34 @@ module _ (t : List ℕ) (i : ℕ) (room : i + 8 ≤ length t) where
       ∙ sym (run-append (take 8 (drop i t)) (drop 8 (drop i t)) s)
       ∙ ap (run s) (take-append-drop 8 (drop i t))
 
--- ---- the last bytes of a text, fewer than eight, from its last eight
+-- ---- the last bytes of a text
 
-module _ (t : List ℕ) (i : ℕ) (bs : Bytes t) (within : i ≤ length t) (few : length t < i + 8) (long : 8 ≤ length t) where
-  left : length (drop i t) ≡ length t - i
-  left = length-drop i t
-
+module _ (t : List ℕ) (i : ℕ) (bs : Bytes t) where
   last-lt : word (drop i t) < 2 ^ (8 * (length t - i))
-  last-lt = subst (λ (n : ℕ). word (drop i t) < 2 ^ (8 * n)) left (word-lt (drop i t) (bytes-drop i t bs))
+  last-lt = subst (λ (n : ℕ). word (drop i t) < 2 ^ (8 * n)) (length-drop i t) (word-lt (drop i t) (bytes-drop i t bs))
 
-  last-run : (s : ℕ) → bits (8 * (length t - i)) (bitXor s (word (drop i t))) ≡ run s (drop i t)
-  last-run s =
-      ap (λ (n : ℕ). bits (8 * n) (bitXor s (word (drop i t)))) (sym left)
+  -- at most six bytes, so that one more fits
+  pub few-lt : length t - i ≤ 6 → word (drop i t) < 281474976710656
+  few-lt h =
+      let e : 8 * (length t - i) ≤ 48 = omega arith in
+      lt-of-lt-of-le last-lt (pow-mono e)
+
+  pub last-absorbed : (s w r : ℕ) → w ≡ word (drop i t) → r ≡ bits (8 * (length t - i)) (bitXor s (w % 2 ^ (8 * (length t - i)))) → r ≡ run s (drop i t)
+  last-absorbed s w r e f =
+      f ∙ ap (λ (x : ℕ). bits (8 * (length t - i)) (bitXor s (x % 2 ^ (8 * (length t - i))))) e
+      ∙ whole-word (length t - i) s (word (drop i t)) last-lt
+      ∙ ap (λ (n : ℕ). bits (8 * n) (bitXor s (word (drop i t)))) (sym (length-drop i t))
       ∙ sym (run-word (drop i t) s (bytes-drop i t bs))
 
-  last-load : word (take 8 (drop (length t - 8) t)) / 2 ^ (64 - 8 * (length t - i)) ≡ word (drop i t)
-  last-load =
+  -- fewer than eight, from the last eight
+  pub last-load : (w : ℕ) → i ≤ length t → length t < i + 8 → 8 ≤ length t → w ≡ word (take 8 (drop (length t - 8) t)) →
+      w / 2 ^ (64 - 8 * (length t - i)) ≡ word (drop i t)
+  last-load w within few long e =
       let n : length (drop (length t - 8) t) ≡ 8 = length-drop (length t - 8) t ∙ whole in
-      let m : length (take (8 - (length t - i)) (drop (length t - 8) t)) ≡ 8 - (length t - i) = simp (length-take) (omega arith) in
+      let m : length front ≡ 8 - (length t - i) = simp (length-take) (omega arith) in
       let p : 64 - 8 * (length t - i) ≡ 8 * (8 - (length t - i)) = omega arith in
       let q : (length t - 8) + (8 - (length t - i)) ≡ i = omega arith in
-      ap (λ (k : ℕ). word (take 8 (drop (length t - 8) t)) / 2 ^ k) (p ∙ ap (λ (k : ℕ). 8 * k) (sym m))
+      ap₂ (λ (x k : ℕ). x / 2 ^ k) e (p ∙ ap (λ (k : ℕ). 8 * k) (sym m))
       ∙ ap (λ (x : ℕ). x / 2 ^ (8 * length front))
       (ap word (take-all 8 (drop (length t - 8) t) (omega arith) ∙ sym (take-append-drop (8 - (length t - i)) (drop (length t - 8) t)))
       ∙ word-append front (drop (8 - (length t - i)) (drop (length t - 8) t)))
@@ -78,16 +80,20 @@ module _ (t : List ℕ) (i : ℕ) (bs : Bytes t) (within : i ≤ length t) (few 
       (word-lt front (bytes-take (8 - (length t - i)) (drop (length t - 8) t) (bytes-drop (length t - 8) t bs)))
       ∙ ap word (drop-drop (8 - (length t - i)) (length t - 8) t ∙ ap (λ (k : ℕ). drop k t) q)
     where
-      front : List ℕ
+      abbrev front : List ℕ
       front = take (8 - (length t - i)) (drop (length t - 8) t)
 
       whole : length t - (length t - 8) ≡ 8
       whole = omega arith
 
-  pub last-absorbed : (s w r : ℕ) → w ≡ word (take 8 (drop (length t - 8) t)) →
-      r ≡ bits (8 * (length t - i)) (bitXor s (w / 2 ^ (64 - 8 * (length t - i)) % 2 ^ (8 * (length t - i)))) → r ≡ run s (drop i t)
-  last-absorbed s w r e f =
-      f
-      ∙ ap (λ (x : ℕ). bits (8 * (length t - i)) (bitXor s (x % 2 ^ (8 * (length t - i)))))
-      (ap (λ (x : ℕ). x / 2 ^ (64 - 8 * (length t - i))) e ∙ last-load)
-      ∙ whole-word (length t - i) s (word (drop i t)) last-lt ∙ last-run s
+-- one byte more in front, at i - 1
+pub byte-before : (t : List ℕ) (i w : ℕ) → 0 < i → i ≤ length t → w ≡ word (drop i t) → w * 256 + getD t (i - 1) 0 ≡ word (drop (i - 1) t)
+unfolding word
+byte-before t i w h l e =
+    let z : i ≡ suc (i - 1) = omega arith in
+    let k : i - 1 < length t = omega arith in
+    ap (λ (x : ℕ). x * 256 + getD t (i - 1) 0) (e ∙ ap (λ (j : ℕ). word (drop j t)) z) ∙ ap word (sym (drop-cons t (i - 1) 0 k))
+
+pub no-bytes-left : (t : List ℕ) → 0 ≡ word (drop (length t) t)
+unfolding word
+no-bytes-left t = ap word (sym (drop-of-length-le t (le-refl (length t))))

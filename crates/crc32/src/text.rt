@@ -5,9 +5,8 @@ ghost use lib.ListN.{take, drop};
 ghost use Rattle.crc32_spec.specs.Crc.{run, crc};
 ghost use Rattle.crc32_spec.specs.Text.{word};
 use crate::START;
-use crate::words::absorb_some;
+use crate::words::absorb;
 use crate::words::absorb8;
-use crate::words::step;
 
 // The checksum of a text.
 pub fn crc(t: &[u8]) -> u32
@@ -39,15 +38,9 @@ fn tail(s: u32, t: &[u8], at: usize) -> u32
         return s;
     }
     if 8 <= t.len() {
-        return absorb_some(s, load8(t, t.len() - 8) >> (64 - 8 * (n as u64)), n as u64);
+        return absorb(s, load8(t, t.len() - 8) >> (64 - 8 * (n as u64)), n as u64);
     }
-    let mut state = s;
-    let mut i = at;
-    while i < t.len() {
-        state = step(state, t[i]);
-        i += 1;
-    }
-    state
+    absorb(s, load_few(t, at), n as u64)
 }
 
 fn wide(b: u8) -> u64
@@ -69,4 +62,18 @@ fn load8(t: &[u8], at: usize) -> u64
         + wide(t[at + 5]) * 1099511627776
         + wide(t[at + 6]) * 281474976710656
         + wide(t[at + 7]) * 72057594037927936
+}
+
+// The bytes from a position on, fewer than eight, as one number: the last first.
+fn load_few(t: &[u8], at: usize) -> u64
+    requires { do ⌜ (at ≤ (← ⟦t.len()⟧)) × ((← ⟦t.len()⟧) < at + 8) ⌝ }
+    ensures { λ r. ⌜ r ≡ word (drop at (now (t .entry))) ⌝ }
+{
+    let mut w: u64 = 0;
+    let mut i = t.len();
+    while at < i {
+        i -= 1;
+        w = w * 256 + wide(t[i]);
+    }
+    w
 }

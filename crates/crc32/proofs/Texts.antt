@@ -69,7 +69,7 @@ module _ (t : List ℕ) (i : ℕ) (bs : Bytes t) where
       w / 2 ^ (64 - 8 * (length t - i)) ≡ word (drop i t)
   last-load w within few long e =
       let n : length (drop (length t - 8) t) ≡ 8 = length-drop (length t - 8) t ∙ whole in
-      let m : length front ≡ 8 - (length t - i) = simp (length-take) (omega arith) in
+      let m : length (take (8 - (length t - i)) (drop (length t - 8) t)) ≡ 8 - (length t - i) = simp (length-take) (omega arith) in
       let p : 64 - 8 * (length t - i) ≡ 8 * (8 - (length t - i)) = omega arith in
       let q : (length t - 8) + (8 - (length t - i)) ≡ i = omega arith in
       ap₂ (λ (x k : ℕ). x / 2 ^ k) e (p ∙ ap (λ (k : ℕ). 8 * k) (sym m))
@@ -80,7 +80,7 @@ module _ (t : List ℕ) (i : ℕ) (bs : Bytes t) where
       (word-lt front (bytes-take (8 - (length t - i)) (drop (length t - 8) t) (bytes-drop (length t - 8) t bs)))
       ∙ ap word (drop-drop (8 - (length t - i)) (length t - 8) t ∙ ap (λ (k : ℕ). drop k t) q)
     where
-      abbrev front : List ℕ
+      front : List ℕ
       front = take (8 - (length t - i)) (drop (length t - 8) t)
 
       whole : length t - (length t - 8) ≡ 8

@@ -5,7 +5,7 @@ use mathlib.Core.List.{List, [], _∷_}
 use mathlib.Core.Bool.{Bool, true, false, _||_}
 use Prim.Native.Nat.{ℕ, zero, suc, _+_, _-_, _≤_, _<_}
 use native.Mathlib.Omega.{arith}
-use lib.ListN.{length, drop, length-drop}
+use lib.ListN.{length, take, drop, length-drop}
 use lib.Dec.{ltb, eqb}
 use borrow.Author.Tests.{eqb-true}
 use Rattle.json_tokens.specs.Bytes.{byteAt, blank, digit, hexDigit, escaped}
@@ -114,9 +114,13 @@ module _ (s : List ℕ) where
   unfolding string
   string-in i = in-if (eqb (byteAt s i) 34) (in-sub (omega arith) (omega arith) (rest-in (i + 1))) none
 
-  word-in : (w : List ℕ) (i : ℕ) → 0 < length w → Within s i (word w s i)
+  -- a word ends as many bytes on as it has
+  pub word-from : (w : List ℕ) (i : ℕ) → In (i + length w) (i + length (drop i s)) (word w s i)
   unfolding word
-  word-in w i p = inner i (in-sub (omega arith) (omega arith) (prefix-in w (drop i s) i))
+  word-from w i = prefix-in w (drop i s) i
+
+  word-in : (w : List ℕ) (i : ℕ) → 0 < length w → Within s i (word w s i)
+  word-in w i p = inner i (in-sub (omega arith) (omega arith) (word-from w i))
 
   pub closing-in : (c i : ℕ) → 0 < c → Within s i (closing c s i)
   unfolding closing
@@ -186,3 +190,23 @@ module _ (s : List ℕ) where
       (in-if (eqb (byteAt s i) 116) (word-in _ i (omega arith))
       (in-if (eqb (byteAt s i) 102) (word-in _ i (omega arith))
       (in-if (eqb (byteAt s i) 110) (word-in _ i (omega arith)) (number-in i))))
+
+-- ---- a word that stands at i is the text from there on
+prefix-is : (w t : List ℕ) (i e : ℕ) → prefix w t i ≡ At e → w ≡ take (e - i) t
+unfolding prefix
+prefix-is [] t i e h = let z : i ≡ e = cc in let n : 0 ≡ e - i = omega arith in ap (λ k. take k t) n
+prefix-is (c ∷ w) [] i e h = let z : _≡_ {A = ℕ} 0 1 = cc in absurd (omega arith)
+prefix-is (c ∷ w) (d ∷ t) i e h = go (eqb d c) refl (λ p. prefix-is w t (i + 1) e p) h
+  where
+    go : (b : Bool) → eqb d c ≡ b → (prefix w t (i + 1) ≡ At e → w ≡ take (e - (i + 1)) t)
+        → elim b [ true ↦ prefix w t (i + 1) | false ↦ Broken ] ≡ At e → (c ∷ w) ≡ take (e - i) (d ∷ t)
+    go true q ih h =
+        let b = bounds e (prefix-in w t (i + 1)) h in
+        let n : e - i ≡ suc (e - (i + 1)) = omega arith in
+        let z : d ≡ c = eqb-true d c q in
+        ap (λ x. x ∷ w) (sym z) ∙ ap (λ y. d ∷ y) (ih h) ∙ ap (λ k. take k (d ∷ t)) (sym n)
+    go false q ih h = let z : _≡_ {A = ℕ} 0 1 = cc in absurd (omega arith)
+
+pub word-is : (w s : List ℕ) (i e : ℕ) → word w s i ≡ At e → w ≡ take (e - i) (drop i s)
+unfolding word
+word-is w s i e h = prefix-is w (drop i s) i e h

@@ -2,7 +2,7 @@
 -- Past the end the byte is 0, and each definition does there what it does at a 0, so no step asks that i lies in the text.
 -- Assumes nothing.
 use mathlib.Core.Path.{_≡_, refl, sym, ap, _∙_}
-use mathlib.Core.List.{List, [], _∷_}
+use mathlib.Core.List.{List, [], _∷_, _++_}
 use mathlib.Core.Bool.{Bool, true, false, true≢false, _&&_, and-eq-true-iff}
 use Prim.Native.Nat.{ℕ, zero, suc, _+_, _≤_, _<_}
 use native.Mathlib.Decide.{decLt}
@@ -332,6 +332,32 @@ module _ (w s : List ℕ) (k i : ℕ) where
   pub word-off : k < length w → i < length s → (getD s i 0 ≡ getD w k 0 → ⊥) → prefix (drop k w) (drop i s) i ≡ Broken
   unfolding prefix byteAt
   word-off h g n = rw (here w k h, here s i g, ne-eqb _ _ n, prefix)
+
+-- ---- a word, by its first byte
+module _ (s : List ℕ) (i : ℕ) where
+  pub word-nil : word [] s i ≡ At i
+  unfolding word prefix
+  word-nil = refl
+
+  pub word-cons : (c : ℕ) (w : List ℕ) → 0 < c → byteAt s i ≡ c → word (c ∷ w) s i ≡ word w s (i + 1)
+  unfolding word prefix
+  word-cons c w p h = rw (here s i (in-byte s i c p h), eq-eqb _ _ h, prefix)
+
+  pub word-other : (c : ℕ) (w : List ℕ) → (byteAt s i ≡ c → ⊥) → word (c ∷ w) s i ≡ Broken
+  unfolding word prefix
+  word-other c w n = by-place s i (λ l. rw (here s i l, ne-eqb _ _ n, prefix)) (λ g. rw (drop-of-length-le s g))
+
+-- two words, one after the other
+pub word-append : (v w s : List ℕ) (i : ℕ) → word (v ++ w) s i ≡ andThen (word v s i) (word w s)
+unfolding word andThen prefix
+word-append [] w s i = refl
+word-append (c ∷ v) w s i = by-place s i (λ l. rw (here s i l) (go (eqb (byteAt s i) c) (word-append v w s (i + 1)))) (λ g. rw (drop-of-length-le s g))
+  where
+    go : (b : Bool) → word (v ++ w) s (i + 1) ≡ andThen (word v s (i + 1)) (word w s)
+        → elim b [ true ↦ prefix (v ++ w) (drop (i + 1) s) (i + 1) | false ↦ Broken ]
+        ≡ andThen (elim b [ true ↦ prefix v (drop (i + 1) s) (i + 1) | false ↦ Broken ]) (word w s)
+    go true ih = ih
+    go false ih = refl
 
 -- ---- a scalar, by its first byte
 module _ (s : List ℕ) (i : ℕ) where

@@ -5,4 +5,5 @@ pub mod Walk
 pub mod Ends
 pub mod Reading
 pub mod Names
+pub mod Finding
 pub mod Claims

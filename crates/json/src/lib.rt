@@ -39,6 +39,7 @@ ghost use Rattle.json_tokens.specs.Tokens.{endOf};
 ghost use Rattle.json.specs.Json.{itemsEnd, memberEnd, element, member, elements, members, value, text};
 ghost use Rattle.json.specs.Reading.{skipOf, elementOf, memberOf, nextElement, nextMember, kindOf};
 ghost use Rattle.json.specs.Names.{means, hasBackslash};
+ghost use Rattle.json.specs.Finding.{oneMore, counted, find};
 
 // How deep arrays and objects may nest in a text, the outermost counting as one.
 pub const MAX_DEPTH: usize = 16;
@@ -82,6 +83,16 @@ pub enum Member {
     },
     // The end of the object, and the position past it.
     End(usize),
+    Broken,
+}
+
+// How often a member of a name stands in an object.
+pub enum Found {
+    Absent,
+    // Its value lies from the first position to the second.
+    Once(usize, usize),
+    Many,
+    // The object is not JSON.
     Broken,
 }
 
@@ -363,4 +374,69 @@ pub fn has_backslash(s: &[u8], from: usize, to: usize) -> bool
         i += 1;
     }
     false
+}
+
+// The members of that name in an object, from past its brace.
+pub fn find_member(s: &[u8], at: usize, depth: usize, name: &[u8]) -> Found
+    ensures { λ r. ⌜ r ≡ find (now (name .entry)) depth (now (s .entry)) at ⌝ }
+{
+    if 0 < object_close_end(s, at) {
+        return Found::Absent;
+    }
+    let mut i = skip_blanks(s, at);
+    let mut found = Found::Absent;
+    loop {
+        let name_to = string_end(s, i);
+        if name_to == 0 {
+            return Found::Broken;
+        }
+        let from = colon_end(s, name_to);
+        if from == 0 {
+            return Found::Broken;
+        }
+        let to = value_end(s, from, depth);
+        if to == 0 {
+            return Found::Broken;
+        }
+        let more = count_member(s, found, name, i, name_to, from, to);
+        let j = comma_end(s, to);
+        if j == 0 {
+            if object_close_end(s, to) == 0 {
+                return Found::Broken;
+            }
+            return more;
+        }
+        found = more;
+        i = j;
+    }
+}
+
+// What was found, and the member whose name lies from `first` to `past` and whose value from `from` to `to`.
+fn count_member(
+    s: &[u8],
+    found: Found,
+    name: &[u8],
+    first: usize,
+    past: usize,
+    from: usize,
+    to: usize,
+) -> Found
+    ensures { λ r. ⌜ r ≡ counted (now (name .entry)) (now (s .entry)) found (record { name = record { from = first; to = past }; value = record { from = from; to = to } }) ⌝ }
+{
+    if is_name(s, first, past, name) {
+        one_more(found, from, to)
+    } else {
+        found
+    }
+}
+
+fn one_more(found: Found, from: usize, to: usize) -> Found
+    ensures { λ r. ⌜ r ≡ oneMore found (record { from = from; to = to }) ⌝ }
+{
+    match found {
+        Found::Absent => Found::Once(from, to),
+        Found::Once(_, _) => Found::Many,
+        Found::Many => Found::Many,
+        Found::Broken => Found::Broken,
+    }
 }

@@ -47,7 +47,7 @@ in-then f (within e l h) g = in-sub l (omega arith) (g e l h)
 in-then f none g = none
 
 -- ---- over the text from i on
-run-in : (p : ℕ → Bool) (t : List ℕ) (i : ℕ) → (i ≤ run p t i) × (run p t i ≤ i + length t)
+pub run-in : (p : ℕ → Bool) (t : List ℕ) (i : ℕ) → (i ≤ run p t i) × (run p t i ≤ i + length t)
 unfolding run
 run-in p [] i = (omega arith, omega arith)
 run-in p (c ∷ t) i = go (p c) (run-in p t (i + 1))

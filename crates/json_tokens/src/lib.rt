@@ -8,9 +8,11 @@
 // Example: in the text `{"a":-1.5}` the string that begins at 1 ends at 4 (`string_end(s, 1) == 4`), the
 // colon past it at 5 (`colon_end(s, 4) == 5`), and the number there at 9 (`number_end(s, 5) == 9`).
 ghost use mathlib.Core.Path.{_≡_};
-ghost use Prim.Native.Nat.{_<_};
-ghost use Rattle.json_tokens.specs.Bytes.{byteAt, comma, colon, closeArray, closeObject, blank, digit, hexDigit, escaped};
+ghost use Prim.Native.Nat.{_+_, _≤_, _<_};
+ghost use lib.ListN.{length};
+ghost use Rattle.json_tokens.specs.Bytes.{byteAt, comma, colon, closeArray, closeObject, blank, digit, hexDigit, escaped, unescaped};
 ghost use Rattle.json_tokens.specs.Tokens.{endOf, blanks, digits, someDigits, closing, separator, stringRest, string, fourHex, minus, sign, int, fraction, exponent, number, word, scalar, ended};
+ghost use Rattle.json_tokens.specs.Words.{plain, twoAt, fourAt, wordAt, plainWord};
 
 pub const QUOTE: u8 = 34;
 
@@ -202,36 +204,133 @@ fn is_four_hex(s: &[u8], i: usize) -> bool
     }
 }
 
+// Whether c stands for itself in a string.
+fn is_unescaped(c: u8) -> bool
+    ensures { λ r. ⌜ r ≡ unescaped c ⌝ }
+{
+    if c < 32 {
+        false
+    } else if c == QUOTE {
+        false
+    } else if c == BACKSLASH {
+        false
+    } else {
+        true
+    }
+}
+
+fn wide(x: u8) -> u64
+    ensures { λ r. ⌜ r ≡ x ⌝ }
+{
+    x as u64
+}
+
+// Two bytes from i on as one number, and then four and eight: together a single load.
+fn two_at(s: &[u8], i: usize) -> u64
+    requires { ⌜ i + 2 ≤ length (now s) ⌝ }
+    ensures { λ r. ⌜ (r ≡ twoAt (now (s .entry)) i) × (r < 65536) ⌝ }
+{
+    wide(s[i]) + wide(s[i + 1]) * 256
+}
+
+fn four_at(s: &[u8], i: usize) -> u64
+    requires { ⌜ i + 4 ≤ length (now s) ⌝ }
+    ensures { λ r. ⌜ (r ≡ fourAt (now (s .entry)) i) × (r < 4294967296) ⌝ }
+{
+    two_at(s, i) + two_at(s, i + 2) * 65536
+}
+
+fn word_at(s: &[u8], i: usize) -> u64
+    requires { ⌜ i + 8 ≤ length (now s) ⌝ }
+    ensures { λ r. ⌜ r ≡ wordAt (now (s .entry)) i ⌝ }
+{
+    four_at(s, i) + four_at(s, i + 4) * 4294967296
+}
+
+// Eight times the byte 127, 128, 96, a quote, a backslash.
+const LOW: u64 = 9187201950435737471;
+
+const HIGH: u64 = 9259542123273814144;
+
+const GAP: u64 = 6944656592455360608;
+
+const QUOTES: u64 = 2459565876494606882;
+
+const BACKSLASHES: u64 = 6655295901103053916;
+
+// Whether each of the eight bytes of x stands for itself in a string.
+fn is_plain_word(x: u64) -> bool
+    ensures { λ r. ⌜ r ≡ plainWord x ⌝ }
+{
+    let low = x & LOW;
+    let above = low + GAP;
+    let no_quote = (low ^ QUOTES) + LOW;
+    let no_backslash = (low ^ BACKSLASHES) + LOW;
+    if (((above & no_quote & no_backslash) | x) & HIGH) == HIGH {
+        true
+    } else {
+        false
+    }
+}
+
+// Past bytes that stand for themselves, eight at a time, up to eight that do not all.
+fn skip_plain_words(s: &[u8], at: usize) -> usize
+    ensures { λ r. ⌜ plain (now (s .entry)) r ≡ plain (now (s .entry)) at ⌝ }
+{
+    let mut i = at;
+    loop {
+        if s.len() < 8 {
+            return i;
+        }
+        if s.len() - 8 < i {
+            return i;
+        }
+        if is_plain_word(word_at(s, i)) {
+            i += 8;
+        } else {
+            return i;
+        }
+    }
+}
+
+// Past the bytes that stand for themselves, of which there may be none.
+fn skip_plain(s: &[u8], at: usize) -> usize
+    ensures { λ r. ⌜ r ≡ plain (now (s .entry)) at ⌝ }
+{
+    let mut i = skip_plain_words(s, at);
+    while is_unescaped(byte_at(s, i)) {
+        i += 1;
+    }
+    i
+}
+
 // Past a string, from past its first quote.
 fn string_rest_end(s: &[u8], at: usize) -> usize
     ensures { λ r. ⌜ r ≡ endOf (stringRest (now (s .entry)) at) ⌝ }
 {
     let mut i = at;
     loop {
-        let c = byte_at(s, i);
+        let k = skip_plain(s, i);
+        let c = byte_at(s, k);
         if c == QUOTE {
-            return i + 1;
+            return k + 1;
         }
-        if c == BACKSLASH {
-            let d = byte_at(s, i + 1);
-            if d == 117 {
-                if is_four_hex(s, i + 2) {
-                    i += 6;
-                } else {
-                    return 0;
-                }
+        if c != BACKSLASH {
+            return 0;
+        }
+        let d = byte_at(s, k + 1);
+        if d == 117 {
+            if is_four_hex(s, k + 2) {
+                i = k + 6;
             } else {
-                if is_escaped(d) {
-                    i += 2;
-                } else {
-                    return 0;
-                }
-            }
-        } else {
-            if c < 32 {
                 return 0;
             }
-            i += 1;
+        } else {
+            if is_escaped(d) {
+                i = k + 2;
+            } else {
+                return 0;
+            }
         }
     }
 }

@@ -1,16 +1,16 @@
 -- Where values, arrays and objects end: past where they begin, and within the text.
 -- Assumes nothing.
-use mathlib.Core.Path.{_≡_, refl, sym, ap, _∙_}
-use mathlib.Core.List.{List, [], _∷_}
+use mathlib.Core.Path.{_≡_, refl}
+use mathlib.Core.List.{List}
 use mathlib.Core.Bool.{Bool, true, false}
 use Prim.Native.Nat.{ℕ, zero, suc, _+_, _≤_, _<_}
 use native.Mathlib.Omega.{arith}
 use lib.ListN.{length}
 use lib.Dec.{eqb}
 use Rattle.json_tokens.specs.Bytes.{byteAt}
-use Rattle.json_tokens.specs.Tokens.{End, At, Broken, andThen, blanks, closing, separator, string, scalar}
-use Rattle.json_tokens.proofs.Bounds.{In, within, none, bounds, in-when, in-sub, Within, blanks-in, string-in, closing-in, separator-in, scalar-in}
-use Rattle.json.specs.Json.{Span, Pair, Next, item, ends, wrong, Items, items, noItems, next, before, onward, list, listOf, itemsEnd, element, member, memberEnd, elements, members, value}
+use Rattle.json_tokens.specs.Tokens.{End, At, Broken, andThen, blanks, closing, separator, string}
+use Rattle.json_tokens.proofs.Bounds.{within, none, bounds, in-when, in-sub, Within, blanks-in, string-in, closing-in, separator-in, scalar-in}
+use Rattle.json.specs.Json.{Span, Pair, Next, item, ends, wrong, Items, next, onward, list, listOf, itemsEnd, element, member, memberEnd, elements, members, value}
 use Rattle.json.proofs.Laws.{before-end}
 
 -- the position past what is found

@@ -3,15 +3,14 @@
 use mathlib.Core.Path.{_≡_, refl, sym, ap, _∙_}
 use mathlib.Core.List.{List, [], _∷_, _++_}
 use mathlib.Core.Bool.{Bool, true, false, true≢false}
-use Prim.Native.Nat.{ℕ, zero, suc, _+_, _≤_, _<_}
+use Prim.Native.Nat.{ℕ, zero, suc, _≤_, _<_}
 use native.Mathlib.Omega.{arith}
 use lib.ListN.{length}
-use lib.Dec.{eqb}
 use borrow.Author.Tests.{eqb-true, eq-eqb}
 use Rattle.json_tokens.specs.Tokens.{End, At, Broken, blanks, closing, separator, string, ended}
 use Rattle.json_tokens.proofs.Bounds.{bounds, blanks-in, closing-in, separator-in, string-in}
-use Rattle.json.specs.Json.{Span, Pair, Next, item, ends, wrong, Items, items, noItems, next, before, onward, list, listOf, element, member, elements, members, value, maxDepth, text}
-use Rattle.json.specs.Names.{part, means, holds, hasBackslash}
+use Rattle.json.specs.Json.{Next, item, ends, wrong, Items, items, noItems, next, before, onward, list, listOf, element, member, elements, members, value, maxDepth, text}
+use Rattle.json.specs.Names.{means, holds, hasBackslash}
 use Rattle.json.specs.Claims.{Ends-within, In-order, end, then, Is-element, Is-member, Elements-in-order, Members-in-order, Reading, One-reading, One-name, Backslash-no-name}
 use Rattle.json.proofs.Laws.{text-ends, text-broken}
 use Rattle.json.proofs.Bounds.{value-in}

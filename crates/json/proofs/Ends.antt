@@ -1,14 +1,14 @@
 -- A loop over the items of an array or an object that asks only for ends, which are plain numbers: each step of it, by what the numbers are.
 -- Assumes nothing.
-use mathlib.Core.Path.{_≡_, refl, sym, ap, _∙_}
-use mathlib.Core.List.{List, []}
-use Prim.Native.Nat.{ℕ, _+_, _≤_, _<_}
+use mathlib.Core.Path.{_≡_, refl}
+use mathlib.Core.List.{List}
+use Prim.Native.Nat.{ℕ, _≤_, _<_}
 use native.Mathlib.Omega.{arith}
 use lib.ListN.{length}
 use Rattle.json_tokens.specs.Tokens.{End, At, Broken, endOf, blanks, closing, separator}
-use Rattle.json_tokens.proofs.Laws.{end-at, end-is}
+use Rattle.json_tokens.proofs.Laws.{end-at}
 use Rattle.json_tokens.proofs.Bounds.{Within, bounds, end-broken, blanks-in, closing-in, separator-in}
-use Rattle.json.specs.Json.{Span, Pair, Next, item, wrong, Items, items, noItems, before, listOf, itemsEnd, element, member, memberEnd, elements, members, value}
+use Rattle.json.specs.Json.{Next, item, wrong, Items, items, noItems, before, listOf, itemsEnd, element, member, memberEnd, value}
 use Rattle.json.proofs.Laws.{element-is, element-wrong, by-member, member-is, no-member}
 use Rattle.json.proofs.Bounds.{value-in, memberEnd-value}
 use Rattle.json.proofs.Walk.{Walk, walk-empty, walk-start, walk-wrong, walk-on, walk-last, walk-broken}

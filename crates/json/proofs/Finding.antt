@@ -1,11 +1,11 @@
 -- The definitions of `Finding`, one step at a time.
 -- Assumes nothing.
-use mathlib.Core.Path.{_≡_, refl, sym, ap, _∙_}
+use mathlib.Core.Path.{_≡_, refl}
 use mathlib.Core.List.{List, [], _∷_}
 use mathlib.Core.Bool.{true, false}
 use Prim.Native.Nat.{ℕ, _<_}
 use native.Mathlib.Omega.{arith}
-use Rattle.json_tokens.specs.Tokens.{At, Broken, endOf, blanks, closing}
+use Rattle.json_tokens.specs.Tokens.{endOf, blanks, closing}
 use Rattle.json_tokens.proofs.Laws.{end-at}
 use Rattle.json_tokens.proofs.Bounds.{end-broken, blanks-in, closing-in}
 use Rattle.json.specs.Json.{Pair, Items, items, noItems, before, member, members, value}

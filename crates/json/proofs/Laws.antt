@@ -1,15 +1,15 @@
 -- The definitions of `Json`, one step at a time.
 -- Assumes nothing.
-use mathlib.Core.Path.{_≡_, refl, sym, ap, _∙_}
-use mathlib.Core.List.{List, [], _∷_}
-use mathlib.Core.Bool.{Bool, true, false}
+use mathlib.Core.Path.{_≡_, refl, _∙_}
+use mathlib.Core.List.{List}
+use mathlib.Core.Bool.{true, false}
 use Prim.Native.Nat.{ℕ, zero, suc, _+_}
 use native.Mathlib.Omega.{arith}
-use lib.Dec.{eqb}
 use borrow.Author.Tests.{ne-eqb}
 use Rattle.json_tokens.specs.Bytes.{byteAt}
-use Rattle.json_tokens.specs.Tokens.{End, At, Broken, endOf, andThen, blanks, closing, separator, string, scalar, ended}
-use Rattle.json.specs.Json.{Span, Pair, Next, item, ends, wrong, Items, items, noItems, next, before, list, listOf, itemsEnd, element, member, memberEnd, elements, members, value, text}
+use Rattle.json_tokens.specs.Tokens.{End, At, Broken, andThen, blanks, closing, separator, string, scalar, ended}
+use Rattle.json_tokens.proofs.Laws.{scalar-string}
+use Rattle.json.specs.Json.{Next, item, ends, wrong, Items, items, noItems, next, before, itemsEnd, element, member, memberEnd, elements, members, value, text}
 
 -- ---- a value, by its first byte
 module _ (s : List ℕ) (i : ℕ) where
@@ -29,6 +29,10 @@ module _ (s : List ℕ) (i : ℕ) where
   unfolding value
   value-scalar zero n m = refl
   value-scalar (suc d) n m = rw (ne-eqb _ _ n, ne-eqb _ _ m, value)
+
+  -- strings come first in the code
+  pub value-string : (d : ℕ) → byteAt s i ≡ 34 → value d s i ≡ string s i
+  value-string d h = value-scalar d (λ e. omega arith) (λ e. omega arith) ∙ scalar-string s i h
 
 -- ---- what is found in a list of items
 module _ {A : Type 0} (one : ℕ → Next A) (close : ℕ) (s : List ℕ) (i : ℕ) where

@@ -3,18 +3,18 @@
 use mathlib.Core.Path.{_≡_, refl, sym, ap, _∙_}
 use mathlib.Core.List.{List, [], _∷_, _++_}
 use mathlib.Core.Bool.{Bool, true, false, _||_, true≢false}
-use Prim.Native.Nat.{ℕ, zero, suc, _+_, _-_, _≤_, _<_}
+use Prim.Native.Nat.{ℕ, suc, _+_, _-_, _≤_, _<_}
 use native.Mathlib.Omega.{arith}
 use lib.ListN.{length, take, drop, drop-of-length-le}
 use lib.Seq.{take-nil}
 use lib.Dec.{eqb}
 use borrow.Author.Tests.{eq-eqb, ne-eqb, eqb-true}
 use Rattle.json_tokens.specs.Bytes.{byteAt}
-use Rattle.json_tokens.specs.Tokens.{End, At, Broken, endOf, andThen, word}
+use Rattle.json_tokens.specs.Tokens.{End, At, Broken, andThen, word}
 use Rattle.json_tokens.proofs.Laws.{here, past, by-place, then-at, then-broken, word-nil, word-cons, word-other, word-append}
 use Rattle.json_tokens.proofs.Bounds.{word-is}
 use Rattle.json.specs.Json.{Span}
-use Rattle.json.specs.Names.{part, means, holds, hasBackslash}
+use Rattle.json.specs.Names.{part, means, holds}
 
 -- ---- a backslash, one step at a time: what is left of the part at i
 module _ (s : List ℕ) (to i : ℕ) where

@@ -1,13 +1,13 @@
 -- What a reader finds at a cursor, by the numbers that it asked for: j is where a comma ends, and e where the closing bracket does.
 -- Assumes nothing.
-use mathlib.Core.Path.{_≡_, refl, sym, ap, _∙_}
+use mathlib.Core.Path.{_≡_, sym, ap, _∙_}
 use mathlib.Core.List.{List}
 use mathlib.Core.Bool.{true, false, true≢false}
 use Prim.Native.Nat.{ℕ, _<_}
 use native.Mathlib.Omega.{arith}
 use borrow.Author.Tests.{ne-eqb}
 use Rattle.json_tokens.specs.Bytes.{digit}
-use Rattle.json_tokens.specs.Tokens.{End, At, Broken, endOf, blanks, closing, separator}
+use Rattle.json_tokens.specs.Tokens.{At, Broken, endOf, blanks, closing, separator}
 use Rattle.json_tokens.proofs.Laws.{end-at}
 use Rattle.json_tokens.proofs.Bounds.{end-broken, closing-in, separator-in}
 use Rattle.json.specs.Json.{Next, ends, wrong, next}

@@ -2,11 +2,11 @@
 use Prim.Native.Nat.{ℕ, _≤_, _<_}
 use mathlib.Core.Path.{_≡_}
 use mathlib.Core.List.{List, [], _∷_}
-use mathlib.Core.Bool.{Bool, true, false}
+use mathlib.Core.Bool.{true, false}
 use lib.ListN.{length}
 use Rattle.json_tokens.specs.Bytes.{colon}
-use Rattle.json_tokens.specs.Tokens.{At, blanks, separator, string, ended}
-use Rattle.json.specs.Json.{Span, Pair, Items, items, elements, members, value, maxDepth, text}
+use Rattle.json_tokens.specs.Tokens.{At, blanks, separator, string}
+use Rattle.json.specs.Json.{Span, Pair, items, elements, members, value, maxDepth, text}
 use Rattle.json.specs.Names.{means, hasBackslash, holds}
 
 -- A value is not empty and ends within the text.

@@ -5,8 +5,8 @@ use mathlib.Core.List.{List, [], _∷_}
 use mathlib.Core.Bool.{Bool, true, false}
 use Prim.Native.Nat.{ℕ}
 use Rattle.json_tokens.specs.Bytes.{byteAt, blank, digit, hexDigit, escaped}
-use Rattle.json_tokens.specs.Tokens.{End, At, Broken, andThen, run, blanks, digits, someDigits, closing, separator, chars, escape, hexes, stringRest, string, minus, sign, int, fraction, exponent, number, prefix, word, scalar, ended}
-use Rattle.json.specs.Json.{Span, Pair, Items, items, next, before, onward, list, listOf, itemsEnd, element, member, elements, members, value, text}
+use Rattle.json_tokens.specs.Tokens.{andThen, run, blanks, digits, someDigits, closing, separator, chars, escape, hexes, stringRest, string, minus, sign, int, fraction, exponent, number, prefix, word, scalar, ended}
+use Rattle.json.specs.Json.{items, next, before, onward, list, listOf, itemsEnd, element, member, elements, members, value, text}
 
 -- what `text` says of each, in order
 abbrev texts : List (List ℕ)

@@ -2,7 +2,7 @@
 -- Assumes nothing: these are definitions.
 use Prim.Native.Nat.{ℕ}
 use mathlib.Core.List.{List, [], _∷_}
-use mathlib.Core.Bool.{Bool, true, false}
+use mathlib.Core.Bool.{true, false}
 use Rattle.json.specs.Json.{Span, Pair, Items, items, noItems, members, value}
 use Rattle.json.specs.Names.{means}
 use Rattle.json.specs.declared.Found.{Found}

@@ -2,9 +2,9 @@
 -- Assumes nothing: these are definitions.
 use Prim.Native.Nat.{ℕ}
 use mathlib.Core.List.{List}
-use mathlib.Core.Bool.{Bool, true, false, _||_}
+use mathlib.Core.Bool.{true, false, _||_}
 use lib.Dec.{eqb}
-use Rattle.json_tokens.specs.Bytes.{byteAt, quote, closeArray, closeObject, openArray, openObject, digit}
+use Rattle.json_tokens.specs.Bytes.{quote, closeArray, closeObject, openArray, openObject, digit}
 use Rattle.json_tokens.specs.Tokens.{End, At, Broken}
 use Rattle.json.specs.Json.{Span, Pair, Next, item, ends, wrong, next, element, member, value}
 use Rattle.json.specs.declared.Skip.{Skip}

@@ -272,10 +272,13 @@ fn member_at(s: &[u8], at: usize, depth: usize) -> Member
 pub fn value_end(s: &[u8], at: usize, depth: usize) -> usize
     ensures { λ r. ⌜ r ≡ endOf (value depth (now (s .entry)) at) ⌝ }
 {
+    let c = byte_at(s, at);
+    if c == QUOTE {
+        return string_end(s, at);
+    }
     if depth == 0 {
         return scalar_end(s, at);
     }
-    let c = byte_at(s, at);
     if c == OPEN_ARRAY {
         array_end(s, at + 1, depth - 1)
     } else if c == OPEN_OBJECT {

@@ -3,7 +3,7 @@
 use mathlib.Core.Path.{_≡_, refl, sym, ap, _∙_}
 use mathlib.Core.List.{List, [], _∷_}
 use mathlib.Core.Bool.{Bool, true, false, true≢false, _&&_, _||_, not, and-eq-true-iff}
-use Prim.Native.Nat.{ℕ, zero, suc, _+_, _-_, _*_, _≤_, _<_}
+use Prim.Native.Nat.{ℕ, zero, suc, _+_, _*_, _≤_, _<_}
 use native.Mathlib.Decide.{decLt}
 use native.Mathlib.Omega.{arith}
 use lib.ListN.{length, drop}
@@ -11,8 +11,8 @@ use lib.Bits.{bitAnd, bitOr, bitXor, and-zero-l, or-zero-l, xor-zero-l, and-bloc
 use lib.Dec.{leb, eqb}
 use borrow.Author.Tests.{eqb-true, eqb-false, leb-true, not-true, eq-eqb, ne-eqb, le-leb}
 use Rattle.json_tokens.specs.Bytes.{byteAt, unescaped}
-use Rattle.json_tokens.specs.Tokens.{stringRest, run}
-use Rattle.json_tokens.specs.Words.{plain, twoAt, fourAt, wordAt, plainWord, low, high, gap, quotes, backslashes}
+use Rattle.json_tokens.specs.Tokens.{stringRest}
+use Rattle.json_tokens.specs.Words.{plain, twoAt, fourAt, wordAt, plainWord}
 use Rattle.json_tokens.proofs.Laws.{in-kind, run-on, run-stops, rest-plain}
 use Rattle.json_tokens.proofs.Bounds.{run-in}
 

@@ -6,7 +6,7 @@ use mathlib.Core.List.{List, [], _∷_}
 use mathlib.Core.Bool.{Bool, true, false, _||_, _&&_}
 use lib.ListN.{drop, length}
 use lib.Dec.{ltb, eqb}
-use Rattle.json_tokens.specs.Bytes.{byteAt, quote, backslash, comma, colon, blank, digit, hexDigit, escaped}
+use Rattle.json_tokens.specs.Bytes.{byteAt, quote, backslash, blank, digit, hexDigit, escaped}
 
 -- The position past what begins at a position, or that nothing of its kind begins there.
 pub data End : Type 0 where

@@ -7,7 +7,6 @@
 //
 // Other lines are headings. The answer stands in front of each `+` and `-`, so a wrong one shows as two signs that differ. After the
 // table come rows of 256 answers, one for each byte at one place of a text.
-use json::Cursor;
 use json::Element;
 use json::Found;
 use json::Kind;

@@ -12,7 +12,7 @@ use Rattle.json_tokens.proofs.Bounds.{end-broken, separator-in, string-in}
 use Rattle.json_tokens.proofs.Laws.{end-at, end-none, in-byte, then-at, then-broken}
 use Rattle.json_tokens.specs.Tokens.{andThen, endOf, separator, string}
 use Rattle.json.proofs.Ends.{elements-tell, ends-empty, ends-further, ends-last, ends-on, ends-start, ends-wrong, listEnd, members-tell}
-use Rattle.json.proofs.Laws.{value-array, value-none, value-object, value-scalar}
+use Rattle.json.proofs.Laws.{value-array, value-none, value-object, value-scalar, value-string}
 use Rattle.json.proofs.Walk.{Walk}
 use Rattle.json.specs.Json.{element, elements, member, memberEnd, members, value}
 use borrow.Fn.Kinds.{In}
@@ -300,76 +300,87 @@ object-end-loop-again t c =
     let h = c .before .before .before .member-end .ensures in
     ends-on (member (value d s) s) 125 (omega arith) s t w e h (c .before .before .if2 .left) (c .before .comma-end .result) (c .before .comma-end .ensures) (c .if3 .left)
 
-value-end-scalar-end-requires : (t : ℕ) → value-end-lts.Need-scalar-end-requires (scalar-end-reads.Asked, scalar-end-reads.Learnt, byte-at-reads.Asked, byte-at-reads.Learnt, array-end-below t, array-end.Post, object-end-below t, object-end.Post) (value-end-at t) value-end.Post
-value-end-scalar-end-requires t c κs = search needs
-
-value-end-returns : (t : ℕ) → value-end-lts.Need-returns (scalar-end-reads.Asked, scalar-end-reads.Learnt, byte-at-reads.Asked, byte-at-reads.Learnt, array-end-below t, array-end.Post, object-end-below t, object-end.Post) (value-end-at t) value-end.Post
-value-end-returns t c =
-    let a = c .before .before .before .args in
-    let s = now (a .s) in
-    let d = a .depth in
-    let i = a .at in
-    c .scalar-end .ensures ∙ ap endOf (sym (value-none s i) ∙ ap (λ n. value n s i) (sym (c .before .if1 .taken)))
-
-value-end-byte-at-requires : (t : ℕ) → value-end-lts.Need-byte-at-requires (scalar-end-reads.Asked, scalar-end-reads.Learnt, byte-at-reads.Asked, byte-at-reads.Learnt, array-end-below t, array-end.Post, object-end-below t, object-end.Post) (value-end-at t) value-end.Post
+value-end-byte-at-requires : (t : ℕ) → value-end-lts.Need-byte-at-requires (byte-at-reads.Asked, byte-at-reads.Learnt, string-end-reads.Asked, string-end-reads.Learnt, scalar-end-reads.Asked, scalar-end-reads.Learnt, array-end-below t, array-end.Post, object-end-below t, object-end.Post) (value-end-at t) value-end.Post
 value-end-byte-at-requires t c κs = search needs
 
-value-end-add-array-end : (t : ℕ) → value-end-lts.Need-add-array-end (scalar-end-reads.Asked, scalar-end-reads.Learnt, byte-at-reads.Asked, byte-at-reads.Learnt, array-end-below t, array-end.Post, object-end-below t, object-end.Post) (value-end-at t) value-end.Post
-value-end-add-array-end t c =
+value-end-string-end-requires : (t : ℕ) → value-end-lts.Need-string-end-requires (byte-at-reads.Asked, byte-at-reads.Learnt, string-end-reads.Asked, string-end-reads.Learnt, scalar-end-reads.Asked, scalar-end-reads.Learnt, array-end-below t, array-end.Post, object-end-below t, object-end.Post) (value-end-at t) value-end.Post
+value-end-string-end-requires t c κs = search needs
+
+value-end-returns : (t : ℕ) → value-end-lts.Need-returns (byte-at-reads.Asked, byte-at-reads.Learnt, string-end-reads.Asked, string-end-reads.Learnt, scalar-end-reads.Asked, scalar-end-reads.Learnt, array-end-below t, array-end.Post, object-end-below t, object-end.Post) (value-end-at t) value-end.Post
+value-end-returns t c =
     let a = c .before .before .before .before .args in
     let s = now (a .s) in
     let d = a .depth in
     let i = a .at in
-    omega (arith, in-byte s i 91 (omega arith) (sym (c .before .byte-at .ensures) ∙ c .if2 .taken))
+    c .string-end .ensures ∙ ap endOf (sym (value-string s i d (sym (c .before .before .byte-at .ensures) ∙ c .before .if1 .taken)))
 
-value-end-sub-array-end : (t : ℕ) → value-end-lts.Need-sub-array-end (scalar-end-reads.Asked, scalar-end-reads.Learnt, byte-at-reads.Asked, byte-at-reads.Learnt, array-end-below t, array-end.Post, object-end-below t, object-end.Post) (value-end-at t) value-end.Post
-value-end-sub-array-end t c = omega arith
+value-end-scalar-end-requires : (t : ℕ) → value-end-lts.Need-scalar-end-requires (byte-at-reads.Asked, byte-at-reads.Learnt, string-end-reads.Asked, string-end-reads.Learnt, scalar-end-reads.Asked, scalar-end-reads.Learnt, array-end-below t, array-end.Post, object-end-below t, object-end.Post) (value-end-at t) value-end.Post
+value-end-scalar-end-requires t c κs = search needs
 
-value-end-array-end-requires : (t : ℕ) → value-end-lts.Need-array-end-requires (scalar-end-reads.Asked, scalar-end-reads.Learnt, byte-at-reads.Asked, byte-at-reads.Learnt, array-end-below t, array-end.Post, object-end-below t, object-end.Post) (value-end-at t) value-end.Post
-value-end-array-end-requires t c κs = search needs
-
-value-end-add-object-end : (t : ℕ) → value-end-lts.Need-add-object-end (scalar-end-reads.Asked, scalar-end-reads.Learnt, byte-at-reads.Asked, byte-at-reads.Learnt, array-end-below t, array-end.Post, object-end-below t, object-end.Post) (value-end-at t) value-end.Post
-value-end-add-object-end t c =
-    let a = c .before .before .before .before .before .args in
-    let s = now (a .s) in
-    let d = a .depth in
-    let i = a .at in
-    omega (arith, in-byte s i 123 (omega arith) (sym (c .before .before .byte-at .ensures) ∙ c .if3 .taken))
-
-value-end-sub-object-end : (t : ℕ) → value-end-lts.Need-sub-object-end (scalar-end-reads.Asked, scalar-end-reads.Learnt, byte-at-reads.Asked, byte-at-reads.Learnt, array-end-below t, array-end.Post, object-end-below t, object-end.Post) (value-end-at t) value-end.Post
-value-end-sub-object-end t c = omega arith
-
-value-end-object-end-requires : (t : ℕ) → value-end-lts.Need-object-end-requires (scalar-end-reads.Asked, scalar-end-reads.Learnt, byte-at-reads.Asked, byte-at-reads.Learnt, array-end-below t, array-end.Post, object-end-below t, object-end.Post) (value-end-at t) value-end.Post
-value-end-object-end-requires t c κs = search needs
-
-value-end-scalar-end-requires-2 : (t : ℕ) → value-end-lts.Need-scalar-end-requires-2 (scalar-end-reads.Asked, scalar-end-reads.Learnt, byte-at-reads.Asked, byte-at-reads.Learnt, array-end-below t, array-end.Post, object-end-below t, object-end.Post) (value-end-at t) value-end.Post
-value-end-scalar-end-requires-2 t c κs = search needs
-
-value-end-returns-2 : (t : ℕ) → value-end-lts.Need-returns-2 (scalar-end-reads.Asked, scalar-end-reads.Learnt, byte-at-reads.Asked, byte-at-reads.Learnt, array-end-below t, array-end.Post, object-end-below t, object-end.Post) (value-end-at t) value-end.Post
+value-end-returns-2 : (t : ℕ) → value-end-lts.Need-returns-2 (byte-at-reads.Asked, byte-at-reads.Learnt, string-end-reads.Asked, string-end-reads.Learnt, scalar-end-reads.Asked, scalar-end-reads.Learnt, array-end-below t, array-end.Post, object-end-below t, object-end.Post) (value-end-at t) value-end.Post
 value-end-returns-2 t c =
     let a = c .before .before .before .before .before .args in
     let s = now (a .s) in
     let d = a .depth in
     let i = a .at in
-    let k : d ≡ suc (d - 1) = omega arith in
-    c .array-end .ensures ∙ ap endOf (sym (value-array s i (d - 1) (sym (c .before .before .byte-at .ensures) ∙ c .before .if2 .taken)) ∙ ap (λ n. value n s i) (sym k))
+    c .scalar-end .ensures ∙ ap endOf (sym (value-none s i) ∙ ap (λ n. value n s i) (sym (c .before .if2 .taken)))
 
-value-end-returns-3 : (t : ℕ) → value-end-lts.Need-returns-3 (scalar-end-reads.Asked, scalar-end-reads.Learnt, byte-at-reads.Asked, byte-at-reads.Learnt, array-end-below t, array-end.Post, object-end-below t, object-end.Post) (value-end-at t) value-end.Post
+value-end-add-array-end : (t : ℕ) → value-end-lts.Need-add-array-end (byte-at-reads.Asked, byte-at-reads.Learnt, string-end-reads.Asked, string-end-reads.Learnt, scalar-end-reads.Asked, scalar-end-reads.Learnt, array-end-below t, array-end.Post, object-end-below t, object-end.Post) (value-end-at t) value-end.Post
+value-end-add-array-end t c =
+    let a = c .before .before .before .before .before .args in
+    let s = now (a .s) in
+    let d = a .depth in
+    let i = a .at in
+    omega (arith, in-byte s i 91 (omega arith) (sym (c .before .before .before .byte-at .ensures) ∙ c .if3 .taken))
+
+value-end-sub-array-end : (t : ℕ) → value-end-lts.Need-sub-array-end (byte-at-reads.Asked, byte-at-reads.Learnt, string-end-reads.Asked, string-end-reads.Learnt, scalar-end-reads.Asked, scalar-end-reads.Learnt, array-end-below t, array-end.Post, object-end-below t, object-end.Post) (value-end-at t) value-end.Post
+value-end-sub-array-end t c = omega arith
+
+value-end-array-end-requires : (t : ℕ) → value-end-lts.Need-array-end-requires (byte-at-reads.Asked, byte-at-reads.Learnt, string-end-reads.Asked, string-end-reads.Learnt, scalar-end-reads.Asked, scalar-end-reads.Learnt, array-end-below t, array-end.Post, object-end-below t, object-end.Post) (value-end-at t) value-end.Post
+value-end-array-end-requires t c κs = search needs
+
+value-end-add-object-end : (t : ℕ) → value-end-lts.Need-add-object-end (byte-at-reads.Asked, byte-at-reads.Learnt, string-end-reads.Asked, string-end-reads.Learnt, scalar-end-reads.Asked, scalar-end-reads.Learnt, array-end-below t, array-end.Post, object-end-below t, object-end.Post) (value-end-at t) value-end.Post
+value-end-add-object-end t c =
+    let a = c .before .before .before .before .before .before .args in
+    let s = now (a .s) in
+    let d = a .depth in
+    let i = a .at in
+    omega (arith, in-byte s i 123 (omega arith) (sym (c .before .before .before .before .byte-at .ensures) ∙ c .if4 .taken))
+
+value-end-sub-object-end : (t : ℕ) → value-end-lts.Need-sub-object-end (byte-at-reads.Asked, byte-at-reads.Learnt, string-end-reads.Asked, string-end-reads.Learnt, scalar-end-reads.Asked, scalar-end-reads.Learnt, array-end-below t, array-end.Post, object-end-below t, object-end.Post) (value-end-at t) value-end.Post
+value-end-sub-object-end t c = omega arith
+
+value-end-object-end-requires : (t : ℕ) → value-end-lts.Need-object-end-requires (byte-at-reads.Asked, byte-at-reads.Learnt, string-end-reads.Asked, string-end-reads.Learnt, scalar-end-reads.Asked, scalar-end-reads.Learnt, array-end-below t, array-end.Post, object-end-below t, object-end.Post) (value-end-at t) value-end.Post
+value-end-object-end-requires t c κs = search needs
+
+value-end-scalar-end-requires-2 : (t : ℕ) → value-end-lts.Need-scalar-end-requires-2 (byte-at-reads.Asked, byte-at-reads.Learnt, string-end-reads.Asked, string-end-reads.Learnt, scalar-end-reads.Asked, scalar-end-reads.Learnt, array-end-below t, array-end.Post, object-end-below t, object-end.Post) (value-end-at t) value-end.Post
+value-end-scalar-end-requires-2 t c κs = search needs
+
+value-end-returns-3 : (t : ℕ) → value-end-lts.Need-returns-3 (byte-at-reads.Asked, byte-at-reads.Learnt, string-end-reads.Asked, string-end-reads.Learnt, scalar-end-reads.Asked, scalar-end-reads.Learnt, array-end-below t, array-end.Post, object-end-below t, object-end.Post) (value-end-at t) value-end.Post
 value-end-returns-3 t c =
     let a = c .before .before .before .before .before .before .args in
     let s = now (a .s) in
     let d = a .depth in
     let i = a .at in
     let k : d ≡ suc (d - 1) = omega arith in
-    c .object-end .ensures ∙ ap endOf (sym (value-object s i (d - 1) (sym (c .before .before .before .byte-at .ensures) ∙ c .before .if3 .taken)) ∙ ap (λ n. value n s i) (sym k))
+    c .array-end .ensures ∙ ap endOf (sym (value-array s i (d - 1) (sym (c .before .before .before .before .byte-at .ensures) ∙ c .before .if3 .taken)) ∙ ap (λ n. value n s i) (sym k))
 
-value-end-returns-4 : (t : ℕ) → value-end-lts.Need-returns-4 (scalar-end-reads.Asked, scalar-end-reads.Learnt, byte-at-reads.Asked, byte-at-reads.Learnt, array-end-below t, array-end.Post, object-end-below t, object-end.Post) (value-end-at t) value-end.Post
+value-end-returns-4 : (t : ℕ) → value-end-lts.Need-returns-4 (byte-at-reads.Asked, byte-at-reads.Learnt, string-end-reads.Asked, string-end-reads.Learnt, scalar-end-reads.Asked, scalar-end-reads.Learnt, array-end-below t, array-end.Post, object-end-below t, object-end.Post) (value-end-at t) value-end.Post
 value-end-returns-4 t c =
-    let a = c .before .before .before .before .before .before .args in
+    let a = c .before .before .before .before .before .before .before .args in
     let s = now (a .s) in
     let d = a .depth in
     let i = a .at in
-    c .scalar-end2 .ensures ∙ ap endOf (sym (value-scalar s i d (λ e. c .before .before .if2 .left (c .before .before .before .byte-at .ensures ∙ e)) (λ e. c .before .if3 .left (c .before .before .before .byte-at .ensures ∙ e))))
+    let k : d ≡ suc (d - 1) = omega arith in
+    c .object-end .ensures ∙ ap endOf (sym (value-object s i (d - 1) (sym (c .before .before .before .before .before .byte-at .ensures) ∙ c .before .if4 .taken)) ∙ ap (λ n. value n s i) (sym k))
+
+value-end-returns-5 : (t : ℕ) → value-end-lts.Need-returns-5 (byte-at-reads.Asked, byte-at-reads.Learnt, string-end-reads.Asked, string-end-reads.Learnt, scalar-end-reads.Asked, scalar-end-reads.Learnt, array-end-below t, array-end.Post, object-end-below t, object-end.Post) (value-end-at t) value-end.Post
+value-end-returns-5 t c =
+    let a = c .before .before .before .before .before .before .before .args in
+    let s = now (a .s) in
+    let d = a .depth in
+    let i = a .at in
+    c .scalar-end2 .ensures ∙ ap endOf (sym (value-scalar s i d (λ e. c .before .before .if3 .left (c .before .before .before .before .before .byte-at .ensures ∙ e)) (λ e. c .before .if4 .left (c .before .before .before .before .before .byte-at .ensures ∙ e))))
 
 pub +array-end+member-end+object-end+value-end-spec : {M : Type 1} → statement M
 +array-end+member-end+object-end+value-end-spec =
@@ -440,10 +451,12 @@ pub +array-end+member-end+object-end+value-end-spec : {M : Type 1} → statement
     (object-end-loop-less t)
     (object-end-loop-again t))
     λ t. value-end-lts.spec (
-      scalar-end-reads.Asked,
-      scalar-end-reads.Learnt,
       byte-at-reads.Asked,
       byte-at-reads.Learnt,
+      string-end-reads.Asked,
+      string-end-reads.Learnt,
+      scalar-end-reads.Asked,
+      scalar-end-reads.Learnt,
       array-end-below t,
       array-end.Post,
       object-end-below t,
@@ -451,9 +464,11 @@ pub +array-end+member-end+object-end+value-end-spec : {M : Type 1} → statement
     )
     (value-end-at t)
     value-end.Post
-    (value-end-scalar-end-requires t)
-    (value-end-returns t)
     (value-end-byte-at-requires t)
+    (value-end-string-end-requires t)
+    (value-end-returns t)
+    (value-end-scalar-end-requires t)
+    (value-end-returns-2 t)
     (value-end-add-array-end t)
     (value-end-sub-array-end t)
     (value-end-array-end-requires t)
@@ -461,6 +476,6 @@ pub +array-end+member-end+object-end+value-end-spec : {M : Type 1} → statement
     (value-end-sub-object-end t)
     (value-end-object-end-requires t)
     (value-end-scalar-end-requires-2 t)
-    (value-end-returns-2 t)
     (value-end-returns-3 t)
     (value-end-returns-4 t)
+    (value-end-returns-5 t)

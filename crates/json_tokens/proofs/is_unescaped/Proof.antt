@@ -10,7 +10,7 @@ returns : tie.Need-returns
 unfolding unescaped
 returns c =
     let x = c .before .args .c in
-    simp (lt-leb 32 x (c .if1 .taken))
+    simp (lt-leb 32 x (omega arith))
 
 returns-2 : tie.Need-returns-2
 unfolding unescaped

@@ -3,18 +3,18 @@
 use mathlib.Core.Path.{_≡_, refl, sym, ap, _∙_}
 use mathlib.Core.List.{List, [], _∷_, _++_}
 use mathlib.Core.Bool.{Bool, true, false, _||_, true≢false}
-use Prim.Native.Nat.{ℕ, suc, _+_, _-_, _≤_, _<_}
+use Prim.Native.Nat.{ℕ, suc, _+_, _-_, _/_, _%_, _≤_, _<_}
 use native.Mathlib.Omega.{arith}
-use lib.ListN.{length, take, drop, drop-of-length-le}
+use lib.ListN.{length, getD, take, drop, drop-of-length-le}
 use lib.Seq.{take-nil}
 use lib.Dec.{eqb}
 use borrow.Author.Tests.{eq-eqb, ne-eqb, eqb-true}
 use Rattle.json_tokens.specs.Bytes.{byteAt}
-use Rattle.json_tokens.specs.Tokens.{End, At, Broken, andThen, word}
+use Rattle.json_tokens.specs.Tokens.{End, At, Broken, andThen, prefix, word}
 use Rattle.json_tokens.proofs.Laws.{here, past, by-place, then-at, then-broken, word-nil, word-cons, word-other, word-append}
 use Rattle.json_tokens.proofs.Bounds.{word-is}
 use Rattle.json.specs.Json.{Span}
-use Rattle.json.specs.Names.{part, means, holds}
+use Rattle.json.specs.Names.{part, means, spelled, holds}
 
 -- ---- a backslash, one step at a time: what is left of the part at i
 module _ (s : List ℕ) (to i : ℕ) where
@@ -74,6 +74,28 @@ module _ (s : List ℕ) (from to : ℕ) (name : List ℕ) where
 
       pub means-elsewhere : byteAt s e ≡ 34 → (e + 1 ≡ to → ⊥) → means s (record { from = from; to = to }) name ≡ false
       means-elsewhere r t = means-at (e + 1) (at-end e q h r) ∙ ne-eqb (e + 1) to t
+
+-- ---- a short name, one byte at a time
+module _ (s : List ℕ) (n w i : ℕ) where
+  pub spelled-ends : n ≡ 0 → word (spelled n w) s i ≡ At i
+  unfolding spelled word prefix
+  spelled-ends z = rw z
+
+  module _ (h : 0 < n) where
+    more-left : n ≡ suc (n - 1)
+    more-left = omega arith
+
+    pub spelled-past : length s ≤ i → word (spelled n w) s i ≡ Broken
+    unfolding spelled word prefix
+    spelled-past g = rw (more-left, drop-of-length-le s g)
+
+    pub spelled-on : i < length s → getD s i 0 ≡ w % 256 → word (spelled n w) s i ≡ word (spelled (n - 1) (w / 256)) s (i + 1)
+    unfolding spelled word prefix byteAt
+    spelled-on g e = ap (λ k. word (spelled k w) s i) more-left ∙ rw (here s i g, eq-eqb _ _ e, prefix)
+
+    pub spelled-off : i < length s → (getD s i 0 ≡ w % 256 → ⊥) → word (spelled n w) s i ≡ Broken
+    unfolding spelled word prefix byteAt
+    spelled-off g e = ap (λ k. word (spelled k w) s i) more-left ∙ rw (here s i g, ne-eqb _ _ e, prefix)
 
 -- ---- a string that means a name is the name between quotes
 pub means-part : (s : List ℕ) (a : Span) (name : List ℕ) → means s a name ≡ true → part s a ≡ 34 ∷ (name ++ (34 ∷ []))

@@ -35,10 +35,10 @@ use json_tokens::word_end;
 ghost use mathlib.Core.Path.{_≡_};
 ghost use mathlib.Core.Bool.{true};
 ghost use Rattle.json_tokens.specs.Bytes.{byteAt};
-ghost use Rattle.json_tokens.specs.Tokens.{endOf};
+ghost use Rattle.json_tokens.specs.Tokens.{endOf, word};
 ghost use Rattle.json.specs.Json.{itemsEnd, memberEnd, element, member, elements, members, value, text};
 ghost use Rattle.json.specs.Reading.{skipOf, elementOf, memberOf, nextElement, nextMember, kindOf};
-ghost use Rattle.json.specs.Names.{means, hasBackslash};
+ghost use Rattle.json.specs.Names.{means, spelled, hasBackslash};
 ghost use Rattle.json.specs.Finding.{oneMore, counted, find};
 
 // How deep arrays and objects may nest in a text, the outermost counting as one.
@@ -353,6 +353,46 @@ pub fn is_name(s: &[u8], from: usize, to: usize, name: &[u8]) -> bool
 {
     if byte_at(s, from) == QUOTE {
         let e = word_end(s, from + 1, name);
+        if e == 0 {
+            false
+        } else if byte_at(s, e) == QUOTE {
+            if e + 1 == to { true } else { false }
+        } else {
+            false
+        }
+    } else {
+        false
+    }
+}
+
+// Past the bytes of a short name.
+fn short_name_end(s: &[u8], at: usize, name: u64, length: usize) -> usize
+    ensures { λ r. ⌜ r ≡ endOf (word (spelled length name) (now (s .entry)) at) ⌝ }
+{
+    let mut i = at;
+    let mut rest = name;
+    let mut left = length;
+    while 0 < left {
+        if s.len() <= i {
+            return 0;
+        }
+        if s[i] != (rest % 256) as u8 {
+            return 0;
+        }
+        i += 1;
+        rest = rest / 256;
+        left -= 1;
+    }
+    i
+}
+
+// The same as `is_name` for a name of at most eight bytes, given as one number, the first byte the lowest: a byte string is
+// laid on the stack at each use, and a number is not. `as` is 97 + 115 * 256, with a length of 2.
+pub fn is_short_name(s: &[u8], from: usize, to: usize, name: u64, length: usize) -> bool
+    ensures { λ r. ⌜ r ≡ means (now (s .entry)) (record { from = from; to = to }) (spelled length name) ⌝ }
+{
+    if byte_at(s, from) == QUOTE {
+        let e = short_name_end(s, from + 1, name, length);
         if e == 0 {
             false
         } else if byte_at(s, e) == QUOTE {

@@ -6,9 +6,10 @@ use mathlib.Core.List.{List, [], _∷_}
 use native.Mathlib.Omega.{arith}
 use lib.Dec.{eqb}
 use lib.ListN.{length}
+use lib.Seq.{take-all}
 use Rattle.decimal.specs.Decimal.{Number, value}
 use Rattle.side.specs.declared.Side.{Side}
-use Rattle.side.specs.Side.{Edit, sets, removes, before, without, apply, applyAll, place, ranked}
+use Rattle.side.specs.Side.{Edit, sets, removes, before, without, apply, applyAll, place, ranked, afterMessage}
 
 module _ {A : Type 0} (priceOf : A → Number) where
   place-cond : (x y : A) (s r : List A) (t : Bool) → length r ≡ suc (length s) → length (cond t (y ∷ r) (x ∷ y ∷ s)) ≡ suc (suc (length s))
@@ -48,3 +49,10 @@ module _ {A : Type 0} (priceOf : A → Number) where
       let h : length (applyAll priceOf es (apply priceOf e s)) ≤ length es + length (apply priceOf e s) = length-applyAll es (apply priceOf e s) in
       let k : length (apply priceOf e s) ≤ suc (length s) = length-apply e s in
       omega arith
+
+  -- where no more levels stand than the depth, nothing is cut
+  pub afterMessage-whole : (side : Side) (depth : ℕ) (es : List (Edit A)) (s : List A) → length (applyAll priceOf es s) ≤ depth
+      → afterMessage priceOf side depth es s ≡ ranked priceOf side (applyAll priceOf es s)
+  unfolding afterMessage
+  afterMessage-whole side depth es s h =
+      take-all depth (ranked priceOf side (applyAll priceOf es s)) (omega (arith, length-ranked side (applyAll priceOf es s)))

@@ -9,6 +9,9 @@ use lib.ListN.{length, take, length-map}
 use Rattle.decimal.specs.Decimal.{Number, value}
 use Rattle.side.specs.declared.Side.{Side}
 use Rattle.side.specs.declared.Level.{Level}
+use Rattle.side.specs.declared.Levels.{Levels}
+use Rattle.side.specs.declared.Applied.{Applied}
+use Rattle.side.specs.Kept.{held, AfterEntries}
 use Rattle.side.specs.Level.{PriceLevel, levelPrice, shown, shownPrice}
 use Rattle.side.specs.Side.{Edit, sets, removes, before, standing, without, apply, applyAll, place, ranked, afterMessage, named, meets, met, mapEdit}
 
@@ -93,3 +96,14 @@ shown-count = map-count levelPrice shownPrice shown shown-price
 
 pub shown-met : (es : List (Edit Level)) (s : List Level) → met shownPrice (map (mapEdit shown) es) (map shown s) ≡ met levelPrice es s
 shown-met = map-met levelPrice shownPrice shown shown-price
+
+-- what `apply` ensures, of the levels shown: the side of document 01's plain book
+module _ {side : Side} {depth : ℕ} {es : List (Edit Level)} {kept : Levels} {applied : Applied} (r : AfterEntries side depth es kept applied) where
+  pub applied-levels : map shown (held (applied .levels)) ≡ afterMessage shownPrice side depth (map (mapEdit shown) es) (map shown (held kept))
+  applied-levels = ap (map shown) (r .levels) ∙ shown-afterMessage side depth es (held kept)
+
+  pub applied-count : applied .count ≡ length (applyAll shownPrice (map (mapEdit shown) es) (map shown (held kept)))
+  applied-count = r .count ∙ sym (shown-count es (held kept))
+
+  pub applied-met : applied .met ≡ met shownPrice (map (mapEdit shown) es) (map shown (held kept))
+  applied-met = r .met ∙ sym (shown-met es (held kept))

@@ -5,6 +5,7 @@ use mathlib.Core.List.{List, [], _∷_}
 use lib.ListN.{length, take}
 use Rattle.decimal.specs.Decimal.{Number, Within}
 use Rattle.side.specs.declared.Side.{Side}
+use Rattle.side.specs.declared.Side.the-variants.{Bids, Asks}
 use Rattle.side.specs.declared.Level.{Level}
 use Rattle.side.specs.declared.Levels.{Levels}
 use Rattle.side.specs.declared.Applied.{Applied}
@@ -38,6 +39,12 @@ pub record Good (side : Side) (kept : Levels) : Type 0 where
   pub sorted : Sorted levelPrice side (held kept)
   pub within : All (λ level. Within (levelPrice level)) (held kept)
 
+-- A side with no level: good as bids and as asks.
+pub record Empty (kept : Levels) : Type 0 where
+  pub none : held kept ≡ []
+  pub bids : Good Bids kept
+  pub asks : Good Asks kept
+
 -- What the words of a message's entries for one side must be.
 pub record Given (prices sizes rests : List ℕ) : Type 0 where
   pub few : length prices ≤ maxEntries
@@ -51,4 +58,4 @@ pub record AfterEntries (side : Side) (depth : ℕ) (entries : List (Edit Level)
   pub good : Good side (applied .levels)
   pub levels : held (applied .levels) ≡ afterMessage levelPrice side depth entries (held kept)
   pub count : applied .count ≡ length (applyAll levelPrice entries (held kept))
-  pub meeting : applied .met ≡ met levelPrice entries (held kept)
+  pub met : applied .met ≡ met levelPrice entries (held kept)

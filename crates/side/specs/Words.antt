@@ -1,6 +1,7 @@
 -- The words that entries are handed over in: a word each for the price's digits, the size's digits and the rest. A size of 0 removes.
 -- Assumes nothing: these are definitions.
 use Prim.Native.Nat.{ℕ, _+_, _*_, _/_, _%_, _^_, _<_}
+use mathlib.Core.Path.{_≡_}
 use mathlib.Core.Bool.{Bool, true, false, cond}
 use mathlib.Core.List.{List, [], _∷_}
 use lib.Dec.{eqb}
@@ -23,6 +24,11 @@ pub record Fits (level : Level) : Type 0 where
 -- The rest of a level, in one word.
 unfoldable pub packed : Level → ℕ
 packed level = level .sum + 2 ^ 32 * (level .length + 2 ^ 16 * (level .«price_decimals» + 2 ^ 8 * level .«size_decimals»))
+
+-- What `pack` makes of a level.
+pub record Packed (level : Level) (rest : ℕ) : Type 0 where
+  pub word : rest ≡ packed level
+  pub fits : Fits level
 
 -- The level that three words hold.
 unfoldable pub levelOf : ℕ → ℕ → ℕ → Level

@@ -45,7 +45,8 @@ pub fn apply(
     work(kept, side, depth, prices, sizes, rests)
 }
 
-// All in one function, since it owns the working side: an entry copies no more than the levels that it shifts.
+// All in one function, since it owns the working side: an entry moves the levels that it shifts, and copies no side.
+// The side is loaded; each entry's price is searched for, and its level set or removed there; then the best are kept.
 fn work(
     kept: Levels,
     side: Side,
@@ -71,6 +72,7 @@ fn work(
         k += 1;
         let change = entry.change;
         let price = price_named(change);
+        // the levels before `low` stand nearer the top than the price, and those from `high` on do not
         let mut low = 0;
         let mut high = count;
         'find: while low < high {

@@ -11,11 +11,10 @@ mod applying;
 mod words;
 
 ghost use mathlib.Core.Path.{_≡_};
-ghost use mathlib.Core.List.{[]};
 ghost use Prim.Native.Nat.{_≤_};
 ghost use Rattle.decimal.specs.Decimal.{number};
 ghost use Rattle.side.specs.Level.{levelPrice, levelSize};
-ghost use Rattle.side.specs.Kept.{maxLevels, held, levelAt, Good};
+ghost use Rattle.side.specs.Kept.{maxLevels, held, levelAt, Empty};
 pub use applying::apply;
 use decimal::Decimal;
 pub use words::entry_at;
@@ -84,7 +83,7 @@ const EMPTY: Level = Level {
 
 // A side with no level.
 pub fn empty() -> Levels
-    ensures { λ r. ⌜ (held r ≡ []) × Good Side.Bids r × Good Side.Asks r ⌝ }
+    ensures { λ r. ⌜ Empty r ⌝ }
 {
     Levels {
         items: [EMPTY; MAX_LEVELS],

@@ -1,6 +1,6 @@
 // Entries as words: the price's digits, the size's digits, and one word for the rest of a level. A size of 0 removes.
 ghost use mathlib.Core.Path.{_≡_};
-ghost use Rattle.side.specs.Words.{packed, entryOf};
+ghost use Rattle.side.specs.Words.{Packed, entryOf};
 use crate::Change;
 use crate::Entry;
 use crate::Level;
@@ -16,7 +16,7 @@ const SIZE_DECIMALS: u64 = 72_057_594_037_927_936;
 
 // The rest of a level, in one word.
 pub fn pack(level: Level) -> u64
-    ensures { λ r. ⌜ r ≡ packed level ⌝ }
+    ensures { λ r. ⌜ Packed level r ⌝ }
 {
     let decimals = level.price_decimals as u64 + 256 * (level.size_decimals as u64);
     level.sum as u64 + LENGTH * (level.length as u64 + 65_536 * decimals)

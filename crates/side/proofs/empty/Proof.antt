@@ -8,7 +8,11 @@ use Rattle.side.proofs.empty.Tie as tie
 
 returns : tie.Need-returns
 unfolding held All Sorted
-returns c = (refl, record { few = omega arith; room = refl; sorted = tt; within = tt }, record { few = omega arith; room = refl; sorted = tt; within = tt })
+returns c = record {
+  none = refl;
+  bids = record { few = omega arith; room = refl; sorted = tt; within = tt };
+  asks = record { few = omega arith; room = refl; sorted = tt; within = tt };
+}
 
 pub empty-spec : {M : Type 1} → statement M
 empty-spec = tie.close (tie.spec returns)

@@ -23,7 +23,7 @@ returns c =
       good = s .pre .0;
       levels = nothing-levels (s .args .side) (s .args .prices .now) (s .args .sizes .now) (s .args .rests .now) (held (s .args .kept)) none (s .args .depth) short (s .pre .0 .sorted);
       count = sym (long s) ∙ nothing-count (s .args .side) (s .args .prices .now) (s .args .sizes .now) (s .args .rests .now) (held (s .args .kept)) none;
-      meeting = nothing-met (s .args .side) (s .args .prices .now) (s .args .sizes .now) (s .args .rests .now) (held (s .args .kept)) none;
+      met = nothing-met (s .args .side) (s .args .prices .now) (s .args .sizes .now) (s .args .rests .now) (held (s .args .kept)) none;
     }
 
 work-requires : tie.Need-work-requires

@@ -572,7 +572,7 @@ returns c =
           turn-count (s .args .side) (s .args .prices .now) (s .args .sizes .now) (s .args .rests .now) (s .pre .1) kept (s .args .t1 .count)
           (E .entry .levels) (E .entry .count) (E .entry .k) (E .entry .met) (E .entry .inv) past sorted l
           ∙ ap (λ (x : List Level). length (applyAll levelPrice es x)) o;
-      meeting =
+      met =
           turn-met (s .args .side) (s .args .prices .now) (s .args .sizes .now) (s .args .rests .now) (s .pre .1) kept (s .args .t1 .count)
           (E .entry .levels) (E .entry .count) (E .entry .k) (E .entry .met) (E .entry .inv) past sorted
           ∙ ap (met levelPrice es) o;

@@ -1,4 +1,4 @@
--- `pack` meets its contract: it makes the word that the definition has.
+-- `pack` meets its contract: it makes the word that the definition has, and a level of the code fits by the types of its fields.
 use mathlib.Core.Path.{refl}
 use Rattle.side.specs.Words.{packed}
 use borrow.Author.Needs.{needs}
@@ -37,7 +37,7 @@ add-result-2 c = search needs
 
 returns : tie.Need-returns
 unfolding packed
-returns c = refl
+returns c = record { word = refl; fits = record { sum = search needs; length = search needs; price-decimals = search needs; size-decimals = search needs } }
 
 pub pack-spec : {M : Type 1} → statement M
 pack-spec =

@@ -1,0 +1,78 @@
+-- What the moves of states and words compute, in the terms of the definition.
+-- Assumes nothing.
+use mathlib.Core.Path.{_≡_, sym, ap, ap₂, _∙_}
+use Prim.Native.Nat.{ℕ, _+_, _-_, _*_, _/_, _%_, _^_, _≤_, _<_}
+use native.Mathlib.Nat.{div-eq-of-lt, mod-eq-of-lt, mod-lt, mod-one, mul-mod-left, add-zero, lt-of-lt-of-le}
+use native.Mathlib.Numerals.{add-one}
+use native.Mathlib.Omega.{arith}
+use lib.Pow.{shl-shr, mod-pow-add, pow-pos, pow-mono}
+use lib.Bits.{bitXor, xor-shr, xor-mod, xor-comm}
+use Rattle.crc32_spec.specs.Crc.{bits}
+use Rattle.crc32_spec.specs.Laws.{peel, bits-add}
+use Rattle.crc32_spec.specs.Text.{bits-byte, whole-word}
+
+-- ---- states
+
+bits-at : {m n : ℕ} (s : ℕ) → m ≡ n → bits m s ≡ bits n s
+bits-at s e = ap (λ (k : ℕ). bits k s) e
+
+-- the table that a match chose
+pub in-table : (k n s r : ℕ) → n / 8 ≡ k → r ≡ bits (8 * (8 * k + n % 8)) s → r ≡ bits (8 * n) s
+in-table k n s r e f =
+    let z : 8 * (8 * k + n % 8) ≡ 8 * n = omega arith in
+    f ∙ bits-at s z
+
+-- moving by j bytes and by the others
+pub shifted : (j n s : ℕ) → j ≤ n → bits (8 * (n - j)) (bits (8 * j) s) ≡ bits (8 * n) s
+shifted j n s h =
+    let z : 8 * j + 8 * (n - j) ≡ 8 * n = omega arith in
+    sym (bits-add (8 * j) (8 * (n - j)) s) ∙ bits-at s z
+
+pub one-more : (n s : ℕ) → bits (8 * n) (bits 8 s) ≡ bits (8 * (n + 1)) s
+one-more n s = bits-byte n s ∙ bits-at s (ap (λ (k : ℕ). 8 * k) (sym (add-one n)))
+
+-- ---- a word on a state
+
+-- the word's upper half is not mixed with the state
+pub two-halves : (n s w lower upper p q : ℕ) → 4 ≤ n → s < 2 ^ 32 → lower ≡ w % 2 ^ 32 → upper ≡ w / 2 ^ 32 →
+    p ≡ bits (8 * (n - 4)) upper → q ≡ bits (8 * n) (bitXor s lower) → bitXor p q ≡ bits (8 * n) (bitXor s w)
+two-halves n s w lower upper p q l h el eu ep eq =
+    let z : 8 * n ≡ 32 + 8 * (n - 4) = omega arith in
+    ap₂ bitXor (ep ∙ ap (bits (8 * (n - 4))) eu) (eq ∙ ap₂ (λ (k x : ℕ). bits k (bitXor s x)) z el)
+    ∙ xor-comm (bits (8 * (n - 4)) (w / 2 ^ 32)) (bits (32 + 8 * (n - 4)) (bitXor s (w % 2 ^ 32)))
+    ∙ sym (peel 32 (8 * (n - 4)) (bitXor s w)
+    ∙ ap₂ (λ (x y : ℕ). bitXor (bits (32 + 8 * (n - 4)) x) (bits (8 * (n - 4)) y))
+    (xor-mod s w 32 ∙ ap (λ (x : ℕ). bitXor x (w % 2 ^ 32)) (mod-eq-of-lt h))
+    (xor-shr s w 32 ∙ ap (λ (x : ℕ). bitXor x (w / 2 ^ 32)) (div-eq-of-lt h)))
+    ∙ bits-at (bitXor s w) (sym z)
+
+-- eight bytes or more take a word in whole
+pub long-word : (n s w : ℕ) → 8 ≤ n → w < 2 ^ 64 → bits (8 * (n - 8)) (bits 64 (bitXor s w)) ≡ bits (8 * n) (bitXor s (w % 2 ^ (8 * n)))
+long-word n s w h l =
+    let e : 64 ≤ 8 * n = omega arith in
+    shifted 8 n (bitXor s w) h ∙ sym (whole-word n s w (lt-of-lt-of-le l (pow-mono e)))
+
+-- fewer than four have no upper half
+pub short-word : (n s w piece lower r : ℕ) → n < 4 → piece ≡ w % 2 ^ (8 * n) → lower ≡ piece % 2 ^ 32 → r ≡ bits (8 * n) (bitXor s lower) →
+    r ≡ bits (8 * n) (bitXor s (w % 2 ^ (8 * n)))
+short-word n s w piece lower r h e f g =
+    let m : 8 * n ≤ 32 = omega arith in
+    g ∙ ap (λ (x : ℕ). bits (8 * n) (bitXor s x))
+    (f ∙ ap (λ (x : ℕ). x % 2 ^ 32) e ∙ mod-eq-of-lt (lt-of-lt-of-le (mod-lt w (pow-pos (8 * n))) (pow-mono m)))
+
+-- ---- the lowest bytes of a word
+
+pub no-bytes : (n w : ℕ) → n ≡ 0 → 0 ≡ w % 2 ^ (8 * n)
+no-bytes n w e = sym (ap (λ (k : ℕ). w % 2 ^ (8 * k)) e ∙ mod-one w)
+
+up-mod : (w j k : ℕ) → (w * 2 ^ j) % 2 ^ (k + j) ≡ (w % 2 ^ k) * 2 ^ j
+up-mod w j k =
+    mod-pow-add (w * 2 ^ j) k j
+    ∙ ap₂ (λ (x y : ℕ). x % 2 ^ k * 2 ^ j + y) (shl-shr w j) (mul-mod-left w (2 ^ j)) ∙ add-zero (w % 2 ^ k * 2 ^ j)
+
+-- moved up to the top of 64 bits, and down again
+pub up-and-down : (k w : ℕ) → k ≤ 64 → (w * 2 ^ (64 - k)) % 2 ^ 64 / 2 ^ (64 - k) ≡ w % 2 ^ k
+up-and-down k w h =
+    let z : 64 ≡ k + (64 - k) = omega arith in
+    ap (λ (n : ℕ). (w * 2 ^ (64 - k)) % 2 ^ n / 2 ^ (64 - k)) z
+    ∙ ap (λ (x : ℕ). x / 2 ^ (64 - k)) (up-mod w (64 - k) k) ∙ shl-shr (w % 2 ^ k) (64 - k)

@@ -1,8 +1,8 @@
 -- The bytes of a slice as words: what the loops over a text compute, in the terms of the definition.
 -- Assumes nothing.
-use mathlib.Core.Path.{_≡_, refl, sym, ap, ap₂, _∙_, subst}
-use mathlib.Core.List.{List, [], _∷_, _++_}
-use Prim.Native.Nat.{ℕ, zero, suc, _+_, _-_, _*_, _/_, _%_, _^_, _≤_, _<_}
+use mathlib.Core.Path.{_≡_, sym, ap, ap₂, _∙_, subst}
+use mathlib.Core.List.{List}
+use Prim.Native.Nat.{ℕ, suc, _+_, _-_, _*_, _/_, _%_, _^_, _≤_, _<_}
 use native.Mathlib.Nat.{add-zero, add-suc, le-refl, lt-of-lt-of-le}
 use native.Mathlib.Omega.{arith}
 use lib.Pow.{high, pow-mono}
@@ -11,7 +11,7 @@ use lib.Bits.{bitXor}
 use lib.ListN.{length, getD, take, drop, length-take, length-drop, take-append-drop, drop-of-length-le}
 use lib.Seq.{take-all, drop-cons, drop-drop}
 use Rattle.crc32_spec.specs.Crc.{bits, run}
-use Rattle.crc32_spec.specs.Text.{Bytes, bytes-drop, bytes-take, word, word-append, word-lt, whole-word, run-append, run-word}
+use Rattle.crc32_spec.specs.Text.{Bytes, bytes-drop, bytes-take, word, word-append, word-lt, run-append, run-absorbed, run-word}
 
 pub at-end : (t : List ℕ) (s i : ℕ) → length t ≤ i → s ≡ run s (drop i t)
 unfolding run
@@ -59,10 +59,7 @@ module _ (t : List ℕ) (i : ℕ) (bs : Bytes t) where
 
   pub last-absorbed : (s w r : ℕ) → w ≡ word (drop i t) → r ≡ bits (8 * (length t - i)) (bitXor s (w % 2 ^ (8 * (length t - i)))) → r ≡ run s (drop i t)
   last-absorbed s w r e f =
-      f ∙ ap (λ (x : ℕ). bits (8 * (length t - i)) (bitXor s (x % 2 ^ (8 * (length t - i))))) e
-      ∙ whole-word (length t - i) s (word (drop i t)) last-lt
-      ∙ ap (λ (n : ℕ). bits (8 * n) (bitXor s (word (drop i t)))) (sym (length-drop i t))
-      ∙ sym (run-word (drop i t) s (bytes-drop i t bs))
+      f ∙ ap (λ (n : ℕ). bits (8 * n) (bitXor s (w % 2 ^ (8 * n)))) (sym (length-drop i t)) ∙ run-absorbed (drop i t) s w (bytes-drop i t bs) e
 
   -- fewer than eight, from the last eight
   pub last-load : (w : ℕ) → i ≤ length t → length t < i + 8 → 8 ≤ length t → w ≡ word (take 8 (drop (length t - 8) t)) →

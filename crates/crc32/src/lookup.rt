@@ -16,7 +16,7 @@ use crc32_tables_mid::moved4;
 use crc32_tables_mid::moved5;
 use crc32_tables_mid::moved6;
 
-// The first table stands last: an arm `0` would keep the compiler from unrolling its loop.
+// A state moved by n bytes. The first table stands last: under an arm `0` its loop would not be unrolled.
 pub(crate) fn moved(s: u32, n: u64) -> u32
     requires { ⌜ n < 104 ⌝ }
     ensures { λ r. ⌜ r ≡ bits (8 * n) s ⌝ }

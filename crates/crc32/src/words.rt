@@ -1,6 +1,6 @@
 // The state after a piece of text that is a number, its first byte lowest: no memory is read.
 ghost use mathlib.Core.Path.{_≡_};
-ghost use Prim.Native.Nat.{_*_, _/_, _%_, _^_, _<_};
+ghost use Prim.Native.Nat.{_*_, _/_, _%_, _^_, _≤_};
 ghost use lib.Bits.{bitXor};
 ghost use Rattle.crc32_spec.specs.Crc.{bits, step};
 use crate::lookup::moved;
@@ -34,7 +34,7 @@ pub fn absorb8(s: u32, w: u64) -> u32
 
 // The lowest n bytes of w.
 fn low_bytes(w: u64, n: u64) -> u64
-    requires { ⌜ n < 8 ⌝ }
+    requires { ⌜ n ≤ 8 ⌝ }
     ensures { λ r. ⌜ r ≡ w % 2 ^ (8 * n) ⌝ }
 {
     if n == 0 {
@@ -48,7 +48,7 @@ fn low_bytes(w: u64, n: u64) -> u64
 pub fn absorb(s: u32, w: u64, n: u64) -> u32
     ensures { λ r. ⌜ r ≡ bits (8 * n) (bitXor s (w % 2 ^ (8 * n))) ⌝ }
 {
-    if 8 <= n {
+    if 8 < n {
         return shift(absorb8(s, w), n - 8);
     }
     let piece = low_bytes(w, n);

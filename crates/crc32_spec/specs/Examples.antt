@@ -1,7 +1,6 @@
 -- Check values: of no bytes, of "123456789" and of "9:2:10:1". Assumes nothing.
 use mathlib.Core.Path.{_≡_, refl}
-use mathlib.Core.List.{List, [], _∷_}
-use Prim.Native.Nat.{ℕ}
+use mathlib.Core.List.{[], _∷_}
 use Rattle.crc32_spec.specs.Crc.{crc, run, step, bits, bit}
 
 empty : crc [] ≡ 0

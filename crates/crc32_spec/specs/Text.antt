@@ -1,6 +1,6 @@
 -- The state of a text in terms of its parts: a text is one number, and its state that number moved; a joined text's state comes from its parts' states and lengths.
 -- Assumes nothing.
-use mathlib.Core.Path.{_≡_, refl, sym, ap, ap₂, _∙_, subst}
+use mathlib.Core.Path.{_≡_, refl, sym, ap, _∙_, subst}
 use mathlib.Core.List.{List, [], _∷_, _++_}
 use Prim.Native.Nat.{ℕ, zero, suc, _+_, _*_, _/_, _%_, _^_, _<_}
 use native.Mathlib.Nat.{add-assoc, add-comm, add-mul, add-zero, mul-assoc, mul-one, mul-suc, lt-of-le-of-lt, div-le-self, mod-eq-of-lt}
@@ -74,6 +74,12 @@ run-word (b ∷ bs) s h =
 pub whole-word : (n s w : ℕ) → w < 2 ^ (8 * n) → bits (8 * n) (bitXor s (w % 2 ^ (8 * n))) ≡ bits (8 * n) (bitXor s w)
 whole-word n s w h = ap (λ (x : ℕ). bits (8 * n) (bitXor s x)) (mod-eq-of-lt h)
 
+-- .. so that the text's number on a state gives the state after the text
+pub run-absorbed : (bs : List ℕ) (s w : ℕ) → Bytes bs → w ≡ word bs → bits (8 * length bs) (bitXor s (w % 2 ^ (8 * length bs))) ≡ run s bs
+run-absorbed bs s w h e =
+    ap (λ (x : ℕ). bits (8 * length bs) (bitXor s (x % 2 ^ (8 * length bs)))) e
+    ∙ whole-word (length bs) s (word bs) (word-lt bs h) ∙ sym (run-word bs s h)
+
 pub run-append : (xs ys : List ℕ) (s : ℕ) → run s (xs ++ ys) ≡ run (run s xs) ys
 unfolding run
 run-append [] ys s = refl
@@ -88,9 +94,13 @@ run-xor (y ∷ ys) s t =
     ∙ run-xor ys (bits 8 s) (bits 8 (bitXor t y))
     ∙ ap (λ (x : ℕ). bitXor x (run (bits 8 (bitXor t y)) ys)) (bits-byte (length ys) s)
 
--- the state after a joined text, from the state after its first part and the second part's own, from 0
+-- the state after a text, from its own, which is from 0
+pub run-from : (ys : List ℕ) (s : ℕ) → run s ys ≡ bitXor (bits (8 * length ys) s) (run 0 ys)
+run-from ys s = ap (λ (x : ℕ). run x ys) (sym (xor-zero-r s)) ∙ run-xor ys s 0
+
+-- the state after a joined text, from the state after its first part and the second part's own
 pub run-pieces : (xs ys : List ℕ) (s : ℕ) → run s (xs ++ ys) ≡ bitXor (bits (8 * length ys) (run s xs)) (run 0 ys)
-run-pieces xs ys s = run-append xs ys s ∙ ap (λ (x : ℕ). run x ys) (sym (xor-zero-r (run s xs))) ∙ run-xor ys (run s xs) 0
+run-pieces xs ys s = run-append xs ys s ∙ run-from ys (run s xs)
 
 -- the state of a text with one more byte in front
 pub run-front : (b : ℕ) (bs : List ℕ) → run 0 (b ∷ bs) ≡ bitXor (bits (8 * suc (length bs)) b) (run 0 bs)

@@ -1,7 +1,6 @@
 -- `crc32::text::tail` meets its contract: what is left is one word, the upper bytes of the text's last eight where it has eight.
 -- Assumes nothing.
 use borrow.Author.Needs.{needs}
-use mathlib.Core.Path.{sym}
 use native.Mathlib.Omega.{arith}
 use Rattle.crc32.proofs.Texts.{at-end, last-absorbed, last-load}
 use Rattle.crc32.proofs.text.tail.Statement.{statement}

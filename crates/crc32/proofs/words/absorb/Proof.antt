@@ -1,6 +1,6 @@
 -- `crc32::words::absorb` meets its contract: fewer than four bytes are in the lower half, up to eight in both, and more are eight and then bytes that are 0.
 -- Assumes nothing.
-use Prim.Native.Nat.{_*_, _-_, _%_, _^_}
+use Prim.Native.Nat.{_*_, _-_}
 use borrow.Author.Needs.{needs}
 use lib.Bits.{bitXor}
 use mathlib.Core.Path.{ap, _∙_}
@@ -30,6 +30,7 @@ absorb-spec =
     tie.close
     (tie.spec
     (λ c κs. search needs)
+    (λ c. search needs)
     (λ c κs. search needs)
     returns
     (λ c κs. search needs)

@@ -1,0 +1,37 @@
+-- `json_tokens::is_plain_word` meets its contract: it is the test of the definition, and no byte of a sum goes past 255, so that no sum goes past 64 bits.
+-- Assumes nothing.
+use borrow.Author.Tests.{eq-eqb, ne-eqb}
+use lib.Bits.{and-le-r, bitAnd, xor-lt}
+use mathlib.Core.Path.{sym}
+use native.Mathlib.Omega.{arith}
+use Rattle.json_tokens.specs.Words.{plainWord}
+use Rattle.json_tokens.proofs.is_plain_word.Statement.{statement}
+use Rattle.json_tokens.proofs.is_plain_word.Tie as tie
+
+add-above : tie.Need-add-above
+add-above c =
+    let x = c .args .x in
+    omega (arith, and-le-r x 9187201950435737471)
+
+add-no-quote : tie.Need-add-no-quote
+add-no-quote c =
+    let x = c .args .x in
+    let y = and-le-r x 9187201950435737471 in
+    omega (arith, xor-lt 63 (bitAnd x 9187201950435737471) 2459565876494606882 (omega arith) (omega arith))
+
+add-no-backslash : tie.Need-add-no-backslash
+add-no-backslash c =
+    let x = c .args .x in
+    let y = and-le-r x 9187201950435737471 in
+    omega (arith, xor-lt 63 (bitAnd x 9187201950435737471) 6655295901103053916 (omega arith) (omega arith))
+
+returns : tie.Need-returns
+unfolding plainWord
+returns c = sym (eq-eqb _ _ (c .if1 .taken))
+
+returns-2 : tie.Need-returns-2
+unfolding plainWord
+returns-2 c = sym (ne-eqb _ _ (c .if1 .left))
+
+pub is-plain-word-spec : {M : Type 1} → statement M
+is-plain-word-spec = tie.close (tie.spec add-above add-no-quote add-no-backslash returns returns-2)

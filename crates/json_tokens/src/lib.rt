@@ -1,0 +1,476 @@
+// The tokens of JSON (RFC 8259) in a slice of bytes, with no copy: blanks, structural characters,
+// strings, numbers and literal names. Each function says where the token that begins at `at` ends.
+//
+// An end is a plain number, and 0 says that no such token begins there: a token has a byte at
+// least, so none ends at 0. Any position may be asked for; past the end of the slice no token
+// begins. Above this crate stands `json`, which makes values of the tokens.
+//
+// Example: in the text `{"a":-1.5}` the string that begins at 1 ends at 4 (`string_end(s, 1) == 4`), the
+// colon past it at 5 (`colon_end(s, 4) == 5`), and the number there at 9 (`number_end(s, 5) == 9`).
+ghost use mathlib.Core.Path.{_≡_};
+ghost use Prim.Native.Nat.{_+_, _≤_, _<_};
+ghost use lib.ListN.{length};
+ghost use Rattle.json_tokens.specs.Bytes.{byteAt, comma, colon, closeArray, closeObject, blank, digit, hexDigit, escaped, unescaped};
+ghost use Rattle.json_tokens.specs.Tokens.{endOf, blanks, digits, someDigits, closing, separator, stringRest, string, fourHex, minus, sign, int, fraction, exponent, number, word, scalar, ended};
+ghost use Rattle.json_tokens.specs.Words.{plain, twoAt, fourAt, wordAt, plainWord};
+
+pub const QUOTE: u8 = 34;
+
+pub const BACKSLASH: u8 = 92;
+
+pub const COMMA: u8 = 44;
+
+pub const COLON: u8 = 58;
+
+pub const OPEN_ARRAY: u8 = 91;
+
+pub const CLOSE_ARRAY: u8 = 93;
+
+pub const OPEN_OBJECT: u8 = 123;
+
+pub const CLOSE_OBJECT: u8 = 125;
+
+// The byte at i, and 0 past the end.
+pub fn byte_at(s: &[u8], i: usize) -> u8
+    ensures { λ r. ⌜ r ≡ byteAt (now (s .entry)) i ⌝ }
+{
+    if i < s.len() { s[i] } else { 0 }
+}
+
+fn is_blank(c: u8) -> bool
+    ensures { λ r. ⌜ r ≡ blank c ⌝ }
+{
+    if 32 < c {
+        false
+    } else if c == 32 {
+        true
+    } else if c == 9 {
+        true
+    } else if c == 10 {
+        true
+    } else if c == 13 {
+        true
+    } else {
+        false
+    }
+}
+
+// Whether c is one of the digits 0 to 9.
+pub fn is_digit(c: u8) -> bool
+    ensures { λ r. ⌜ r ≡ digit c ⌝ }
+{
+    if c < 48 {
+        false
+    } else if 57 < c {
+        false
+    } else {
+        true
+    }
+}
+
+fn is_hex(c: u8) -> bool
+    ensures { λ r. ⌜ r ≡ hexDigit c ⌝ }
+{
+    if c < 48 {
+        false
+    } else if c <= 57 {
+        true
+    } else if c < 65 {
+        false
+    } else if c <= 70 {
+        true
+    } else if c < 97 {
+        false
+    } else if c <= 102 {
+        true
+    } else {
+        false
+    }
+}
+
+// Whether c ends a two-character escape.
+fn is_escaped(c: u8) -> bool
+    ensures { λ r. ⌜ r ≡ escaped c ⌝ }
+{
+    if c == QUOTE {
+        true
+    } else if c == BACKSLASH {
+        true
+    } else if c == 47 {
+        true
+    } else if c == 98 {
+        true
+    } else if c == 102 {
+        true
+    } else if c == 110 {
+        true
+    } else if c == 114 {
+        true
+    } else if c == 116 {
+        true
+    } else {
+        false
+    }
+}
+
+// The position past the blanks that begin at `at`, of which there may be none.
+pub fn skip_blanks(s: &[u8], at: usize) -> usize
+    ensures { λ r. ⌜ r ≡ blanks (now (s .entry)) at ⌝ }
+{
+    let mut i = at;
+    while is_blank(byte_at(s, i)) {
+        i += 1;
+    }
+    i
+}
+
+// Whether nothing but blanks stands from `at` to the end of the text.
+pub fn is_ended(s: &[u8], at: usize) -> bool
+    ensures { λ r. ⌜ r ≡ ended (now (s .entry)) at ⌝ }
+{
+    if skip_blanks(s, at) == s.len() {
+        true
+    } else {
+        false
+    }
+}
+
+// Past the blanks and the byte `close`.
+fn closing_end(s: &[u8], at: usize, close: u8) -> usize
+    requires { ⌜ 0 < close ⌝ }
+    ensures { λ r. ⌜ r ≡ endOf (closing close (now (s .entry)) at) ⌝ }
+{
+    let k = skip_blanks(s, at);
+    if byte_at(s, k) == close { k + 1 } else { 0 }
+}
+
+// Past the bracket that closes an array, with the blanks before it.
+pub fn array_close_end(s: &[u8], at: usize) -> usize
+    ensures { λ r. ⌜ r ≡ endOf (closing closeArray (now (s .entry)) at) ⌝ }
+{
+    closing_end(s, at, CLOSE_ARRAY)
+}
+
+// Past the brace that closes an object, with the blanks before it.
+pub fn object_close_end(s: &[u8], at: usize) -> usize
+    ensures { λ r. ⌜ r ≡ endOf (closing closeObject (now (s .entry)) at) ⌝ }
+{
+    closing_end(s, at, CLOSE_OBJECT)
+}
+
+// Past the blanks, the byte `byte` and the blanks past it.
+fn separator_end(s: &[u8], at: usize, byte: u8) -> usize
+    requires { ⌜ 0 < byte ⌝ }
+    ensures { λ r. ⌜ r ≡ endOf (separator byte (now (s .entry)) at) ⌝ }
+{
+    let k = skip_blanks(s, at);
+    if byte_at(s, k) == byte {
+        skip_blanks(s, k + 1)
+    } else {
+        0
+    }
+}
+
+// Past the comma between two items, with the blanks on both sides: where the next item begins.
+pub fn comma_end(s: &[u8], at: usize) -> usize
+    ensures { λ r. ⌜ r ≡ endOf (separator comma (now (s .entry)) at) ⌝ }
+{
+    separator_end(s, at, COMMA)
+}
+
+// Past the colon of a member, with the blanks on both sides: where its value begins.
+pub fn colon_end(s: &[u8], at: usize) -> usize
+    ensures { λ r. ⌜ r ≡ endOf (separator colon (now (s .entry)) at) ⌝ }
+{
+    separator_end(s, at, COLON)
+}
+
+// Whether four hex digits stand at i.
+fn is_four_hex(s: &[u8], i: usize) -> bool
+    ensures { λ r. ⌜ r ≡ fourHex (now (s .entry)) i ⌝ }
+{
+    if is_hex(byte_at(s, i)) {
+        if is_hex(byte_at(s, i + 1)) {
+            if is_hex(byte_at(s, i + 2)) {
+                is_hex(byte_at(s, i + 3))
+            } else {
+                false
+            }
+        } else {
+            false
+        }
+    } else {
+        false
+    }
+}
+
+// Whether c stands for itself in a string.
+fn is_unescaped(c: u8) -> bool
+    ensures { λ r. ⌜ r ≡ unescaped c ⌝ }
+{
+    if c < 32 {
+        false
+    } else if c == QUOTE {
+        false
+    } else if c == BACKSLASH {
+        false
+    } else {
+        true
+    }
+}
+
+fn wide(x: u8) -> u64
+    ensures { λ r. ⌜ r ≡ x ⌝ }
+{
+    x as u64
+}
+
+// Two bytes from i on as one number, and then four and eight: together a single load.
+fn two_at(s: &[u8], i: usize) -> u64
+    requires { ⌜ i + 2 ≤ length (now s) ⌝ }
+    ensures { λ r. ⌜ (r ≡ twoAt (now (s .entry)) i) × (r < 65536) ⌝ }
+{
+    wide(s[i]) + wide(s[i + 1]) * 256
+}
+
+fn four_at(s: &[u8], i: usize) -> u64
+    requires { ⌜ i + 4 ≤ length (now s) ⌝ }
+    ensures { λ r. ⌜ (r ≡ fourAt (now (s .entry)) i) × (r < 4294967296) ⌝ }
+{
+    two_at(s, i) + two_at(s, i + 2) * 65536
+}
+
+fn word_at(s: &[u8], i: usize) -> u64
+    requires { ⌜ i + 8 ≤ length (now s) ⌝ }
+    ensures { λ r. ⌜ r ≡ wordAt (now (s .entry)) i ⌝ }
+{
+    four_at(s, i) + four_at(s, i + 4) * 4294967296
+}
+
+// Eight times the byte 127, 128, 96, a quote, a backslash.
+const LOW: u64 = 9187201950435737471;
+
+const HIGH: u64 = 9259542123273814144;
+
+const GAP: u64 = 6944656592455360608;
+
+const QUOTES: u64 = 2459565876494606882;
+
+const BACKSLASHES: u64 = 6655295901103053916;
+
+// Whether each of the eight bytes of x stands for itself in a string.
+fn is_plain_word(x: u64) -> bool
+    ensures { λ r. ⌜ r ≡ plainWord x ⌝ }
+{
+    let low = x & LOW;
+    let above = low + GAP;
+    let no_quote = (low ^ QUOTES) + LOW;
+    let no_backslash = (low ^ BACKSLASHES) + LOW;
+    if (((above & no_quote & no_backslash) | x) & HIGH) == HIGH {
+        true
+    } else {
+        false
+    }
+}
+
+// Past bytes that stand for themselves, eight at a time, up to eight that do not all.
+fn skip_plain_words(s: &[u8], at: usize) -> usize
+    ensures { λ r. ⌜ plain (now (s .entry)) r ≡ plain (now (s .entry)) at ⌝ }
+{
+    let mut i = at;
+    loop {
+        if s.len() < 8 {
+            return i;
+        }
+        if s.len() - 8 < i {
+            return i;
+        }
+        if is_plain_word(word_at(s, i)) {
+            i += 8;
+        } else {
+            return i;
+        }
+    }
+}
+
+// Past the bytes that stand for themselves, of which there may be none.
+fn skip_plain(s: &[u8], at: usize) -> usize
+    ensures { λ r. ⌜ r ≡ plain (now (s .entry)) at ⌝ }
+{
+    let mut i = skip_plain_words(s, at);
+    while is_unescaped(byte_at(s, i)) {
+        i += 1;
+    }
+    i
+}
+
+// Past a string, from past its first quote.
+fn string_rest_end(s: &[u8], at: usize) -> usize
+    ensures { λ r. ⌜ r ≡ endOf (stringRest (now (s .entry)) at) ⌝ }
+{
+    let mut i = at;
+    loop {
+        let k = skip_plain(s, i);
+        let c = byte_at(s, k);
+        if c == QUOTE {
+            return k + 1;
+        }
+        if c != BACKSLASH {
+            return 0;
+        }
+        let d = byte_at(s, k + 1);
+        if d == 117 {
+            if is_four_hex(s, k + 2) {
+                i = k + 6;
+            } else {
+                return 0;
+            }
+        } else {
+            if is_escaped(d) {
+                i = k + 2;
+            } else {
+                return 0;
+            }
+        }
+    }
+}
+
+// Past a string, quotes included.
+pub fn string_end(s: &[u8], at: usize) -> usize
+    ensures { λ r. ⌜ r ≡ endOf (string (now (s .entry)) at) ⌝ }
+{
+    if byte_at(s, at) == QUOTE {
+        string_rest_end(s, at + 1)
+    } else {
+        0
+    }
+}
+
+fn skip_digits(s: &[u8], at: usize) -> usize
+    ensures { λ r. ⌜ r ≡ digits (now (s .entry)) at ⌝ }
+{
+    let mut i = at;
+    while is_digit(byte_at(s, i)) {
+        i += 1;
+    }
+    i
+}
+
+// Past one digit or more.
+fn some_digits_end(s: &[u8], at: usize) -> usize
+    ensures { λ r. ⌜ r ≡ endOf (someDigits (now (s .entry)) at) ⌝ }
+{
+    if is_digit(byte_at(s, at)) {
+        skip_digits(s, at)
+    } else {
+        0
+    }
+}
+
+// Past a minus sign, if one stands there.
+fn skip_minus(s: &[u8], at: usize) -> usize
+    ensures { λ r. ⌜ r ≡ minus (now (s .entry)) at ⌝ }
+{
+    if byte_at(s, at) == 45 { at + 1 } else { at }
+}
+
+// Past a plus or a minus sign, if one stands there.
+fn skip_sign(s: &[u8], at: usize) -> usize
+    ensures { λ r. ⌜ r ≡ sign (now (s .entry)) at ⌝ }
+{
+    let c = byte_at(s, at);
+    if c == 43 {
+        at + 1
+    } else if c == 45 {
+        at + 1
+    } else {
+        at
+    }
+}
+
+fn int_end(s: &[u8], at: usize) -> usize
+    ensures { λ r. ⌜ r ≡ endOf (int (now (s .entry)) at) ⌝ }
+{
+    if byte_at(s, at) == 48 {
+        at + 1
+    } else {
+        some_digits_end(s, at)
+    }
+}
+
+// Past a fraction, if one stands there: `at` itself if not, 0 if its digits are missing.
+fn fraction_end(s: &[u8], at: usize) -> usize
+    ensures { λ r. ⌜ r ≡ endOf (fraction (now (s .entry)) at) ⌝ }
+{
+    if byte_at(s, at) == 46 {
+        some_digits_end(s, at + 1)
+    } else {
+        at
+    }
+}
+
+// Past an exponent, if one stands there: `at` itself if not, 0 if its digits are missing.
+fn exponent_end(s: &[u8], at: usize) -> usize
+    ensures { λ r. ⌜ r ≡ endOf (exponent (now (s .entry)) at) ⌝ }
+{
+    let c = byte_at(s, at);
+    if c == 101 {
+        some_digits_end(s, skip_sign(s, at + 1))
+    } else if c == 69 {
+        some_digits_end(s, skip_sign(s, at + 1))
+    } else {
+        at
+    }
+}
+
+// Past a number.
+pub fn number_end(s: &[u8], at: usize) -> usize
+    ensures { λ r. ⌜ r ≡ endOf (number (now (s .entry)) at) ⌝ }
+{
+    let j = int_end(s, skip_minus(s, at));
+    if j == 0 {
+        return 0;
+    }
+    let k = fraction_end(s, j);
+    if k == 0 {
+        return 0;
+    }
+    exponent_end(s, k)
+}
+
+// Past the bytes of w.
+pub fn word_end(s: &[u8], at: usize, w: &[u8]) -> usize
+    ensures { λ r. ⌜ r ≡ endOf (word (now (w .entry)) (now (s .entry)) at) ⌝ }
+{
+    let mut k = 0;
+    let mut i = at;
+    while k < w.len() {
+        if s.len() <= i {
+            return 0;
+        }
+        if s[i] != w[k] {
+            return 0;
+        }
+        k += 1;
+        i += 1;
+    }
+    i
+}
+
+// Past a string, a number or a literal name.
+pub fn scalar_end(s: &[u8], at: usize) -> usize
+    ensures { λ r. ⌜ r ≡ endOf (scalar (now (s .entry)) at) ⌝ }
+{
+    let c = byte_at(s, at);
+    if c == QUOTE {
+        string_end(s, at)
+    } else if c == 116 {
+        word_end(s, at, b"true")
+    } else if c == 102 {
+        word_end(s, at, b"false")
+    } else if c == 110 {
+        word_end(s, at, b"null")
+    } else {
+        number_end(s, at)
+    }
+}

@@ -1,0 +1,86 @@
+-- `json_vectors::elements` is safe and ends: it counts its turns down.
+-- Assumes nothing.
+use borrow.Author.Needs.{needs}
+use Rattle.json_vectors.proofs.elements.Statement.{statement}
+use Rattle.json_vectors.proofs.elements.Tie as tie
+
+abbrev Inv-loop : tie.InvT-loop
+Inv-loop s cursor₀ turns₀ t8 cursor turns = Unit {0}
+
+abbrev μ-loop : tie.MeasureT-loop
+μ-loop s cursor₀ turns₀ t8 cursor turns = turns
+
+sub-start : tie.Need-sub-start Inv-loop μ-loop
+sub-start c = search needs
+
+start-requires : tie.Need-start-requires Inv-loop μ-loop
+start-requires c κs = search needs
+
+loop-holds : tie.Need-loop-holds Inv-loop μ-loop
+loop-holds c = search needs
+
+sub-turns : tie.Need-sub-turns Inv-loop μ-loop
+sub-turns c = search needs
+
+next-element-requires : tie.Need-next-element-requires Inv-loop μ-loop
+next-element-requires c κs = search needs
+
+enum-known-from : tie.Need-enum-known-from Inv-loop μ-loop
+enum-known-from c = search needs
+
+item-requires : tie.Need-item-requires Inv-loop μ-loop
+item-requires c κs = search needs
+
+loop-less : tie.Need-loop-less Inv-loop μ-loop
+loop-less c = search needs
+
+loop-again : tie.Need-loop-again Inv-loop μ-loop
+loop-again c = search needs
+
+enum-known-e : tie.Need-enum-known-e Inv-loop μ-loop
+enum-known-e c = search needs
+
+end-requires : tie.Need-end-requires Inv-loop μ-loop
+end-requires c κs = search needs
+
+returns : tie.Need-returns Inv-loop μ-loop
+returns c = search needs
+
+enum-told : tie.Need-enum-told Inv-loop μ-loop
+enum-told c = search needs
+
+slice-aggregate-write : tie.Need-slice-aggregate-write Inv-loop μ-loop
+slice-aggregate-write c = search needs
+
+write-requires : tie.Need-write-requires Inv-loop μ-loop
+write-requires c κs = search needs
+
+returns-2 : tie.Need-returns-2 Inv-loop μ-loop
+returns-2 c = search needs
+
+returns-3 : tie.Need-returns-3 Inv-loop μ-loop
+returns-3 c = search needs
+
+pub elements-spec : {M : Type 1} → statement M
+elements-spec =
+    tie.close
+    (tie.spec
+    Inv-loop
+    μ-loop
+    sub-start
+    start-requires
+    loop-holds
+    sub-turns
+    next-element-requires
+    enum-known-from
+    item-requires
+    loop-less
+    loop-again
+    enum-known-e
+    end-requires
+    returns
+    enum-told
+    slice-aggregate-write
+    write-requires
+    returns-2
+    returns-3)

@@ -15,7 +15,7 @@ use Rattle.decimal.specs.Tail.{remaining, remainingOf}
 use Rattle.decimal.specs.declared.Tail.{Tail}
 use Rattle.decimal.specs.declared.Part.{Part}
 use Rattle.decimal.specs.declared.Part.the-variants.{Fraction, Units, Higher}
-use Rattle.decimal.proofs.Digits.{Digits, none, one, digit-in, digits-append, fixed-digits, significant-digits, written-digits, div-tens, length-fixed, significant-zero, significant-step, written-positive, first-significant, length-written, tens}
+use Rattle.decimal.proofs.Digits.{Digits, none, one, digit-in, digits-append, fixed-digits, significant-digits, written-digits, div-tens, length-fixed, significant-zero, significant-step, written-positive, first-significant, length-significant, length-written, tens}
 
 -- ---- the bytes that are still to come, less the last
 
@@ -230,5 +230,12 @@ length-text n w =
     let b : length (afterPoint (n .decimals) (n .digits)) ≤ n .decimals + 1 = length-after (n .decimals) (n .digits) in
     let e : length (written (n .digits / 10 ^ n .decimals) ++ afterPoint (n .decimals) (n .digits)) ≡ length (written (n .digits / 10 ^ n .decimals)) + length (afterPoint (n .decimals) (n .digits)) =
     length-append (written (n .digits / 10 ^ n .decimals)) (afterPoint (n .decimals) (n .digits)) in
+    let f : n .decimals ≤ maxDecimals = w .few in
+    omega arith
+
+pub length-stripped : (n : Number) → Within n → length (stripped n) ≤ maxWhole + maxDecimals
+length-stripped n w =
+    let a : length (significant (n .digits)) ≤ maxWhole + n .decimals = length-significant (maxWhole + n .decimals) (n .digits) (w .low) in
+    let b : length (stripped n) ≡ length (significant (n .digits)) = ap length (stripped-digits n) in
     let f : n .decimals ≤ maxDecimals = w .few in
     omega arith

@@ -1,0 +1,2 @@
+-- Laws of the checksum text, and of the state after the pieces of levels.
+pub mod Pieces

@@ -1,0 +1,339 @@
+-- Laws of the state after the pieces of levels: it is that of their joined text, and the text of a book is such a joined text. Assumes nothing.
+use mathlib.Core.Path.{_≡_, refl, sym, ap, ap₂, _∙_, subst}
+use mathlib.Core.List.{List, [], _∷_, _++_, map, append-assoc, append-nil}
+use Prim.Native.Nat.{ℕ, zero, suc, _+_, _-_, _*_, _^_, _≤_, _<_, min, zero-le}
+use native.Mathlib.Nat.{mul-add, add-comm, le-of-suc-le-suc, not-suc-le-zero, zero-lt-suc}
+use native.Mathlib.Omega.{arith}
+use native.Mathlib.Numerals.{add-one}
+use lib.Bits.{bitXor, xor-comm}
+use lib.ListN.{length, getD, take, drop, length-map, length-append, drop-of-length-le}
+use lib.Seq.{take-nil, take-take, drop-cons, getD-take, length-take-le}
+use Rattle.decimal.specs.Decimal.{Number, number, Within, text, stripped}
+use Rattle.decimal.specs.declared.Decimal.{Decimal}
+use Rattle.decimal.proofs.Text.{length-text, length-stripped}
+use Rattle.crc32_spec.specs.Crc.{bits, step, run, start, finish, crc, bit}
+use Rattle.crc32_spec.specs.Laws.{xor-assoc, bits-xor, bits-add}
+use Rattle.crc32_spec.specs.Text.{run-append, run-from}
+use Rattle.piece.specs.Piece.{kPiece, mPiece, SumsTo}
+use Rattle.piece.specs.declared.Piece.{Piece}
+use Rattle.side.specs.Level.{PriceLevel, levelPrice, levelSize, shown}
+use Rattle.side.specs.Side.{All}
+use Rattle.side.specs.declared.Level.{Level}
+use Rattle.checksum.specs.Text.{joined, kLevel, kText, kLevels, kChecksum, mLevel, interleaved, colonJoined, mText, mLevels, mChecksum, colon}
+use Rattle.checksum.specs.Carried.{Carries, Made, MadeOf, summed}
+
+-- ---- a level that was made carries its piece
+
+pub made-carries : (piece : Number → Number → List ℕ) (price size : Decimal) {p : Piece} {level : Level} →
+    SumsTo (piece (number price) (number size)) p → MadeOf price size p level → Made piece price size level
+unfolding shown
+made-carries piece price size {p} {level} h m = record {
+  shows = m .shows;
+  carries = record {
+    sum = m .sum ∙ h .sum ∙ ap (run 0) same;
+    long = m .long ∙ h .long ∙ ap length same;
+  };
+}
+  where
+    same : piece (number price) (number size) ≡ piece (levelPrice level) (levelSize level)
+    same = sym (ap (λ (l : PriceLevel). piece (l .price) (l .size)) (m .shows))
+
+-- ---- the state after the pieces of levels
+
+module _ (piece : Number → Number → List ℕ) where
+  -- the piece of a level as it is shown
+  abbrev pub pieceOf : PriceLevel → List ℕ
+  pieceOf l = piece (l .price) (l .size)
+
+  pub summed-run : (levels : List Level) (s : ℕ) → All (Carries piece) levels → summed s levels ≡ run s (joined (map pieceOf (map shown levels)))
+  unfolding summed joined run All shown
+  summed-run [] s h = refl
+  summed-run (l ∷ levels) s h =
+      summed-run levels (bitXor (bits (8 * l .length) s) (l .sum)) (h .1)
+      ∙ ap (λ (x : ℕ). run x (joined (map pieceOf (map shown levels))))
+      (ap₂ (λ (n x : ℕ). bitXor (bits (8 * n) s) x) (h .0 .long) (h .0 .sum) ∙ sym (run-from (piece (levelPrice l) (levelSize l)) s))
+      ∙ sym (run-append (piece (levelPrice l) (levelSize l)) (joined (map pieceOf (map shown levels))) s)
+
+pub summed-append : (xs ys : List Level) (s : ℕ) → summed s (xs ++ ys) ≡ summed (summed s xs) ys
+unfolding summed
+summed-append [] ys s = refl
+summed-append (x ∷ xs) ys s = summed-append xs ys (bitXor (bits (8 * x .length) s) (x .sum))
+
+-- two pieces put together first
+pub summed-pair : (bid ask : Level) (s : ℕ) →
+    bitXor (bits (8 * (bid .length + ask .length)) s) (bitXor (bits (8 * ask .length) (bid .sum)) (ask .sum)) ≡ summed s (bid ∷ (ask ∷ []))
+unfolding summed
+summed-pair bid ask s =
+    sym (xor-assoc (bits (8 * (bid .length + ask .length)) s) (bits (8 * ask .length) (bid .sum)) (ask .sum))
+    ∙ ap (λ (x : ℕ). bitXor x (ask .sum))
+    (ap (λ (x : ℕ). bitXor x (bits (8 * ask .length) (bid .sum)))
+    (ap (λ (n : ℕ). bits n s) (mul-add 8 (bid .length) (ask .length)) ∙ bits-add (8 * bid .length) (8 * ask .length) s)
+    ∙ sym (bits-xor (8 * ask .length) (bits (8 * bid .length) s) (bid .sum)))
+
+-- ---- the levels of a side, one more at a time, and two sides in turn
+
+module _ {A : Type 0} where
+  -- one pair more at the end
+  pub interleaved-more : (n : ℕ) (xs ys : List A) (d : A) → n < length xs → n < length ys →
+      interleaved (suc n) xs ys ≡ interleaved n xs ys ++ (getD xs n d ∷ (getD ys n d ∷ []))
+  unfolding interleaved
+  interleaved-more n [] ys d p q = absurd (not-suc-le-zero p)
+  interleaved-more n (x ∷ xs) [] d p q = absurd (not-suc-le-zero q)
+  interleaved-more zero (x ∷ xs) (y ∷ ys) d p q = refl
+  interleaved-more (suc n) (x ∷ xs) (y ∷ ys) d p q =
+      ap (λ (l : List A). x ∷ (y ∷ l)) (interleaved-more n xs ys d (le-of-suc-le-suc p) (le-of-suc-le-suc q))
+
+  -- the first n alone, whatever follows them
+  pub interleaved-take : (n : ℕ) (xs ys : List A) → interleaved n (take n xs) (take n ys) ≡ interleaved n xs ys
+  unfolding interleaved
+  interleaved-take zero xs ys = refl
+  interleaved-take (suc n) [] [] = ap₂ (λ (a b : List A). interleaved n a b) (sym (take-nil n)) (sym (take-nil n)) ∙ interleaved-take n [] []
+  interleaved-take (suc n) [] (y ∷ ys) = ap (λ (l : List A). y ∷ l) (ap (λ (a : List A). interleaved n a (take n ys)) (sym (take-nil n)) ∙ interleaved-take n [] ys)
+  interleaved-take (suc n) (x ∷ xs) [] = ap (λ (l : List A). x ∷ l) (ap (λ (a : List A). interleaved n (take n xs) a) (sym (take-nil n)) ∙ interleaved-take n xs [])
+  interleaved-take (suc n) (x ∷ xs) (y ∷ ys) = ap (λ (l : List A). x ∷ (y ∷ l)) (interleaved-take n xs ys)
+
+  pub none-left : (n : ℕ) → _≡_ {A = List A} (interleaved n [] []) []
+  unfolding interleaved
+  none-left zero = refl
+  none-left (suc n) = none-left n
+
+  left-only : (n : ℕ) (xs : List A) → length xs ≤ n → interleaved n xs [] ≡ xs
+  unfolding interleaved
+  left-only zero [] h = refl
+  left-only zero (x ∷ xs) h = absurd (not-suc-le-zero h)
+  left-only (suc n) [] h = none-left n
+  left-only (suc n) (x ∷ xs) h = ap (λ (l : List A). x ∷ l) (left-only n xs (le-of-suc-le-suc h))
+
+  right-only : (n : ℕ) (ys : List A) → length ys ≤ n → interleaved n [] ys ≡ ys
+  unfolding interleaved
+  right-only zero [] h = refl
+  right-only zero (y ∷ ys) h = absurd (not-suc-le-zero h)
+  right-only (suc n) [] h = none-left n
+  right-only (suc n) (y ∷ ys) h = ap (λ (l : List A). y ∷ l) (right-only n ys (le-of-suc-le-suc h))
+
+  -- all of two sides: those that both have, in turn, then what one has more
+  pub interleaved-all : (n k : ℕ) (xs ys : List A) → length xs ≤ n → length ys ≤ n → k ≡ min (length xs) (length ys) →
+      interleaved n xs ys ≡ interleaved k xs ys ++ (drop k xs ++ drop k ys)
+  unfolding interleaved
+  interleaved-all n k [] ys hx hy e =
+      right-only n ys hy
+      ∙ sym (ap (λ (j : ℕ). interleaved j [] ys ++ (drop j [] ++ drop j ys)) none)
+    where
+      none : k ≡ 0
+      none = omega arith
+  interleaved-all n k (x ∷ xs) [] hx hy e =
+      left-only n (x ∷ xs) hx
+      ∙ sym (ap (λ (j : ℕ). interleaved j (x ∷ xs) [] ++ (drop j (x ∷ xs) ++ drop j [])) none ∙ append-nil (x ∷ xs))
+    where
+      none : k ≡ 0
+      none = omega arith
+  interleaved-all zero k (x ∷ xs) (y ∷ ys) hx hy e = absurd (not-suc-le-zero hx)
+  interleaved-all (suc n) zero (x ∷ xs) (y ∷ ys) hx hy e = absurd (some e)
+    where
+      some : 0 ≡ min (suc (length xs)) (suc (length ys)) → ⊥
+      some q = omega arith
+  interleaved-all (suc n) (suc k) (x ∷ xs) (y ∷ ys) hx hy e =
+      ap (λ (l : List A). x ∷ (y ∷ l)) (interleaved-all n k xs ys (le-of-suc-le-suc hx) (le-of-suc-le-suc hy) (omega arith))
+
+-- ---- a turn of the loops that sum
+
+-- what stands past the end of an array of levels
+abbrev pub nowhere : Level
+nowhere = record { price = 0; size = 0; sum = 0; length = 0; «price_decimals» = 0; «size_decimals» = 0 }
+
+level-left : (items : List Level) (i to : ℕ) → i < to → to ≤ length items → drop i (take to items) ≡ getD items i nowhere ∷ drop (i + 1) (take to items)
+level-left items i to l h =
+    let n : length (take to items) ≡ to = length-take-le to items h in
+    drop-cons (take to items) i nowhere (omega arith)
+    ∙ ap₂ (λ (x : Level) (k : ℕ). x ∷ drop k (take to items)) (getD-take to items i nowhere l) (sym (add-one i))
+
+pub summed-turn : (items : List Level) (i to s r : ℕ) → i < to → to ≤ length items →
+    r ≡ bitXor (bits (8 * getD items i nowhere .length) s) (getD items i nowhere .sum) → summed r (drop (i + 1) (take to items)) ≡ summed s (drop i (take to items))
+unfolding summed
+summed-turn items i to s r l h e =
+    ap (λ (x : ℕ). summed x (drop (i + 1) (take to items))) e ∙ sym (ap (summed s) (level-left items i to l h))
+
+pub summed-done : (items : List Level) (i to s : ℕ) → to ≤ i → to ≤ length items → summed s (drop i (take to items)) ≡ s
+unfolding summed
+summed-done items i to s l h =
+    let n : length (take to items) ≡ to = length-take-le to items h in
+    ap (summed s) (drop-of-length-le (take to items) {i = i} (omega arith))
+
+pub pairs-turn : (bids asks : List Level) (i n s r p : ℕ) → i < n → n ≤ length bids → n ≤ length asks →
+    p ≡ bitXor (bits (8 * getD asks i nowhere .length) (getD bids i nowhere .sum)) (getD asks i nowhere .sum) →
+    r ≡ bitXor (bits (8 * (getD bids i nowhere .length + getD asks i nowhere .length)) s) p →
+    summed r (interleaved (n - (i + 1)) (drop (i + 1) (take n bids)) (drop (i + 1) (take n asks)))
+    ≡ summed s (interleaved (n - i) (drop i (take n bids)) (drop i (take n asks)))
+unfolding summed interleaved
+pairs-turn bids asks i n s r p l hb ha e f =
+    let k : n - i ≡ suc (n - (i + 1)) = omega arith in
+    ap (λ (x : ℕ). summed x (interleaved (n - (i + 1)) (drop (i + 1) (take n bids)) (drop (i + 1) (take n asks))))
+    (f ∙ ap (bitXor (bits (8 * (getD bids i nowhere .length + getD asks i nowhere .length)) s)) e ∙ summed-pair (getD bids i nowhere) (getD asks i nowhere) s)
+    ∙ sym (ap (summed s)
+    (ap (λ (m : ℕ). interleaved m (drop i (take n bids)) (drop i (take n asks))) k
+    ∙ ap₂ (interleaved (suc (n - (i + 1)))) (level-left bids i n l hb) (level-left asks i n l ha)))
+
+pub pairs-done : (bids asks : List Level) (i n s : ℕ) → n ≤ i → summed s (interleaved (n - i) (drop i (take n bids)) (drop i (take n asks))) ≡ s
+unfolding summed interleaved
+pairs-done bids asks i n s l =
+    let z : n - i ≡ 0 = omega arith in
+    ap (λ (m : ℕ). summed s (interleaved m (drop i (take n bids)) (drop i (take n asks)))) z
+
+-- one of two sides has a level
+pub some-left : {A : Type 0} (n : ℕ) (xs ys : List A) → 0 < length xs → 0 < length (interleaved (suc n) xs ys)
+unfolding interleaved
+some-left n [] ys h = absurd (not-suc-le-zero h)
+some-left n (x ∷ xs) ys h = zero-lt-suc (length (take 1 ys ++ interleaved n xs (drop 1 ys)))
+
+pub some-right : {A : Type 0} (n : ℕ) (xs ys : List A) → 0 < length ys → 0 < length (interleaved (suc n) xs ys)
+unfolding interleaved
+some-right n xs [] h = absurd (not-suc-le-zero h)
+some-right n [] (y ∷ ys) h = zero-lt-suc (length (interleaved n [] ys))
+some-right n (x ∷ xs) (y ∷ ys) h = zero-lt-suc (suc (length (interleaved n xs ys)))
+
+-- ---- the length of a piece
+
+pub k-short : (price size : Number) → Within price → Within size → length (kPiece price size) < 2 ^ 16
+unfolding kPiece
+k-short price size p s =
+    let a : length (stripped price) ≤ 19 = length-stripped price p in
+    let b : length (stripped size) ≤ 19 = length-stripped size s in
+    let e : length (stripped price ++ stripped size) ≡ length (stripped price) + length (stripped size) = length-append (stripped price) (stripped size) in
+    omega arith
+
+pub m-short : (price size : Number) → Within price → Within size → length (mPiece price size) < 2 ^ 16
+unfolding mPiece
+m-short price size p s =
+    let a : length (text price) ≤ 20 = length-text price p in
+    let b : length (text size) ≤ 20 = length-text size s in
+    let e : length (text price ++ (colon ∷ text size)) ≡ length (text price) + suc (length (text size)) = length-append (text price) (colon ∷ text size) in
+    omega arith
+
+-- ---- a list mapped, and what holds of each of its elements
+
+module _ {A B : Type 0} (f : A → B) where
+  pub map-take : (n : ℕ) (xs : List A) → map f (take n xs) ≡ take n (map f xs)
+  map-take zero xs = refl
+  map-take (suc n) [] = refl
+  map-take (suc n) (x ∷ xs) = ap (λ (l : List B). f x ∷ l) (map-take n xs)
+
+  pub map-drop : (n : ℕ) (xs : List A) → map f (drop n xs) ≡ drop n (map f xs)
+  map-drop zero xs = refl
+  map-drop (suc n) [] = refl
+  map-drop (suc n) (x ∷ xs) = map-drop n xs
+
+  pub map-both : (xs ys : List A) → map f (xs ++ ys) ≡ map f xs ++ map f ys
+  map-both [] ys = refl
+  map-both (x ∷ xs) ys = ap (λ (l : List B). f x ∷ l) (map-both xs ys)
+
+  pub map-interleaved : (n : ℕ) (xs ys : List A) → map f (interleaved n xs ys) ≡ interleaved n (map f xs) (map f ys)
+  unfolding interleaved
+  map-interleaved zero xs ys = refl
+  map-interleaved (suc n) xs ys =
+      map-both (take 1 xs) (take 1 ys ++ interleaved n (drop 1 xs) (drop 1 ys))
+      ∙ ap₂ (λ (a b : List B). a ++ b) (map-take 1 xs)
+      (map-both (take 1 ys) (interleaved n (drop 1 xs) (drop 1 ys))
+      ∙ ap₂ (λ (a b : List B). a ++ b) (map-take 1 ys)
+      (map-interleaved n (drop 1 xs) (drop 1 ys) ∙ ap₂ (interleaved n) (map-drop 1 xs) (map-drop 1 ys)))
+
+module _ {A : Type 0} (P : A → Type 0) where
+  pub all-both : (xs ys : List A) → All P xs → All P ys → All P (xs ++ ys)
+  unfolding All
+  all-both [] ys h k = k
+  all-both (x ∷ xs) ys h k = (h .0, all-both xs ys (h .1) k)
+
+  pub all-take : (n : ℕ) (xs : List A) → All P xs → All P (take n xs)
+  unfolding All
+  all-take zero xs h = tt
+  all-take (suc n) [] h = tt
+  all-take (suc n) (x ∷ xs) h = (h .0, all-take n xs (h .1))
+
+  pub all-drop : (n : ℕ) (xs : List A) → All P xs → All P (drop n xs)
+  unfolding All
+  all-drop zero xs h = h
+  all-drop (suc n) [] h = tt
+  all-drop (suc n) (x ∷ xs) h = all-drop n xs (h .1)
+
+  pub all-interleaved : (n : ℕ) (xs ys : List A) → All P xs → All P ys → All P (interleaved n xs ys)
+  unfolding interleaved All
+  all-interleaved zero xs ys h k = tt
+  all-interleaved (suc n) xs ys h k =
+      all-both (take 1 xs) (take 1 ys ++ interleaved n (drop 1 xs) (drop 1 ys)) (all-take 1 xs h)
+      (all-both (take 1 ys) (interleaved n (drop 1 xs) (drop 1 ys)) (all-take 1 ys k)
+      (all-interleaved n (drop 1 xs) (drop 1 ys) (all-drop 1 xs h) (all-drop 1 ys k)))
+
+-- ---- K
+
+-- the first levels of those that are kept
+pub take-min : {A : Type 0} (n m : ℕ) (xs : List A) → take (min n m) xs ≡ take m (take n xs)
+take-min n m [] = take-nil (min n m) ∙ sym (ap (take m) (take-nil n) ∙ take-nil m)
+take-min zero m (x ∷ xs) = ap (λ (k : ℕ). take k (x ∷ xs)) none ∙ sym (take-nil m)
+  where
+    none : min 0 m ≡ 0
+    none = omega arith
+take-min (suc n) zero (x ∷ xs) = ap (λ (k : ℕ). take k (x ∷ xs)) none
+  where
+    none : min (suc n) 0 ≡ 0
+    none = omega arith
+take-min {A} (suc n) (suc m) (x ∷ xs) = ap (λ (k : ℕ). take k (x ∷ xs)) more ∙ ap (λ (l : List A). x ∷ l) (take-min n m xs)
+  where
+    more : min (suc n) (suc m) ≡ suc (min n m)
+    more = omega arith
+
+pub k-summed : (bids asks : List Level) → All (Carries kPiece) bids → All (Carries kPiece) asks →
+    finish (summed (summed start (take kLevels asks)) (take kLevels bids)) ≡ kChecksum (map shown bids) (map shown asks)
+unfolding kChecksum kText kLevel kPiece crc
+k-summed bids asks hb ha =
+    ap finish
+    (sym (summed-append (take kLevels asks) (take kLevels bids) start)
+    ∙ summed-run kPiece (take kLevels asks ++ take kLevels bids) start
+    (all-both (Carries kPiece) (take kLevels asks) (take kLevels bids) (all-take (Carries kPiece) kLevels asks ha) (all-take (Carries kPiece) kLevels bids hb))
+    ∙ ap (λ (l : List PriceLevel). run start (joined (map (pieceOf kPiece) l)))
+    (map-both shown (take kLevels asks) (take kLevels bids) ∙ ap₂ (λ (a b : List PriceLevel). a ++ b) (map-take shown kLevels asks) (map-take shown kLevels bids)))
+
+-- ---- M
+
+-- a colon in front of each piece, and none in front of the text
+colons : (l : PriceLevel) (ls : List PriceLevel) → joined (map (pieceOf mPiece) (l ∷ ls)) ≡ colon ∷ colonJoined (map mLevel (l ∷ ls))
+unfolding joined mPiece mLevel colonJoined
+colons l [] = ap (λ (t : List ℕ). colon ∷ t) (append-nil (text (l .price) ++ (colon ∷ text (l .size))))
+colons l (k ∷ ls) = ap (λ (t : List ℕ). colon ∷ ((text (l .price) ++ (colon ∷ text (l .size))) ++ t)) (colons k ls)
+
+-- the state that a colon turns into the start
+abbrev pub beforeColon : ℕ
+beforeColon = 4036333539
+
+to-start : step beforeColon colon ≡ start
+unfolding step bits bit
+to-start = refl
+
+m-run : (ls : List PriceLevel) → 0 < length ls → run beforeColon (joined (map (pieceOf mPiece) ls)) ≡ run start (colonJoined (map mLevel ls))
+unfolding run
+m-run [] h = absurd (not-suc-le-zero h)
+m-run (l ∷ ls) h = ap (run beforeColon) (colons l ls) ∙ ap (λ (s : ℕ). run s (colonJoined (map mLevel (l ∷ ls)))) to-start
+
+pub m-empty : mChecksum [] [] ≡ 0
+unfolding mChecksum mText colonJoined crc run
+m-empty = ap (λ (l : List PriceLevel). crc (colonJoined (map mLevel l))) (none-left mLevels)
+
+pub m-summed : (bids asks : List Level) → 0 < length (interleaved mLevels bids asks) → All (Carries mPiece) bids → All (Carries mPiece) asks →
+    finish (summed beforeColon (interleaved mLevels bids asks)) ≡ mChecksum (map shown bids) (map shown asks)
+unfolding mChecksum mText crc
+m-summed bids asks some hb ha =
+    ap finish
+    (summed-run mPiece (interleaved mLevels bids asks) beforeColon (all-interleaved (Carries mPiece) mLevels bids asks hb ha)
+    ∙ m-run (map shown (interleaved mLevels bids asks)) (subst (λ (n : ℕ). 0 < n) (sym (length-map (interleaved mLevels bids asks) shown)) some)
+    ∙ ap (λ (l : List PriceLevel). run start (colonJoined (map mLevel l))) (map-interleaved shown mLevels bids asks))
+
+-- all of an M book: the pairs, then what one side has more
+pub m-parts : (bids asks : List Level) (nb na k : ℕ) → nb ≤ length bids → na ≤ length asks → nb ≤ mLevels → na ≤ mLevels → k ≡ min nb na → (s : ℕ) →
+    summed (summed (summed s (interleaved k (take k bids) (take k asks))) (drop k (take nb bids))) (drop k (take na asks))
+    ≡ summed s (interleaved mLevels (take nb bids) (take na asks))
+m-parts bids asks nb na k hb ha lb la e s =
+    let ib : length (take nb bids) ≡ nb = length-take-le nb bids hb in
+    let ia : length (take na asks) ≡ na = length-take-le na asks ha in
+    sym (summed-append (drop k (take nb bids)) (drop k (take na asks)) (summed s (interleaved k (take k bids) (take k asks))))
+    ∙ sym (summed-append (interleaved k (take k bids) (take k asks)) (drop k (take nb bids) ++ drop k (take na asks)) s)
+    ∙ ap (λ (l : List Level). summed s (l ++ (drop k (take nb bids) ++ drop k (take na asks))))
+    (ap₂ (interleaved k) (sym (take-take k nb bids (omega arith))) (sym (take-take k na asks (omega arith))) ∙ interleaved-take k (take nb bids) (take na asks))
+    ∙ ap (summed s) (sym (interleaved-all mLevels k (take nb bids) (take na asks) (omega arith) (omega arith) (omega arith)))

@@ -1,0 +1,56 @@
+-- The checksum text of a book, as document 01 has it under "Checksum text", over the two sides best first and the number of levels a side that
+-- are summed. Assumes nothing: these are definitions.
+use Prim.Native.Nat.{ℕ, zero, suc}
+use mathlib.Core.List.{List, [], _∷_, _++_, map}
+use lib.ListN.{take, drop}
+use Rattle.decimal.specs.Decimal.{text, stripped}
+use Rattle.crc32_spec.specs.Crc.{crc}
+use Rattle.side.specs.Level.{PriceLevel}
+
+unfoldable pub joined : List (List ℕ) → List ℕ
+joined [] = []
+joined (t ∷ ts) = t ++ joined ts
+
+-- ---- K: the best asks, low to high, then the best bids, high to low, or as many as there are. No separators.
+
+-- How many levels a side K sums.
+abbrev pub kLevels : ℕ
+kLevels = 10
+
+-- Price then size, each with the point removed, then leading zeros.
+unfoldable pub kLevel : PriceLevel → List ℕ
+kLevel level = stripped (level .price) ++ stripped (level .size)
+
+unfoldable pub kText : ℕ → List PriceLevel → List PriceLevel → List ℕ
+kText n bids asks = joined (map kLevel (take n asks ++ take n bids))
+
+unfoldable pub kChecksum : List PriceLevel → List PriceLevel → ℕ
+kChecksum bids asks = crc (kText kLevels bids asks)
+
+-- ---- M: first bid, first ask, second bid, second ask and on; a missing level is skipped. Joined by colons with none at the end.
+
+-- How many levels a side M sums: all that there may be.
+abbrev pub mLevels : ℕ
+mLevels = 100
+
+abbrev pub colon : ℕ
+colon = 58
+
+unfoldable pub mLevel : PriceLevel → List ℕ
+mLevel level = text (level .price) ++ (colon ∷ text (level .size))
+
+-- The first n of two lists in turn, as long as each has any.
+unfoldable pub interleaved : {A : Type 0} → ℕ → List A → List A → List A
+interleaved zero xs ys = []
+interleaved (suc n) xs ys = take 1 xs ++ (take 1 ys ++ interleaved n (drop 1 xs) (drop 1 ys))
+
+unfoldable pub colonJoined : List (List ℕ) → List ℕ
+colonJoined [] = []
+colonJoined (t ∷ []) = t
+colonJoined (t ∷ (u ∷ ts)) = t ++ (colon ∷ colonJoined (u ∷ ts))
+
+unfoldable pub mText : ℕ → List PriceLevel → List PriceLevel → List ℕ
+mText n bids asks = colonJoined (map mLevel (interleaved n bids asks))
+
+unfoldable pub mChecksum : List PriceLevel → List PriceLevel → ℕ
+mChecksum bids asks = crc (mText mLevels bids asks)

@@ -1,0 +1,127 @@
+// The checksum of a book, from the sums that its levels carry.
+//
+// A level carries the CRC and the length of its own piece of checksum text, made once, when the level is made
+// (`k_level`, `m_level`). The book's checksum is put together from them, so an update costs no digit of a level that it
+// does not touch.
+//
+//     let level = checksum::k_level(price, size);
+//     checksum::k_checksum(bids, asks)        // of the ten best asks, then the ten best bids
+ghost use mathlib.Core.Path.{_≡_};
+ghost use mathlib.Core.List.{map};
+ghost use Prim.Native.Nat.{_≤_, _<_, _^_, min};
+ghost use lib.ListN.{length, take, drop};
+ghost use Rattle.decimal.specs.Decimal.{number, Within};
+ghost use Rattle.piece.specs.Piece.{kPiece, mPiece};
+ghost use Rattle.side.specs.declared.Side.the-variants.{Bids, Asks};
+ghost use Rattle.side.specs.Level.{shown};
+ghost use Rattle.side.specs.Side.{All};
+ghost use Rattle.side.specs.Kept.{held, Good};
+ghost use Rattle.checksum.specs.Text.{kChecksum, mChecksum, interleaved};
+ghost use Rattle.checksum.specs.Carried.{Carries, Made, MadeOf, summed};
+use decimal::Decimal;
+use piece::Piece;
+use side::Level;
+use side::Levels;
+
+// How many levels a side K sums.
+const K_LEVELS: usize = 10;
+
+// The state that a colon turns into the start: every piece of M begins with a colon, and the text does not.
+const M_START: u32 = 4036333539;
+
+// A level of a K book.
+pub fn k_level(price: Decimal, size: Decimal) -> Level
+    requires { ⌜ Within (number price) × Within (number size) ⌝ }
+    ensures { λ r. ⌜ Made kPiece price size r ⌝ }
+{
+    level_of(price, size, piece::k_piece(price, size))
+}
+
+// A level of an M book.
+pub fn m_level(price: Decimal, size: Decimal) -> Level
+    requires { ⌜ Within (number price) × Within (number size) ⌝ }
+    ensures { λ r. ⌜ Made mPiece price size r ⌝ }
+{
+    level_of(price, size, piece::m_piece(price, size))
+}
+
+// A level of a price, a size and the sum and length of its piece.
+fn level_of(price: Decimal, size: Decimal, piece: Piece) -> Level
+    requires { ⌜ Within (number price) × Within (number size) × (piece .length < 2 ^ 16) ⌝ }
+    ensures { λ r. ⌜ MadeOf price size piece r ⌝ }
+{
+    Level {
+        price: price.digits,
+        size: size.digits,
+        sum: piece.sum,
+        length: piece.length as u16,
+        price_decimals: price.decimals as u8,
+        size_decimals: size.decimals as u8,
+    }
+}
+
+// The checksum of a K book.
+pub fn k_checksum(bids: Levels, asks: Levels) -> u32
+    requires { ⌜ Good Bids bids × Good Asks asks × All (Carries kPiece) (held bids) × All (Carries kPiece) (held asks) ⌝ }
+    ensures { λ r. ⌜ r ≡ kChecksum (map shown (held bids)) (map shown (held asks)) ⌝ }
+{
+    let after_asks = sum_levels(crc32::START, asks, 0, at_most(asks.count, K_LEVELS));
+    sum_levels(after_asks, bids, 0, at_most(bids.count, K_LEVELS)) ^ crc32::START
+}
+
+// The checksum of an M book.
+pub fn m_checksum(bids: Levels, asks: Levels) -> u32
+    requires { ⌜ Good Bids bids × Good Asks asks × All (Carries mPiece) (held bids) × All (Carries mPiece) (held asks) ⌝ }
+    ensures { λ r. ⌜ r ≡ mChecksum (map shown (held bids)) (map shown (held asks)) ⌝ }
+{
+    if bids.count == 0 {
+        if asks.count == 0 {
+            return 0;
+        }
+    }
+    let both = at_most(bids.count, asks.count);
+    let paired = sum_pairs(M_START, bids, asks, both);
+    let after_bids = sum_levels(paired, bids, both, bids.count);
+    sum_levels(after_bids, asks, both, asks.count) ^ crc32::START
+}
+
+fn at_most(n: usize, most: usize) -> usize
+    ensures { λ r. ⌜ r ≡ min n most ⌝ }
+{
+    if n < most { n } else { most }
+}
+
+// The state after the pieces of the levels from one place to another.
+fn sum_levels(state: u32, levels: Levels, from: usize, to: usize) -> u32
+    requires { ⌜ (from ≤ to) × (to ≤ 100) × (100 ≡ length (levels .items)) ⌝ }
+    ensures { λ r. ⌜ r ≡ summed state (drop from (take to (levels .items))) ⌝ }
+{
+    let mut sum = state;
+    let mut i = from;
+    while i < to {
+        let level = levels.items[i];
+        sum = crc32::combine(sum, level.sum, level.length as u64);
+        i += 1;
+    }
+    sum
+}
+
+// The state after the pieces of the first n bids and asks in turn. The two of a turn are put together first, so that a
+// turn waits for one step of the turn before it and not for two.
+fn sum_pairs(state: u32, bids: Levels, asks: Levels, n: usize) -> u32
+    requires { ⌜ (n ≤ 100) × (100 ≡ length (bids .items)) × (100 ≡ length (asks .items)) ⌝ }
+    ensures { λ r. ⌜ r ≡ summed state (interleaved n (take n (bids .items)) (take n (asks .items))) ⌝ }
+{
+    let mut sum = state;
+    let mut i = 0;
+    while i < n {
+        let bid = bids.items[i];
+        let ask = asks.items[i];
+        let bid_length = bid.length as u64;
+        let ask_length = ask.length as u64;
+        let pair = crc32::combine(bid.sum, ask.sum, ask_length);
+        sum = crc32::combine(sum, pair, bid_length + ask_length);
+        i += 1;
+    }
+    sum
+}

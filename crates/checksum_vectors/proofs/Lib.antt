@@ -1,0 +1,2 @@
+-- Laws of what the program keeps true.
+pub mod Fine

@@ -1,0 +1,71 @@
+-- `run_side` meets its contract: the entries that were stored are as a side wants them, and a side that they are applied to stays fine.
+use mathlib.Core.Path.{sym}
+use native.Mathlib.Omega.{arith}
+use lib.ListN.{take}
+use lib.Seq.{length-take-le}
+use Rattle.side.specs.Words.{entriesOf}
+use Rattle.checksum_vectors.proofs.Fine.{applied-fine}
+use borrow.Author.Needs.{needs}
+use Rattle.checksum_vectors.proofs.run_side.Statement.{statement}
+use Rattle.checksum_vectors.proofs.run_side.Tie as tie
+
+read-entries-requires : tie.Need-read-entries-requires
+read-entries-requires c κs = search needs
+
+array-share-prefix-prices : tie.Need-array-share-prefix-prices
+array-share-prefix-prices c = let e = c .read-entries .ensures .prices-long in let f = c .read-entries .ensures .few in omega arith
+
+slice-aggregate-apply : tie.Need-slice-aggregate-apply
+slice-aggregate-apply c = let e = c .before .read-entries .ensures .prices-long in let f = c .before .read-entries .ensures .few in sym (length-take-le (c .before .read-entries .result) (c .before .read-entries .last .1 .1 .0) (omega arith))
+
+array-share-prefix-sizes : tie.Need-array-share-prefix-sizes
+array-share-prefix-sizes c = let e = c .before .read-entries .ensures .sizes-long in let f = c .before .read-entries .ensures .few in omega arith
+
+slice-aggregate-apply-2 : tie.Need-slice-aggregate-apply-2
+slice-aggregate-apply-2 c = let e = c .before .before .read-entries .ensures .sizes-long in let f = c .before .before .read-entries .ensures .few in sym (length-take-le (c .before .before .read-entries .result) (c .before .before .read-entries .last .1 .1 .1 .0) (omega arith))
+
+array-share-prefix-rests : tie.Need-array-share-prefix-rests
+array-share-prefix-rests c = let e = c .before .before .read-entries .ensures .rests-long in let f = c .before .before .read-entries .ensures .few in omega arith
+
+slice-aggregate-apply-3 : tie.Need-slice-aggregate-apply-3
+slice-aggregate-apply-3 c = let e = c .before .before .before .read-entries .ensures .rests-long in let f = c .before .before .before .read-entries .ensures .few in sym (length-take-le (c .before .before .before .read-entries .result) (c .before .before .before .read-entries .last .1 .1 .1 .1 .0) (omega arith))
+
+apply-requires : tie.Need-apply-requires
+apply-requires c κs = search needs
+
+say-number-requires : tie.Need-say-number-requires
+say-number-requires c κs = search needs
+
+slice-aggregate-say : tie.Need-slice-aggregate-say
+slice-aggregate-say c = search needs
+
+say-requires : tie.Need-say-requires
+say-requires c κs = search needs
+
+slice-aggregate-say-2 : tie.Need-slice-aggregate-say-2
+slice-aggregate-say-2 c = search needs
+
+say-requires-2 : tie.Need-say-requires-2
+say-requires-2 c κs = search needs
+
+returns : tie.Need-returns
+returns c = applied-fine (c .before .before .before .before .before .before .before .before .before .before .before .before .args .m) (c .before .before .before .before .before .before .before .before .before .before .before .before .args .side) (c .before .before .before .before .before .before .before .before .before .before .before .before .args .depth) (entriesOf (take (c .before .before .before .before .before .before .before .read-entries .result) (c .before .before .before .before .before .before .before .read-entries .last .1 .1 .0)) (take (c .before .before .before .before .before .before .before .read-entries .result) (c .before .before .before .before .before .before .before .read-entries .last .1 .1 .1 .0)) (take (c .before .before .before .before .before .before .before .read-entries .result) (c .before .before .before .before .before .before .before .read-entries .last .1 .1 .1 .1 .0))) (c .before .before .before .before .before .before .before .before .before .before .before .before .args .levels) (c .before .before .before .before .before .before .before .before .before .before .before .before .pre .0) (c .before .before .before .before .before .before .before .read-entries .ensures .carried) (c .before .before .before .apply .ensures)
+
+pub run-side-spec : {M : Type 1} → statement M
+run-side-spec =
+    tie.close
+    (tie.spec
+    read-entries-requires
+    array-share-prefix-prices
+    slice-aggregate-apply
+    array-share-prefix-sizes
+    slice-aggregate-apply-2
+    array-share-prefix-rests
+    slice-aggregate-apply-3
+    apply-requires
+    say-number-requires
+    slice-aggregate-say
+    say-requires
+    slice-aggregate-say-2
+    say-requires-2
+    returns)

@@ -1,0 +1,50 @@
+-- `show_levels` ends: it goes through the levels of a side.
+use borrow.Author.Needs.{needs}
+use Prim.Native.Nat.{_≤_, _-_}
+use Rattle.checksum_vectors.proofs.show_levels.Statement.{statement}
+use Rattle.checksum_vectors.proofs.show_levels.Tie as tie
+
+abbrev Inv-loop : tie.InvT-loop
+Inv-loop levels i₀ i = (i ≤ levels .count) × (levels .count ≤ 100)
+
+abbrev μ-loop : tie.MeasureT-loop
+μ-loop levels i₀ i = levels .count - i
+
+loop-holds : tie.Need-loop-holds Inv-loop μ-loop
+loop-holds c = search needs
+
+mul-show-level : tie.Need-mul-show-level Inv-loop μ-loop
+mul-show-level c = search needs
+
+element-copy-out-show-level : tie.Need-element-copy-out-show-level Inv-loop μ-loop
+element-copy-out-show-level c = search needs
+
+show-level-requires : tie.Need-show-level-requires Inv-loop μ-loop
+show-level-requires c κs = search needs
+
+add-i : tie.Need-add-i Inv-loop μ-loop
+add-i c = search needs
+
+loop-less : tie.Need-loop-less Inv-loop μ-loop
+loop-less c = search needs
+
+loop-again : tie.Need-loop-again Inv-loop μ-loop
+loop-again c = search needs
+
+returns : tie.Need-returns Inv-loop μ-loop
+returns c = search needs
+
+pub show-levels-spec : {M : Type 1} → statement M
+show-levels-spec =
+    tie.close
+    (tie.spec
+    Inv-loop
+    μ-loop
+    loop-holds
+    mul-show-level
+    element-copy-out-show-level
+    show-level-requires
+    add-i
+    loop-less
+    loop-again
+    returns)

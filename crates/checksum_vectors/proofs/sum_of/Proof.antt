@@ -1,0 +1,25 @@
+-- `sum_of` meets its contract: each level carries the sum of its piece.
+use mathlib.Core.Path.{subst}
+use mathlib.Core.Bool.{Bool}
+use Rattle.side.specs.Side.{All}
+use Rattle.side.specs.Kept.{held}
+use Rattle.checksum.specs.Carried.{Carries}
+use Rattle.checksum_vectors.specs.Book.{pieceFor}
+use borrow.Author.Needs.{needs}
+use Rattle.checksum_vectors.proofs.sum_of.Statement.{statement}
+use Rattle.checksum_vectors.proofs.sum_of.Tie as tie
+
+m-checksum-requires : tie.Need-m-checksum-requires
+m-checksum-requires c κs = let b = c .before .pre in (b .bids .good, b .asks .good, subst (λ (m : Bool). All (Carries (pieceFor m)) (held (c .before .args .book .bids))) (c .if1 .taken) (b .bids .carried), subst (λ (m : Bool). All (Carries (pieceFor m)) (held (c .before .args .book .asks))) (c .if1 .taken) (b .asks .carried))
+
+returns : tie.Need-returns
+returns c = search needs
+
+k-checksum-requires : tie.Need-k-checksum-requires
+k-checksum-requires c κs = let b = c .before .pre in (b .bids .good, b .asks .good, subst (λ (m : Bool). All (Carries (pieceFor m)) (held (c .before .args .book .bids))) (c .if1 .left) (b .bids .carried), subst (λ (m : Bool). All (Carries (pieceFor m)) (held (c .before .args .book .asks))) (c .if1 .left) (b .asks .carried))
+
+returns-2 : tie.Need-returns-2
+returns-2 c = search needs
+
+pub sum-of-spec : {M : Type 1} → statement M
+sum-of-spec = tie.close (tie.spec m-checksum-requires returns k-checksum-requires returns-2)

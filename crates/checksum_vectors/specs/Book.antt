@@ -1,0 +1,51 @@
+-- What the program keeps true of its book. Assumes nothing: these are definitions.
+use Prim.Native.Nat.{ℕ, _≤_}
+use mathlib.Core.Bool.{Bool, true, false}
+use mathlib.Core.List.{List}
+use mathlib.Core.Path.{_≡_}
+use lib.ListN.{length, take}
+use Rattle.decimal.specs.Decimal.{Number, Within}
+use Rattle.piece.specs.Piece.{kPiece, mPiece}
+use Rattle.side.specs.Level.{levelPrice}
+use Rattle.side.specs.Side.{All, IfSet}
+use Rattle.side.specs.Words.{entriesOf}
+use Rattle.side.specs.Kept.{Good, Given, held}
+use Rattle.side.specs.declared.Side.{Side}
+use Rattle.side.specs.declared.Side.the-variants.{Bids, Asks}
+use Rattle.side.specs.declared.Level.{Level}
+use Rattle.side.specs.declared.Levels.{Levels}
+use Rattle.side.specs.declared.Found.{Found}
+use Rattle.side.specs.declared.Found.the-variants.{At, Nothing}
+use Rattle.checksum.specs.Carried.{Carries}
+use Rattle.checksum_vectors.specs.declared.Book.{Book}
+
+abbrev pub pieceFor : Bool → Number → Number → List ℕ
+pieceFor true = mPiece
+pieceFor false = kPiece
+
+pub record FineSide (m : Bool) (side : Side) (levels : Levels) : Type 0 where
+  pub good : Good side levels
+  pub carried : All (Carries (pieceFor m)) (held levels)
+
+pub record Fine (b : Book) : Type 0 where
+  pub shallow : b .depth ≤ 100
+  pub bids : FineSide (b .m) Bids (b .bids)
+  pub asks : FineSide (b .m) Asks (b .asks)
+
+-- A level that was read, if one was.
+pub record FineLevel (m : Bool) (level : Level) : Type 0 where
+  pub within : Within (levelPrice level)
+  pub carried : Carries (pieceFor m) level
+
+abbrev pub Readable : Bool → Found → Type 0
+Readable m (At level) = FineLevel m level
+Readable m Nothing = Unit
+
+-- n entries at the front of three lists of 100 words.
+pub record Stored (m : Bool) (prices sizes rests : List ℕ) (n : ℕ) : Type 0 where
+  pub prices-long : length prices ≡ 100
+  pub sizes-long : length sizes ≡ 100
+  pub rests-long : length rests ≡ 100
+  pub few : n ≤ 100
+  pub given : Given (take n prices) (take n sizes) (take n rests)
+  pub carried : All (IfSet (Carries (pieceFor m))) (entriesOf (take n prices) (take n sizes) (take n rests))

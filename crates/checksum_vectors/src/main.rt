@@ -1,0 +1,292 @@
+// Runs the lines of standard input on one book, and prints what the crates `side` and `checksum` make of each:
+//     K DEPTH, M DEPTH      a new book of the dialect
+//     b PRICE SIZE ..       the bids of one message: how many bids stood before the cut, and whether an entry met a level
+//     a PRICE SIZE ..       the same for asks
+//     =                     every bid and ask, then the checksum
+// What is to come was worked out apart from the crates, by tools/checksum_vectors.py.
+ghost use mathlib.Core.Path.{_≡_};
+ghost use Prim.Native.Nat.{_≤_};
+ghost use lib.ListN.{length};
+ghost use Rattle.decimal.specs.Decimal.{number, Within};
+ghost use Rattle.checksum.specs.Carried.{Made};
+ghost use Rattle.checksum_vectors.specs.Book.{pieceFor, Fine, FineSide, Readable, Stored};
+use decimal::Decimal;
+use decimal::Parsed;
+use decimal::ParsedWhole;
+use libc::STDIN_FILENO;
+use libc::STDOUT_FILENO;
+use side::Found;
+use side::Level;
+use side::Levels;
+use side::Side;
+
+const LINE_END: u8 = 10;
+
+const BLANK: u8 = 32;
+
+// A book: its dialect, K or M, its depth, its sides.
+struct Book {
+    m: bool,
+    depth: usize,
+    bids: Levels,
+    asks: Levels,
+}
+
+fn main() {
+    let mut text = io::large_buffer();
+    let n = io::read_full(STDIN_FILENO, &mut text);
+    run_lines(&text[..n]);
+}
+
+fn run_lines(s: &[u8]) {
+    let mut book = new_book(false, 10);
+    let mut at = 0;
+    while at < s.len() {
+        let end = find(s, at, LINE_END);
+        book = run_line(book, &s[at..end]);
+        at = end + 1;
+    }
+}
+
+// Where a byte stands, from a position on, or the end.
+fn find(s: &[u8], at: usize, b: u8) -> usize
+    requires { ⌜ at ≤ length (now s) ⌝ }
+    ensures { λ r. ⌜ (at ≤ r) × (r ≤ length (now (s .entry))) ⌝ }
+{
+    let mut i = at;
+    while i < s.len() {
+        if s[i] == b {
+            return i;
+        }
+        i += 1;
+    }
+    i
+}
+
+fn new_book(m: bool, depth: usize) -> Book
+    requires { ⌜ depth ≤ 100 ⌝ }
+    ensures { λ r. ⌜ Fine r ⌝ }
+{
+    Book {
+        m: m,
+        depth: depth,
+        bids: side::empty(),
+        asks: side::empty(),
+    }
+}
+
+fn run_line(book: Book, s: &[u8]) -> Book
+    requires { ⌜ Fine book ⌝ }
+    ensures { λ r. ⌜ Fine r ⌝ }
+{
+    if s.len() == 0 {
+        say(b"no line\n");
+        return book;
+    }
+    let kind = s[0];
+    if kind == 75 {
+        return start(false, s);
+    }
+    if kind == 77 {
+        return start(true, s);
+    }
+    if kind == 98 {
+        return with_bids(book, s);
+    }
+    if kind == 97 {
+        return with_asks(book, s);
+    }
+    show(book);
+    book
+}
+
+fn with_bids(book: Book, s: &[u8]) -> Book
+    requires { ⌜ Fine book ⌝ }
+    ensures { λ r. ⌜ Fine r ⌝ }
+{
+    let bids = run_side(book.bids, Side::Bids, book.m, book.depth, s);
+    let mut after = book;
+    after.bids = bids;
+    after
+}
+
+fn with_asks(book: Book, s: &[u8]) -> Book
+    requires { ⌜ Fine book ⌝ }
+    ensures { λ r. ⌜ Fine r ⌝ }
+{
+    let asks = run_side(book.asks, Side::Asks, book.m, book.depth, s);
+    let mut after = book;
+    after.asks = asks;
+    after
+}
+
+// A new book of the depth that a line gives, or 10 where it gives none up to 100.
+fn start(m: bool, s: &[u8]) -> Book
+    ensures { λ r. ⌜ Fine r ⌝ }
+{
+    let depth = read_depth(s);
+    if m {
+        say(b"M ");
+    } else {
+        say(b"K ");
+    }
+    say_number(depth as u64);
+    say(b"\n");
+    new_book(m, depth)
+}
+
+fn read_depth(s: &[u8]) -> usize
+    ensures { λ r. ⌜ r ≤ 100 ⌝ }
+{
+    if s.len() < 2 {
+        return 10;
+    }
+    match decimal::parse_whole(&s[2..]) {
+        ParsedWhole::Number(n) => {
+            if n <= 100 {
+                return n as usize;
+            }
+            10
+        }
+        ParsedWhole::Refused => 10,
+    }
+}
+
+// A side after the entries of a line.
+fn run_side(levels: Levels, side: Side, m: bool, depth: usize, s: &[u8]) -> Levels
+    requires { ⌜ FineSide m side levels × (depth ≤ 100) ⌝ }
+    ensures { λ r. ⌜ FineSide m side r ⌝ }
+{
+    let mut prices = [0u64; 100];
+    let mut sizes = [0u64; 100];
+    let mut rests = [0u64; 100];
+    let n = read_entries(s, m, &mut prices, &mut sizes, &mut rests);
+    let applied = side::apply(levels, side, depth, &prices[..n], &sizes[..n], &rests[..n]);
+    say_number(applied.count as u64);
+    if applied.met {
+        say(b" 1\n");
+    } else {
+        say(b" 0\n");
+    }
+    applied.levels
+}
+
+// The entries of a line as words, as many as stand there and can be read.
+fn read_entries(
+    s: &[u8],
+    m: bool,
+    prices: &mut [u64; 100],
+    sizes: &mut [u64; 100],
+    rests: &mut [u64; 100],
+) -> usize
+    requires { ⌜ (length (now prices) ≡ 100) × (length (now sizes) ≡ 100) × (length (now rests) ≡ 100) ⌝ }
+    ensures { λ r. ⌜ Stored m (now (prices .exit)) (now (sizes .exit)) (now (rests .exit)) r ⌝ }
+{
+    let mut at = 1;
+    let mut k = 0;
+    while k < 100 {
+        if s.len() <= at {
+            return k;
+        }
+        let price_from = at + 1;
+        let price_end = find(s, price_from, BLANK);
+        if s.len() <= price_end {
+            return k;
+        }
+        let size_from = price_end + 1;
+        let size_end = find(s, size_from, BLANK);
+        match read_level(&s[price_from..price_end], &s[size_from..size_end], m) {
+            Found::At(level) => {
+                prices[k] = level.price;
+                sizes[k] = level.size;
+                rests[k] = side::pack(level);
+                k += 1;
+                at = size_end;
+            }
+            Found::Nothing => {
+                return k;
+            }
+        }
+    }
+    k
+}
+
+fn read_level(price: &[u8], size: &[u8], m: bool) -> Found
+    ensures { λ r. ⌜ Readable m r ⌝ }
+{
+    match decimal::parse(price) {
+        Parsed::Number(p) => read_size(p, size, m),
+        Parsed::Refused => Found::Nothing,
+    }
+}
+
+fn read_size(price: Decimal, size: &[u8], m: bool) -> Found
+    requires { ⌜ Within (number price) ⌝ }
+    ensures { λ r. ⌜ Readable m r ⌝ }
+{
+    match decimal::parse(size) {
+        Parsed::Number(z) => Found::At(make(price, z, m)),
+        Parsed::Refused => Found::Nothing,
+    }
+}
+
+fn make(price: Decimal, size: Decimal, m: bool) -> Level
+    requires { ⌜ Within (number price) × Within (number size) ⌝ }
+    ensures { λ r. ⌜ Made (pieceFor m) price size r ⌝ }
+{
+    if m {
+        return checksum::m_level(price, size);
+    }
+    checksum::k_level(price, size)
+}
+
+fn show(book: Book)
+    requires { ⌜ Fine book ⌝ }
+{
+    say(b"bids");
+    show_levels(book.bids);
+    say(b"\nasks");
+    show_levels(book.asks);
+    say(b"\nsum ");
+    say_number(sum_of(book) as u64);
+    say(b"\n");
+}
+
+fn sum_of(book: Book) -> u32
+    requires { ⌜ Fine book ⌝ }
+{
+    if book.m {
+        return checksum::m_checksum(book.bids, book.asks);
+    }
+    checksum::k_checksum(book.bids, book.asks)
+}
+
+fn show_levels(levels: Levels)
+    requires { ⌜ levels .count ≤ 100 ⌝ }
+{
+    let mut i = 0;
+    while i < levels.count {
+        show_level(levels.items[i]);
+        i += 1;
+    }
+}
+
+// Digits and decimals of the price, digits and decimals of the size.
+fn show_level(level: Level) {
+    say(b" ");
+    say_number(level.price);
+    say(b"/");
+    say_number(level.price_decimals as u64);
+    say(b":");
+    say_number(level.size);
+    say(b"/");
+    say_number(level.size_decimals as u64);
+}
+
+fn say(text: &[u8]) {
+    io::write_all(STDOUT_FILENO, text);
+}
+
+fn say_number(n: u64) {
+    io::print_decimal(STDOUT_FILENO, n);
+}

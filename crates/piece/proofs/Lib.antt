@@ -1,0 +1,2 @@
+-- Laws of sums: a text in front of a piece.
+pub mod Sums

@@ -1,0 +1,108 @@
+#!/usr/bin/env python3
+"""Writes the cases of crates/checksum_vectors (stdin) and what they must print (stdout), from document 01's rules: a side is a map from a price's
+value to its texts, sorted and cut after each message; the CRC is Python's zlib. Run from the top of the repository."""
+import random
+import zlib
+from fractions import Fraction
+
+random.seed(4)
+lines, out = [], []
+book = {}
+
+
+def new(dialect, depth):
+    book.clear()
+    book.update(dialect=dialect, depth=depth, b={}, a={})
+    lines.append(f"{dialect} {depth}")
+    out.append(f"{dialect} {depth}")
+
+
+def message(side, *entries):
+    levels, met = book[side], 0
+    for price, size in entries:
+        key = Fraction(price)
+        if Fraction(size) == 0:
+            levels.pop(key, None)
+        else:
+            met |= key in levels
+            levels[key] = (price, size)
+    count = len(levels)
+    best = sorted(levels, reverse=side == "b")[: book["depth"]]
+    book[side] = {k: levels[k] for k in best}
+    lines.append(" ".join([side] + [t for e in entries for t in e]))
+    out.append(f"{count} {met}")
+
+
+def shown(text):
+    return f"{int(text.replace(chr(46), str()))}/{len(text.partition(chr(46))[2])}"
+
+
+def show():
+    bids, asks = list(book["b"].values()), list(book["a"].values())
+    if book["dialect"] == "K":
+        text = "".join(t.replace(".", "").lstrip("0") for level in asks[:10] + bids[:10] for t in level)
+    else:
+        levels = [side[i] for i in range(max(len(bids), len(asks))) for side in (bids, asks) if i < len(side)]
+        text = ":".join(p + ":" + s for p, s in levels)
+    lines.append("=")
+    for name, side in (("bids", bids), ("asks", asks)):
+        out.append(name + "".join(f" {shown(p)}:{shown(s)}" for p, s in side))
+    out.append(f"sum {zlib.crc32(text.encode())}")
+
+
+# 001's book of twenty levels: 974947235
+new("K", 10)
+message("a", *((f"0.050{n:02}", "0.00000500") for n in range(5, 55, 5)))
+message("b", *((p, "0.00000500") for p in ("0.05000", "0.04995", "0.04990", "0.04980", "0.04975", "0.04970", "0.04965", "0.04960", "0.04955", "0.04950")))
+show()
+assert out[-1] == "sum 974947235"
+# an insert and a removal in one update at full depth keep the good level, in either order
+message("a", ("0.05001", "1"), ("0.05001", "0"))
+show()
+message("a", ("0.05002", "1"), ("0.05050", "0"))
+show()
+message("b", ("0.04950", "0"), ("0.04901", "3"))
+show()
+# 000's example: 1226559413; texts kept exactly; 0.5 replaced by 0.50; the last entry for a price holds
+new("M", 100)
+show()
+message("b", ("9", "2"))
+message("a", ("10", "1"))
+show()
+assert out[-1] == "sum 1226559413"
+message("b", ("8", "3"))
+show()
+message("a", ("0.00000500", "0.00000500"))
+message("b", ("0.5", "1"), ("0.50", "1.0"))
+show()
+message("b", ("0.500", "7"), ("0.5", "0"), ("0.50", "0.0"), ("7", "0"), ("9.0", "2.00"))
+show()
+# 100 levels and 100 inserts, in K and in M
+for dialect in "KM":
+    new(dialect, 100)
+    for side in "ab":
+        message(side, *((str(1000 + 2 * i), str(i + 1)) for i in range(100)))
+        show()
+        message(side, *((str(1001 + 2 * i), "1." + "0" * (i % 9 + 1)) for i in range(100)))
+        show()
+# two hundred updates of a few entries, near the top and anywhere
+for dialect, depth in (("K", 10), ("K", 25), ("K", 100), ("M", 100)):
+    new(dialect, depth)
+    for turn in range(50):
+        for side in "ab":
+            entries = []
+            for _ in range(random.choice((0, 1, 1, 2, 2, 3, 5))):
+                price = f"{random.randint(1, 40)}"
+                if random.random() < 0.7:
+                    price += "." + random.choice(("5", "50", "25", "0", "000000001", "123456789"))
+                size = random.choice(("0", "0.0", "1", "2.50", "0.00000500", "9999999999.999999999", "123.456"))
+                entries.append((price, size))
+            message(side, *entries)
+        if turn % 5 == 4:
+            show()
+
+with open("crates/checksum_vectors/stdin", "w") as f:
+    f.write("\n".join(lines) + "\n")
+with open("crates/checksum_vectors/stdout", "w") as f:
+    f.write("\n".join(out) + "\n")
+print(len(lines), "lines")

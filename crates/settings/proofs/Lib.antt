@@ -1,0 +1,2 @@
+-- Laws of good settings.
+pub mod Good

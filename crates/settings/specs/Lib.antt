@@ -1,0 +1,3 @@
+-- In reading order: the settings of a book; worked examples.
+pub mod Settings
+pub mod Examples

@@ -1,0 +1,119 @@
+// The settings of a book: dialect, depth and product name.
+//
+// Good settings are kept as they are given; any others are kept as none, of dialect `Unknown`, and a book of them is shut.
+//
+//     settings::choose(Dialect::K, 10, name)     // kept: 10 to 100 levels
+//     settings::choose(Dialect::M, 10, name)     // shut: M has 100 levels exactly
+ghost use mathlib.Core.Path.{_≡_};
+ghost use Prim.Native.Nat.{_≤_};
+ghost use lib.ListN.{length, take};
+ghost use Rattle.settings.specs.Settings.{goodDepth, nameByte, nameBytes, goodName, good, Chosen, Copied};
+
+// The longest name.
+pub const MAX_NAME: usize = 16;
+
+pub enum Dialect {
+    K,
+    M,
+    Unknown,
+}
+
+// The name is the first `length` bytes of `name`.
+pub struct Settings {
+    pub dialect: Dialect,
+    pub depth: usize,
+    pub name: [u8; 16],
+    pub length: usize,
+}
+
+pub fn choose(dialect: Dialect, depth: usize, name: &[u8]) -> Settings
+    ensures { λ r. ⌜ Chosen (record { dialect = dialect; depth = depth; name = now (name .entry) }) r ⌝ }
+{
+    if is_good(dialect, depth, name) {
+        return Settings {
+            dialect: dialect,
+            depth: depth,
+            name: copy_name(name),
+            length: name.len(),
+        };
+    }
+    Settings {
+        dialect: Dialect::Unknown,
+        depth: 0,
+        name: [0; 16],
+        length: 0,
+    }
+}
+
+pub fn is_good(dialect: Dialect, depth: usize, name: &[u8]) -> bool
+    ensures { λ r. ⌜ r ≡ good (record { dialect = dialect; depth = depth; name = now (name .entry) }) ⌝ }
+{
+    if is_good_depth(dialect, depth) {
+        return is_good_name(name);
+    }
+    false
+}
+
+fn is_good_depth(dialect: Dialect, depth: usize) -> bool
+    ensures { λ r. ⌜ r ≡ goodDepth dialect depth ⌝ }
+{
+    match dialect {
+        Dialect::K => {
+            if depth < 10 {
+                return false;
+            }
+            depth <= 100
+        }
+        Dialect::M => depth == 100,
+        Dialect::Unknown => false,
+    }
+}
+
+fn is_good_name(name: &[u8]) -> bool
+    ensures { λ r. ⌜ r ≡ goodName (now (name .entry)) ⌝ }
+{
+    if name.len() < 1 {
+        return false;
+    }
+    if MAX_NAME < name.len() {
+        return false;
+    }
+    let mut i = 0;
+    while i < name.len() {
+        if is_name_byte(name[i]) {
+            i += 1;
+        } else {
+            return false;
+        }
+    }
+    true
+}
+
+// A byte from 33 to 126 but for the quote and the backslash.
+fn is_name_byte(c: u8) -> bool
+    ensures { λ r. ⌜ r ≡ nameByte c ⌝ }
+{
+    if c < 33 {
+        return false;
+    }
+    if 126 < c {
+        return false;
+    }
+    if c == 34 {
+        return false;
+    }
+    c != 92
+}
+
+fn copy_name(name: &[u8]) -> [u8; 16]
+    requires { ⌜ length (now name) ≤ 16 ⌝ }
+    ensures { λ r. ⌜ Copied (now (name .entry)) r ⌝ }
+{
+    let mut copy = [0; 16];
+    let mut i = 0;
+    while i < name.len() {
+        copy[i] = name[i];
+        i += 1;
+    }
+    copy
+}

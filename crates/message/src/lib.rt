@@ -1,0 +1,6 @@
+// What a message says.
+pub enum Dialect {
+    K,
+    M,
+    Unknown,
+}

@@ -9,7 +9,9 @@ use Rattle.decimal.specs.Digits.{Reading, reads, refused, written}
 use Rattle.json.specs.Json.{Span, Pair}
 use Rattle.json.specs.Names.{means, hasBackslash}
 use Rattle.message.specs.Settings.{Terms}
-use Rattle.message.specs.Places.{andThen, all, isString, arrayAt, objectAt, valuesOf, only, wholeAt, quotedChecksumAt, Row, entriesDepth, entriesAt, Printed, printed, unprinted, Layout}
+use Rattle.entries.specs.Places.{andThen, all, isString, objectAt, valuesOf, only, wholeAt, quotedChecksumAt}
+use Rattle.entries.specs.Rows.{Row, entriesAt, entryK}
+use Rattle.message.specs.Layout.{Printed, printed, unprinted, Layout}
 
 -- An array of four or five elements: whole number, one or two objects, channel, pair.
 pub record Frame : Type 0 where
@@ -72,16 +74,6 @@ isUpdate s objects =
     && (eqb (times s (ascii "c") (together objects)) 1
     && (eqb (times s (ascii "c") (lastOf objects)) 1
     && eqb (times s (ascii "as") (together objects) + times s (ascii "bs") (together objects)) 0))))
-
--- An entry is an array of three or more elements, the first three strings: price, size, timestamp. The rest is passed over.
-unfoldable pub rowOf : List ℕ → List Span → Reading Row
-rowOf s [] = refused
-rowOf s (p ∷ []) = refused
-rowOf s (p ∷ (z ∷ [])) = refused
-rowOf s (p ∷ (z ∷ (t ∷ l))) = cond (isString s p && (isString s z && isString s t)) (reads (record { price = p; size = z })) refused
-
-unfoldable pub entryK : List ℕ → Span → Reading Row
-entryK s a = andThen (arrayAt 13 s a) (rowOf s)
 
 -- The rows of all members that have a name, of which there is one at the most.
 unfoldable pub rowsOfAll : List ℕ → List Span → Reading (List Row)

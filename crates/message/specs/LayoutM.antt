@@ -7,7 +7,9 @@ use Rattle.decimal.specs.Digits.{Reading, reads, refused}
 use Rattle.json.specs.Json.{Span, Pair}
 use Rattle.json.specs.Names.{means, hasBackslash}
 use Rattle.message.specs.Settings.{Terms}
-use Rattle.message.specs.Places.{andThen, all, isString, arrayAt, objectAt, valuesOf, only, wholeAt, checksumAt, Row, entriesDepth, entriesAt, Printed, printed, Layout}
+use Rattle.entries.specs.Places.{andThen, all, isString, objectAt, valuesOf, only, wholeAt, checksumAt}
+use Rattle.entries.specs.Rows.{Row, entriesAt, entryM}
+use Rattle.message.specs.Layout.{Printed, printed, Layout}
 
 -- Check 4: a backslash in a top-level key or in a `channel` or `product` string.
 unfoldable pub someName : List ℕ → List Pair → Bool
@@ -30,16 +32,6 @@ unfoldable pub oursM : Terms → List ℕ → List Pair → Bool
 oursM t s ms = someMeans s (ascii "book") (valuesOf s (ascii "channel") ms) && someMeans s (t .name) (valuesOf s (ascii "product") ms)
 
 -- ---- check 6: named, once each: `channel`, `product`, `type` (`snapshot` or `update`), `data`, `checksum`, `gsn`, and in `data` `bids` and `asks`
-
--- An entry is an array of exactly two strings.
-unfoldable pub rowOf : List ℕ → List Span → Reading Row
-rowOf s [] = refused
-rowOf s (p ∷ []) = refused
-rowOf s (p ∷ (z ∷ [])) = cond (isString s p && isString s z) (reads (record { price = p; size = z })) refused
-rowOf s (p ∷ (z ∷ (x ∷ l))) = refused
-
-unfoldable pub entryM : List ℕ → Span → Reading Row
-entryM s a = andThen (arrayAt 13 s a) (rowOf s)
 
 unfoldable pub isSnapshotAt : List ℕ → Span → Reading Bool
 isSnapshotAt s a = cond (means s a (ascii "snapshot")) (reads true) (cond (means s a (ascii "update")) (reads false) refused)

@@ -1,6 +1,6 @@
--- In reading order: settings; where things lie in a message; the layouts of dialects K and M; what a message says; worked examples.
+-- In reading order: settings; what a layout gives; the layouts of dialects K and M; what a message says; worked examples.
 pub mod Settings
-pub mod Places
+pub mod Layout
 pub mod LayoutK
 pub mod LayoutM
 pub mod Meaning

@@ -6,10 +6,12 @@ use mathlib.Core.List.{List, [], _∷_, _++_, map}
 use lib.Dec.{leb, ltb, eqb}
 use lib.ListN.{length}
 use Rattle.decimal.specs.Digits.{Reading, reads, refused}
-use Rattle.decimal.specs.Decimal.{Number, read, isZero}
+use Rattle.decimal.specs.Decimal.{Number}
 use Rattle.json.specs.Json.{Span, Pair, maxDepth, text}
 use Rattle.message.specs.Settings.{Terms, good}
-use Rattle.message.specs.Places.{andThen, top, inner, arrayAt, objectAt, Row, Printed, Layout}
+use Rattle.entries.specs.Places.{andThen, top, arrayAt, objectAt}
+use Rattle.entries.specs.Rows.{Row, badTexts, numberAt}
+use Rattle.message.specs.Layout.{Printed, Layout}
 use Rattle.message.specs.LayoutK.{Frame, frameOf, escapedK, oursK, layoutK}
 use Rattle.message.specs.LayoutM.{escapedM, oursM, layoutM}
 use Rattle.message.specs.declared.Dialect.{Dialect}
@@ -39,23 +41,8 @@ pub data Said : Type 0 where
 
 -- ---- check 8: a decimal rule broken, price zero, or size zero in a snapshot
 
-unfoldable pub badPrice : List ℕ → Span → Bool
-badPrice s a = elim (read (inner s a)) [ reads n ↦ isZero n | refused ↦ true ]
-
-unfoldable pub badSize : Bool → List ℕ → Span → Bool
-badSize snapshot s a = elim (read (inner s a)) [ reads n ↦ snapshot && isZero n | refused ↦ true ]
-
--- The texts of rows that break it.
-unfoldable pub badTexts : Bool → List ℕ → List Row → List Span
-badTexts snapshot s [] = []
-badTexts snapshot s (r ∷ l) =
-    cond (badPrice s (r .price)) (r .price ∷ []) [] ++ (cond (badSize snapshot s (r .size)) (r .size ∷ []) [] ++ badTexts snapshot s l)
-
 unfoldable pub bad : List ℕ → Layout → List Span
 bad s l = badTexts (l .snapshot) s (l .bids) ++ badTexts (l .snapshot) s (l .asks)
-
-unfoldable pub numberAt : List ℕ → Span → Number
-numberAt s a = elim (read (inner s a)) [ reads n ↦ n | refused ↦ record { digits = 0; decimals = 0 } ]
 
 unfoldable pub quoteAt : List ℕ → Row → Quote
 quoteAt s r = record { price = numberAt s (r .price); size = numberAt s (r .size) }

@@ -1,4 +1,4 @@
--- Where things lie in a message: what the arrays and objects of it hold, members by name, strings and whole numbers, the two texts of an entry.
+-- Where things lie in a message: what the arrays and objects of it hold, members by name, strings and whole numbers.
 -- Assumes nothing: these are definitions.
 use Prim.Native.Nat.{ℕ, zero, suc, _+_, _-_}
 use mathlib.Core.Bool.{Bool, true, false, _&&_, cond}
@@ -68,31 +68,3 @@ checksumAt s a = readChecksum (part s a)
 
 unfoldable pub quotedChecksumAt : List ℕ → Span → Reading ℕ
 quotedChecksumAt s a = cond (isString s a) (readChecksum (inner s a)) refused
-
--- ---- entries
-
--- Where the price's text and the size's text of an entry lie, quotes included.
-pub record Row : Type 0 where
-  pub price : Span
-  pub size : Span
-
--- The rows of an array of entries, where `entry` says what row an element is. Entries lie in an array in an object in the message's own array or
--- object, or in an object in that: two levels of nesting are used up outside.
-abbrev pub entriesDepth : ℕ
-entriesDepth = 14
-
-unfoldable pub entriesAt : (List ℕ → Span → Reading Row) → List ℕ → Span → Reading (List Row)
-entriesAt entry s a = andThen (arrayAt entriesDepth s a) (all (entry s))
-
--- How a message prints a checksum, if it does.
-pub data Printed : Type 0 where
-  printed : ℕ → Printed
-  unprinted : Printed
-
--- What the layout of a message gives, in either dialect: the rows of each side in written order, the checksum, the sequence number.
-pub record Layout : Type 0 where
-  pub snapshot : Bool
-  pub bids : List Row
-  pub asks : List Row
-  pub checksum : Printed
-  pub number : ℕ

@@ -1,0 +1,3 @@
+-- In reading order: where things lie in a message; its entries.
+pub mod Places
+pub mod Rows

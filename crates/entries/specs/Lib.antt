@@ -1,3 +1,5 @@
--- In reading order: where things lie in a message; its entries.
+-- In reading order: where things lie in a message; its entries; what is told of them in numbers; what their readers find on the way.
 pub mod Places
 pub mod Rows
+pub mod Summary
+pub mod Front

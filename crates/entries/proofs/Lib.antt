@@ -1,0 +1,3 @@
+-- What the proofs of several functions cite, here and in the crates above.
+pub mod Stops
+pub mod Entry

@@ -4,3 +4,4 @@ pub mod Entry
 pub mod Strings
 pub mod Counting
 pub mod Summary
+pub mod Claims

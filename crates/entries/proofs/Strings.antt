@@ -1,0 +1,149 @@
+-- The price and the size of an entry are strings: each begins with a quote, has room for two, and lies within the text.
+-- Assumes nothing.
+use mathlib.Core.Path.{_≡_, refl, sym, ap, _∙_}
+use mathlib.Core.List.{List, [], _∷_}
+use mathlib.Core.Bool.{Bool, true, false, _&&_, cond, and-eq-true-iff}
+use Prim.Native.Nat.{ℕ, zero, suc, _+_, _≤_, _<_}
+use native.Mathlib.Omega.{arith}
+use lib.ListN.{length, drop, length-drop}
+use lib.Dec.{eqb, ltb}
+use borrow.Author.Tests.{eqb-true}
+use Rattle.decimal.specs.Digits.{Reading, reads, refused}
+use Rattle.json_tokens.specs.Bytes.{byteAt, hexDigit, escaped}
+use Rattle.json_tokens.specs.Tokens.{End, At, Broken, chars, escape, hexes, stringRest, string}
+use Rattle.json_tokens.proofs.Laws.{string-yes}
+use Rattle.json_tokens.proofs.Bounds.{In, within, none, bounds, in-when, in-sub, string-in}
+use Rattle.json.specs.Json.{Span, Items, items, noItems, elements, value}
+use Rattle.json.specs.Claims.{In-order, then, Is-element}
+use Rattle.json.proofs.Laws.{value-string}
+use Rattle.json.proofs.Claims.{elements-in-order}
+use Rattle.entries.specs.Places.{andThen, isString, contents, arrayAt}
+use Rattle.entries.specs.Rows.{Row, rowK, entryK, rowM, entryM}
+use Rattle.entries.proofs.Stops.{string-byte}
+
+-- ---- a string has two quotes: past the first, it ends past where it begins
+step : (t : List ℕ) (i : ℕ) {x : End} → In (i + 1 + 1) (i + 1 + length t) x → In (i + 1) (i + suc (length t)) x
+step t i p = in-sub (omega arith) (omega arith) p
+
+mutual
+  unfolding chars
+
+  chars-in : (t : List ℕ) (i : ℕ) → In (i + 1) (i + length t) (chars t i)
+  chars-in [] i = none
+  chars-in (c ∷ t) i =
+      in-when (eqb c 34) (λ h. within (i + 1) (omega arith) (omega arith))
+      (in-when (eqb c 92) (λ h. step t i (escape-in t (i + 1)))
+      (in-when (ltb c 32) (λ h. none) (step t i (chars-in t (i + 1)))))
+
+  escape-in : (t : List ℕ) (i : ℕ) → In (i + 1) (i + length t) (escape t i)
+  escape-in [] i = none
+  escape-in (c ∷ t) i =
+      in-when (eqb c 117) (λ h. step t i (hexes-in t 3 (i + 1)))
+      (in-when (escaped c) (λ h. step t i (chars-in t (i + 1))) none)
+
+  hexes-in : (t : List ℕ) (n i : ℕ) → In (i + 1) (i + length t) (hexes t n i)
+  hexes-in [] n i = none
+  hexes-in (c ∷ t) zero i = in-when (hexDigit c) (λ h. step t i (chars-in t (i + 1))) none
+  hexes-in (c ∷ t) (suc m) i = in-when (hexDigit c) (λ h. step t i (hexes-in t m (i + 1))) none
+
+pub string-two : (s : List ℕ) (i e : ℕ) → string s i ≡ At e → (i + 2 ≤ e) × (e ≤ length s)
+unfolding stringRest
+string-two s i e h =
+    let b = bounds e (chars-in (drop (i + 1) s) (i + 1)) (sym (string-yes s i (string-byte s i e h)) ∙ h) in
+    let c = bounds e (string-in s i) h in
+    (omega arith, c .1)
+
+-- ---- a string that lies in the text
+pub record StringAt (s : List ℕ) (a : Span) : Type 0 where
+  pub opens : byteAt s (a .from) ≡ 34
+  pub is-string : string s (a .from) ≡ At (a .to)
+  pub room : a .from + 2 ≤ a .to
+  pub inside : a .to ≤ length s
+
+string-at : (s : List ℕ) (a : Span) → value 12 s (a .from) ≡ At (a .to) → isString s a ≡ true → StringAt s a
+unfolding isString
+string-at s a v h =
+    let b : byteAt s (a .from) ≡ 34 = eqb-true _ _ h in
+    let q : string s (a .from) ≡ At (a .to) = sym (value-string s (a .from) 12 b) ∙ v in
+    let c = string-two s (a .from) (a .to) q in
+    record { opens = b; is-string = q; room = c .0; inside = c .1 }
+
+-- an entry's reader finds strings only
+abbrev pub Sound : (List ℕ → Span → Reading Row) → List ℕ → Type 0
+Sound entry s = (a : Span) (r : Row) → entry s a ≡ reads r → StringAt s (r .price) × StringAt s (r .size)
+
+no-row : {A B : Type 0} {r : B} → refused ≡ reads r → A
+no-row h = let z : _≡_ {A = ℕ} 0 1 = cc in absurd (omega arith)
+
+-- the row r is made of the first two elements, which are strings
+record Begins (s : List ℕ) (l : List Span) (r : Row) : Type 0 where
+  first : Span
+  second : Span
+  others : List Span
+  all-of : l ≡ first ∷ (second ∷ others)
+  first-is : isString s first ≡ true
+  second-is : isString s second ≡ true
+  row-is : r ≡ record { price = first; size = second }
+
+module _ (s : List ℕ) (row : List Span → Reading Row) (front : (l : List Span) (r : Row) → row l ≡ reads r → Begins s l r) where
+  in-order : (hi lo : ℕ) (p z : Span) (k : List Span) → In-order (Is-element 12 s) hi lo (p ∷ (z ∷ k)) → (value 12 s (p .from) ≡ At (p .to)) × (value 12 s (z .from) ≡ At (z .to))
+  in-order hi lo p z k (then lo1 from1 to1 p1 l1 a b c (then lo2 from2 to2 z1 k1 d e f o)) = (c .a-value, f .a-value)
+
+  sound-items : (i : ℕ) (x : Items Span) → elements (value 12 s) s i ≡ x → (r : Row) → andThen (contents x) row ≡ reads r → StringAt s (r .price) × StringAt s (r .size)
+  unfolding contents andThen
+  sound-items i (items l e) q r h =
+      let g = front l r h in
+      let p = g .first in
+      let z = g .second in
+      let o : In-order (Is-element 12 s) e i (p ∷ (z ∷ g .others)) = rw (g .all-of) at (elements-in-order 12 s i l e q .0) in
+      let v = in-order e i p z (g .others) o in
+      rw (g .row-is) (string-at s p (v .0) (g .first-is), string-at s z (v .1) (g .second-is))
+  sound-items i noItems q r h = no-row h
+
+  sound-array : (a : Span) (r : Row) → andThen (arrayAt 13 s a) row ≡ reads r → StringAt s (r .price) × StringAt s (r .size)
+  unfolding arrayAt andThen
+  sound-array a r h = go (eqb (byteAt s (a .from)) 91) h
+    where
+      go : (b : Bool) → andThen (cond b (contents (elements (value 12 s) s (a .from + 1))) refused) row ≡ reads r → StringAt s (r .price) × StringAt s (r .size)
+      go true g = sound-items (a .from + 1) (elements (value 12 s) s (a .from + 1)) refl r g
+      go false g = no-row g
+
+same-row : {x y : Row} → _≡_ {A = Reading Row} (reads x) (reads y) → y ≡ x
+same-row h = cc
+
+pub k-sound : (s : List ℕ) → Sound entryK s
+unfolding entryK rowK
+k-sound s a r h = sound-array s (rowK s) front a r h
+  where
+    strings : (p z t : Span) (k : List Span) (r : Row) (b : Bool) → (isString s p && (isString s z && isString s t)) ≡ b
+        → cond b (reads (record { price = p; size = z })) refused ≡ reads r
+        → Begins s (p ∷ (z ∷ (t ∷ k))) r
+    strings p z t k r true q g =
+        let c = and-eq-true-iff (isString s p) (isString s z && isString s t) .0 q in
+        let d = and-eq-true-iff (isString s z) (isString s t) .0 (c .1) in
+        record { first = p; second = z; others = t ∷ k; all-of = refl; first-is = c .0; second-is = d .0; row-is = same-row g }
+    strings p z t k r false q g = no-row g
+
+    front : (l : List Span) (r : Row) → rowK s l ≡ reads r → Begins s l r
+    front [] r g = no-row g
+    front (p ∷ []) r g = no-row g
+    front (p ∷ (z ∷ [])) r g = no-row g
+    front (p ∷ (z ∷ (t ∷ k))) r g = strings p z t k r (isString s p && (isString s z && isString s t)) refl g
+
+pub m-sound : (s : List ℕ) → Sound entryM s
+unfolding entryM rowM
+m-sound s a r h = sound-array s (rowM s) front a r h
+  where
+    strings : (p z : Span) (r : Row) (b : Bool) → (isString s p && isString s z) ≡ b
+        → cond b (reads (record { price = p; size = z })) refused ≡ reads r
+        → Begins s (p ∷ (z ∷ [])) r
+    strings p z r true q g =
+        let c = and-eq-true-iff (isString s p) (isString s z) .0 q in
+        record { first = p; second = z; others = []; all-of = refl; first-is = c .0; second-is = c .1; row-is = same-row g }
+    strings p z r false q g = no-row g
+
+    front : (l : List Span) (r : Row) → rowM s l ≡ reads r → Begins s l r
+    front [] r g = no-row g
+    front (p ∷ []) r g = no-row g
+    front (p ∷ (z ∷ [])) r g = strings p z r (isString s p && isString s z) refl g
+    front (p ∷ (z ∷ (x ∷ k))) r g = no-row g

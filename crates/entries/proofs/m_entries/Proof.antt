@@ -1,0 +1,198 @@
+-- `entries::m_entries` meets its contract: wherever the loop stands, what was counted with what the entries left will add is the answer.
+-- Assumes nothing.
+use Prim.Native.Nat.{_-_, _≤_}
+use borrow.Author.Needs.{needs}
+use denote.Ref.{now}
+use lib.ListN.{length}
+use mathlib.Core.Path.{_∙_, ap, sym}
+use native.Mathlib.Omega.{arith}
+use Rattle.json_tokens.proofs.Bounds.{closing-in, end-broken, separator-in}
+use Rattle.json_tokens.proofs.Laws.{end-at, in-byte}
+use Rattle.json_tokens.specs.Tokens.{closing, separator}
+use Rattle.json.proofs.Walk.{Walk}
+use Rattle.entries.proofs.Strings.{m-sound}
+use Rattle.entries.proofs.Summary.{each, each-broken, each-few, each-further, each-last, each-on, each-wrong, found-laid, found-past, nothing, summary-empty, summary-other, summary-start, summaryIn}
+use Rattle.entries.specs.Rows.{entryM}
+use Rattle.entries.specs.Summary.{noEntries, summaryAt}
+use Rattle.entries.specs.declared.Entries.{Entries}
+use Rattle.entries.proofs.m_entries.Statement.{statement}
+use Rattle.entries.proofs.m_entries.Tie as tie
+
+abbrev Inv-loop : tie.InvT-loop
+Inv-loop s at none i₀ sum₀ i sum = Walk (each s) 93 s (summaryIn entryM s sum) i (each s i) (summaryAt entryM s at) × (sum .count ≤ i)
+
+abbrev μ-loop : tie.MeasureT-loop
+μ-loop s at none i₀ sum₀ i sum = length s - i
+
+byte-at-requires : tie.Need-byte-at-requires Inv-loop μ-loop
+byte-at-requires c κs = search needs
+
+value-end-requires : tie.Need-value-end-requires Inv-loop μ-loop
+value-end-requires c κs = search needs
+
+refused-requires : tie.Need-refused-requires Inv-loop μ-loop
+refused-requires c κs = search needs
+
+returns : tie.Need-returns Inv-loop μ-loop
+returns c =
+    let a = c .before .before .before .before .before .args in
+    let s = now (a .s) in
+    c .refused .ensures ∙ ap noEntries (c .before .value-end .ensures) ∙ summary-other entryM s (a .at) (λ z. c .before .before .if1 .taken (c .before .before .before .byte-at .ensures ∙ z))
+
+add-array-close-end : tie.Need-add-array-close-end Inv-loop μ-loop
+add-array-close-end c =
+    let a = c .before .before .before .args in
+    let l = in-byte (now (a .s)) (a .at) 91 (omega arith) (sym (c .before .byte-at .ensures) ∙ c .if1 .left) in
+    omega arith
+
+array-close-end-requires : tie.Need-array-close-end-requires Inv-loop μ-loop
+array-close-end-requires c κs = search needs
+
+empty-requires : tie.Need-empty-requires Inv-loop μ-loop
+empty-requires c κs = search needs
+
+returns-2 : tie.Need-returns-2 Inv-loop μ-loop
+returns-2 c =
+    let a = c .before .before .before .before .before .before .args in
+    let s = now (a .s) in
+    let e = c .before .before .array-close-end .result in
+    c .empty .ensures ∙ summary-empty entryM s (a .at) (sym (c .before .before .before .before .byte-at .ensures) ∙ c .before .before .before .if1 .left) e (c .before .before .array-close-end .ensures) (c .before .if2 .taken)
+
+add-skip-blanks : tie.Need-add-skip-blanks Inv-loop μ-loop
+add-skip-blanks c =
+    let a = c .before .before .before .before .before .args in
+    let l = in-byte (now (a .s)) (a .at) 91 (omega arith) (sym (c .before .before .before .byte-at .ensures) ∙ c .before .before .if1 .left) in
+    omega arith
+
+skip-blanks-requires : tie.Need-skip-blanks-requires Inv-loop μ-loop
+skip-blanks-requires c κs = search needs
+
+empty-requires-2 : tie.Need-empty-requires-2 Inv-loop μ-loop
+empty-requires-2 c κs = search needs
+
+loop-holds : tie.Need-loop-holds Inv-loop μ-loop
+loop-holds c =
+    let a = c .before .before .before .before .before .before .before .args in
+    let s = now (a .s) in
+    let e = c .before .before .before .array-close-end .result in
+    let k = c .before .skip-blanks .result in
+    let h = c .empty2 .ensures in
+    let w = summary-start entryM s (a .at) (sym (c .before .before .before .before .before .byte-at .ensures) ∙ c .before .before .before .before .if1 .left) e (c .before .before .before .array-close-end .ensures) k (omega arith) (c .before .skip-blanks .ensures) in
+    let n = ap (λ (x : Entries). x .count) h in
+    (rw h w, omega arith)
+
+m-entry-requires : tie.Need-m-entry-requires Inv-loop μ-loop
+m-entry-requires c κs = search needs
+
+refused-requires-2 : tie.Need-refused-requires-2 Inv-loop μ-loop
+refused-requires-2 c κs = search needs
+
+returns-3 : tie.Need-returns-3 Inv-loop μ-loop
+returns-3 c =
+    let a = c .before .before .before .before .before .before .before .before .before .before .before .args in
+    let s = now (a .s) in
+    let i = c .before .before .before .loop .i in
+    let sum = c .before .before .before .loop .sum in
+    let w = c .before .before .before .loop .inv in
+    let g = c .before .before .m-entry .result in
+    let t = c .before .before .m-entry .ensures in
+    c .refused2 .ensures ∙ each-wrong entryM s i g t sum (summaryAt entryM s (a .at)) (w .0) (c .before .if3 .taken)
+
+counted-requires : tie.Need-counted-requires Inv-loop μ-loop
+counted-requires c κs =
+    let a = c .before .before .before .before .before .before .before .before .before .before .args in
+    let s = now (a .s) in
+    let i = c .before .before .loop .i in
+    let sum = c .before .before .loop .sum in
+    let w = c .before .before .loop .inv in
+    let g = c .before .m-entry .result in
+    let t = c .before .m-entry .ensures in
+    let p = found-past entryM s i g t (c .if3 .left) in
+    let b = w .1 in
+    (found-laid entryM s i g t (m-sound s), omega arith)
+
+comma-end-requires : tie.Need-comma-end-requires Inv-loop μ-loop
+comma-end-requires c κs = search needs
+
+array-close-end-requires-2 : tie.Need-array-close-end-requires-2 Inv-loop μ-loop
+array-close-end-requires-2 c κs = search needs
+
+refused-requires-3 : tie.Need-refused-requires-3 Inv-loop μ-loop
+refused-requires-3 c κs = search needs
+
+returns-4 : tie.Need-returns-4 Inv-loop μ-loop
+returns-4 c =
+    let a = c .before .before .before .before .before .before .before .before .before .before .before .before .before .before .before .before .args in
+    let s = now (a .s) in
+    let i = c .before .before .before .before .before .before .before .before .loop .i in
+    let sum = c .before .before .before .before .before .before .before .before .loop .sum in
+    let w = c .before .before .before .before .before .before .before .before .loop .inv in
+    let g = c .before .before .before .before .before .before .before .m-entry .result in
+    let t = c .before .before .before .before .before .before .before .m-entry .ensures in
+    let n = c .before .before .before .before .before .before .if3 .left in
+    let m = c .before .before .before .before .before .counted .result in
+    let e = c .before .before .before .before .before .counted .ensures in
+    let j = c .before .before .before .before .comma-end .result in
+    let q = end-broken j (omega arith) (separator-in s 44 (g .end) (omega arith)) (c .before .before .before .before .comma-end .ensures) (c .before .before .before .if4 .taken) in
+    let d = end-broken (c .before .before .array-close-end2 .result) (omega arith) (closing-in s 93 (g .end) (omega arith)) (c .before .before .array-close-end2 .ensures) (c .before .if5 .taken) in
+    c .refused3 .ensures ∙ each-broken entryM s i g t sum (summaryAt entryM s (a .at)) (w .0) n m e q d
+
+closed-requires : tie.Need-closed-requires Inv-loop μ-loop
+closed-requires c κs = search needs
+
+returns-5 : tie.Need-returns-5 Inv-loop μ-loop
+returns-5 c =
+    let a = c .before .before .before .before .before .before .before .before .before .before .before .before .before .before .before .before .args in
+    let s = now (a .s) in
+    let i = c .before .before .before .before .before .before .before .before .loop .i in
+    let sum = c .before .before .before .before .before .before .before .before .loop .sum in
+    let w = c .before .before .before .before .before .before .before .before .loop .inv in
+    let g = c .before .before .before .before .before .before .before .m-entry .result in
+    let t = c .before .before .before .before .before .before .before .m-entry .ensures in
+    let n = c .before .before .before .before .before .before .if3 .left in
+    let m = c .before .before .before .before .before .counted .result in
+    let e = c .before .before .before .before .before .counted .ensures in
+    let j = c .before .before .before .before .comma-end .result in
+    let q = end-broken j (omega arith) (separator-in s 44 (g .end) (omega arith)) (c .before .before .before .before .comma-end .ensures) (c .before .before .before .if4 .taken) in
+    let k = c .before .before .array-close-end2 .result in
+    let d = end-at (closing 93 s (g .end)) k (c .before .before .array-close-end2 .ensures) (c .before .if5 .left) in
+    c .closed .ensures ∙ each-last entryM s i g t sum (summaryAt entryM s (a .at)) (w .0) n m e q k d
+
+loop-less : tie.Need-loop-less Inv-loop μ-loop
+loop-less c =
+    let a = c .before .before .before .before .before .before .before .before .before .before .before .before .before .args in
+    let s = now (a .s) in
+    let i = c .before .before .before .before .before .loop .i in
+    let sum = c .before .before .before .before .before .loop .sum in
+    let w = c .before .before .before .before .before .loop .inv in
+    let g = c .before .before .before .before .m-entry .result in
+    let t = c .before .before .before .before .m-entry .ensures in
+    let n = c .before .before .before .if3 .left in
+    let m = c .before .before .counted .result in
+    let e = c .before .before .counted .ensures in
+    let j = c .before .comma-end .result in
+    let q = end-at (separator 44 s (g .end)) j (c .before .comma-end .ensures) (c .if4 .left) in
+    let p = found-past entryM s i g t n in
+    let f = each-further entryM s i g t sum (summaryAt entryM s (a .at)) (w .0) n m e j q in
+    omega arith
+
+loop-again : tie.Need-loop-again Inv-loop μ-loop
+loop-again c =
+    let a = c .before .before .before .before .before .before .before .before .before .before .before .before .before .args in
+    let s = now (a .s) in
+    let i = c .before .before .before .before .before .loop .i in
+    let sum = c .before .before .before .before .before .loop .sum in
+    let w = c .before .before .before .before .before .loop .inv in
+    let g = c .before .before .before .before .m-entry .result in
+    let t = c .before .before .before .before .m-entry .ensures in
+    let n = c .before .before .before .if3 .left in
+    let m = c .before .before .counted .result in
+    let e = c .before .before .counted .ensures in
+    let j = c .before .comma-end .result in
+    let q = end-at (separator 44 s (g .end)) j (c .before .comma-end .ensures) (c .if4 .left) in
+    let f = each-further entryM s i g t sum (summaryAt entryM s (a .at)) (w .0) n m e j q in
+    let b = each-few entryM s i g t sum (summaryAt entryM s (a .at)) (w .0) n m e (w .1) in
+    (each-on entryM s i g t sum (summaryAt entryM s (a .at)) (w .0) n m e j q, omega arith)
+
+pub m-entries-spec : {M : Type 1} → statement M
+m-entries-spec = tie.close (tie.spec Inv-loop μ-loop byte-at-requires value-end-requires refused-requires returns add-array-close-end array-close-end-requires empty-requires returns-2 add-skip-blanks skip-blanks-requires empty-requires-2 loop-holds m-entry-requires refused-requires-2 returns-3 counted-requires comma-end-requires array-close-end-requires-2 refused-requires-3 returns-4 closed-requires returns-5 loop-less loop-again)

@@ -1,0 +1,66 @@
+-- Entries counted one by one.
+-- Assumes nothing: these are definitions.
+use Prim.Native.Nat.{ℕ, _+_, _≤_}
+use mathlib.Core.Path.{_≡_}
+use mathlib.Core.Bool.{Bool, true, false, _||_, cond}
+use mathlib.Core.List.{List}
+use lib.ListN.{length}
+use Rattle.decimal.specs.Digits.{Reading, reads, refused}
+use Rattle.decimal.specs.Decimal.{Number, isZero}
+use Rattle.json.specs.Json.{Span}
+use Rattle.entries.specs.Rows.{badPrice, badSize}
+use Rattle.entries.specs.Summary.{zeroSize, noEntries}
+use Rattle.entries.specs.declared.Found.{Found}
+use Rattle.entries.specs.declared.Entries.{Entries}
+use Rattle.entries.specs.declared.Amount.{Amount}
+use Rattle.entries.specs.declared.Amount.the-variants.{NoDecimal, Zero, Positive}
+
+-- ---- what the text of a price or a size says
+
+unfoldable pub amountOf : Reading Number → Amount
+amountOf (reads n) = elim (isZero n) [ true ↦ Zero | false ↦ Positive ]
+amountOf refused = NoDecimal
+
+unfoldable pub isBadPrice : Amount → Bool
+isBadPrice NoDecimal = true
+isBadPrice Zero = true
+isBadPrice Positive = false
+
+unfoldable pub isBadSize : Amount → Bool
+isBadSize NoDecimal = true
+isBadSize Zero = false
+isBadSize Positive = false
+
+unfoldable pub isZeroSize : Amount → Bool
+isZeroSize NoDecimal = false
+isZeroSize Zero = true
+isZeroSize Positive = false
+
+-- ---- one more entry
+
+-- A part of the text that is long enough for two quotes.
+abbrev pub Quoted : List ℕ → ℕ → ℕ → Type 0
+Quoted s from to = (from + 2 ≤ to) × (to ≤ length s)
+
+-- The places of an entry, if it is one.
+abbrev pub Laid : List ℕ → Found → Type 0
+Laid s f = f .fair ≡ true → Quoted s (f .«price_from») (f .«price_to») × Quoted s (f .«size_from») (f .«size_to»)
+
+unfoldable pub withRow : List ℕ → Entries → ℕ → Span → Span → Entries
+withRow s sum end price size =
+    record {
+      end = end;
+      fair = true;
+      count = sum .count + 1;
+      broken = sum .broken || (badPrice s price || badSize false s size);
+      zero = sum .zero || zeroSize s size;
+    }
+
+-- What was counted, and the entry f. Where one is none, nothing is counted any more.
+unfoldable pub counted : List ℕ → Entries → Found → Entries
+counted s sum f =
+    cond (sum .fair)
+    (cond (f .fair)
+    (withRow s sum (f .end) (record { from = f .«price_from»; to = f .«price_to» }) (record { from = f .«size_from»; to = f .«size_to» }))
+    (noEntries (f .end)))
+    (noEntries (f .end))

@@ -1,0 +1,7 @@
+-- In reading order: where things lie in a message; its entries; what is told of them in numbers; what their readers find on the way; how they are
+-- counted.
+pub mod Places
+pub mod Rows
+pub mod Summary
+pub mod Front
+pub mod Counting

@@ -1,0 +1,119 @@
+-- Worked examples: settings and a message, with the number of the first refusal that fits by document 01's table, or 0. Assumes nothing.
+use mathlib.Core.Path.{_≡_, refl}
+use mathlib.Core.Bool.{true, false}
+use mathlib.Core.List.{List, [], _∷_}
+use Prim.Native.Nat.{ℕ}
+use Prim.Native.String.{String}
+use Rattle.decimal.specs.Ascii.{ascii}
+use Rattle.settings.specs.declared.Dialect.the-variants.{K, M}
+use Rattle.settings.specs.Settings.{Terms}
+use Rattle.message.specs.Meaning.{Said, refuses, says, said}
+use Rattle.decimal.specs.Digits as d·
+use Rattle.decimal.specs.Decimal as d2·
+use Rattle.decimal.specs.Whole as d3·
+use Rattle.json_tokens.specs.Bytes as t1·
+use Rattle.json_tokens.specs.Tokens as t2·
+use Rattle.json.specs.Json as j1·
+use Rattle.json.specs.Names as j2·
+use Rattle.entries.specs.Places as p·
+use Rattle.entries.specs.Rows as r·
+use Rattle.message.specs.LayoutK as k·
+use Rattle.message.specs.LayoutM as m·
+use Rattle.message.specs.Meaning as w·
+
+m-book : Terms
+m-book = record { dialect = M; depth = 100; name = ascii "BTC-VND" }
+
+k-book : Terms
+k-book = record { dialect = K; depth = 10; name = ascii "XBT/USD" }
+
+-- the number of a refusal, and 0 of a message that says something
+number : Said → ℕ
+number (refuses n) = n
+number (says m) = 0
+
+-- settings, a message, and the number
+pub data Case : Type 0 where
+  answers : Terms → String → ℕ → Case
+
+Holds : Case → Type 0
+Holds (answers t s n) = number (said t (ascii s)) ≡ n
+
+Each : List Case → Type 0
+Each [] = Unit
+Each (c ∷ cs) = Holds c × Each cs
+
+table : List Case
+table =
+    -- the session of 01
+    answers m-book "{\"channel\":\"book\",\"product\":\"BTC-VND\",\"type\":\"snapshot\",\"data\":{\"bids\":[[\"9\",\"2\"]],\"asks\":[[\"10\",\"1\"]]},\"checksum\":1226559413,\"gsn\":7}" 0 ∷
+    answers m-book "{\"channel\":\"trades\"}" 5 ∷
+    answers m-book "{\"channel\":\"book\"" 3 ∷
+    answers m-book "{\"channel\":\"book\",\"product\":\"BTC-VND\",\"type\":\"update\",\"data\":{\"bids\":[[\"9\",\"0\"]],\"asks\":[]},\"checksum\":5,\"gsn\":8}" 0 ∷
+    -- check 3
+    answers m-book "" 3 ∷
+    answers m-book "   " 3 ∷
+    -- 16 and 17 nested arrays
+    answers k-book "[[[[[[[[[[[[[[[[1]]]]]]]]]]]]]]]]" 5 ∷
+    answers k-book "[[[[[[[[[[[[[[[[[1]]]]]]]]]]]]]]]]]" 3 ∷
+    -- check 4
+    answers k-book "[0,{\"as\":[[\"1.5\",\"2\",\"3\"]],\"bs\":[]},\"book-10\",\"XBT\\/USD\"]" 4 ∷
+    answers k-book "[1,2,\"\\n\",\"trade\"]" 4 ∷
+    answers k-book "[1,2,3,[\"\\n\"]]" 5 ∷
+    answers m-book "{\"a\\n\":1}" 4 ∷
+    answers m-book "{\"channel\":\"bo\\u006fk\"}" 4 ∷
+    answers m-book "{\"x\":\"\\n\"}" 5 ∷
+    -- check 5
+    answers k-book "7" 5 ∷
+    answers k-book "[1,2,3]" 5 ∷
+    answers k-book "[1,2,3,4,5,6]" 5 ∷
+    answers k-book "{}" 5 ∷
+    answers m-book "[]" 5 ∷
+    answers k-book "[0,{\"as\":[[\"1.5\",\"2\",\"3\"]],\"bs\":[]},\"book-25\",\"XBT/USD\"]" 5 ∷
+    answers k-book "[0,{\"as\":[[\"1.5\",\"2\",\"3\"]],\"bs\":[]},\"book-10\",\"XBT/EUR\"]" 5 ∷
+    answers m-book "{\"channel\":\"book\",\"product\":\"BTC\",\"type\":\"update\",\"data\":{\"bids\":[[\"9\",\"0\"]],\"asks\":[]},\"checksum\":5,\"gsn\":8}" 5 ∷
+    -- check 6, K
+    answers k-book "[0,{\"as\":[[\"1.5\",\"2\",\"3\"]],\"bs\":[]},\"book-10\",\"XBT/USD\"]" 0 ∷
+    answers k-book "[\"0\",{\"as\":[[\"1.5\",\"2\",\"3\"]],\"bs\":[]},\"book-10\",\"XBT/USD\"]" 6 ∷
+    answers k-book "[-0,{\"as\":[[\"1.5\",\"2\",\"3\"]],\"bs\":[]},\"book-10\",\"XBT/USD\"]" 6 ∷
+    answers k-book "[0,7,\"book-10\",\"XBT/USD\"]" 6 ∷
+    answers k-book "[0,{},\"book-10\",\"XBT/USD\"]" 6 ∷
+    answers k-book "[0,{\"as\":[]},\"book-10\",\"XBT/USD\"]" 6 ∷
+    answers k-book "[0,{\"as\":[],\"bs\":[],\"c\":\"1\"},\"book-10\",\"XBT/USD\"]" 6 ∷
+    answers k-book "[0,{\"as\":[],\"bs\":[],\"as\":[]},\"book-10\",\"XBT/USD\"]" 6 ∷
+    answers k-book "[0,{\"as\":[]},{\"bs\":[]},\"book-10\",\"XBT/USD\"]" 6 ∷
+    answers k-book "[0,{\"a\":[],\"c\":\"1\"},\"book-10\",\"XBT/USD\"]" 0 ∷
+    answers k-book "[0,{\"a\":[]},{\"b\":[],\"c\":\"1\"},\"book-10\",\"XBT/USD\"]" 0 ∷
+    answers k-book "[0,{\"a\":[],\"c\":\"1\"},{\"b\":[]},\"book-10\",\"XBT/USD\"]" 6 ∷
+    answers k-book "[0,{\"a\":[]},{\"c\":\"1\"},\"book-10\",\"XBT/USD\"]" 6 ∷
+    answers k-book "[0,{\"a\":[]},{\"a\":[],\"c\":\"1\"},\"book-10\",\"XBT/USD\"]" 6 ∷
+    answers k-book "[0,{\"a\":[],\"c\":1},\"book-10\",\"XBT/USD\"]" 6 ∷
+    answers k-book "[0,{\"a\":[],\"c\":\"01\"},\"book-10\",\"XBT/USD\"]" 6 ∷
+    answers k-book "[0,{\"a\":[],\"c\":\"4294967296\"},\"book-10\",\"XBT/USD\"]" 6 ∷
+    answers k-book "[0,{\"a\":[],\"c\":\"4294967295\",\"x\":[1]},\"book-10\",\"XBT/USD\"]" 0 ∷
+    answers k-book "[0,{\"a\":[[\"1\",\"2\"]],\"c\":\"1\"},\"book-10\",\"XBT/USD\"]" 6 ∷
+    answers k-book "[0,{\"a\":[[\"1\",\"2\",\"3\",\"r\",{}]],\"c\":\"1\"},\"book-10\",\"XBT/USD\"]" 0 ∷
+    answers k-book "[0,{\"a\":[[\"1\",2,\"3\"]],\"c\":\"1\"},\"book-10\",\"XBT/USD\"]" 6 ∷
+    answers k-book "[0,{\"a\":{},\"c\":\"1\"},\"book-10\",\"XBT/USD\"]" 6 ∷
+    -- check 6, M
+    answers m-book "{\"channel\":\"book\",\"product\":\"BTC-VND\",\"type\":\"heartbeat\",\"data\":{\"bids\":[[\"9\",\"0\"]],\"asks\":[]},\"checksum\":5,\"gsn\":8}" 6 ∷
+    answers m-book "{\"channel\":\"book\",\"product\":\"BTC-VND\",\"type\":\"update\",\"data\":{\"bids\":[[\"9\",\"0\"]],\"asks\":[]},\"checksum\":5,\"gsn\":8.0}" 6 ∷
+    answers m-book "{\"channel\":\"book\",\"product\":\"BTC-VND\",\"type\":\"update\",\"data\":{\"bids\":[[\"9\",\"0\"]],\"asks\":[]},\"checksum\":5,\"gsn\":\"8\"}" 6 ∷
+    answers m-book "{\"channel\":\"book\",\"product\":\"BTC-VND\",\"type\":\"update\",\"data\":{\"bids\":[[\"9\",\"0\"]],\"asks\":[]},\"checksum\":4294967296,\"gsn\":8}" 6 ∷
+    answers m-book "{\"channel\":\"book\",\"product\":\"BTC-VND\",\"type\":\"update\",\"data\":{\"bids\":[]},\"checksum\":5,\"gsn\":8}" 6 ∷
+    answers m-book "{\"channel\":\"book\",\"product\":\"BTC-VND\",\"type\":\"update\",\"data\":{\"bids\":[],\"asks\":[[\"1\",\"2\",\"3\"]]},\"checksum\":5,\"gsn\":8}" 6 ∷
+    answers m-book "{\"channel\":\"book\",\"product\":\"BTC-VND\",\"type\":\"update\",\"data\":{\"bids\":[[\"9\",\"0\"]],\"asks\":[]},\"checksum\":5}" 6 ∷
+    answers m-book "{\"channel\":\"book\",\"product\":\"BTC-VND\",\"type\":\"update\",\"data\":{\"bids\":[[\"9\",\"0\"]],\"asks\":[]},\"checksum\":5,\"gsn\":8,\"gsn\":9}" 6 ∷
+    answers m-book "{\"channel\":\"book\",\"product\":\"BTC-VND\",\"type\":\"update\",\"data\":{\"bids\":[[\"9\",\"0\"]],\"asks\":[]},\"checksum\":5,\"gsn\":8,\"channel\":\"x\"}" 6 ∷
+    answers m-book "{\"channel\":\"book\",\"product\":\"BTC-VND\",\"type\":\"update\",\"data\":{\"bids\":[],\"asks\":[],\"gsn\":1},\"checksum\":5,\"gsn\":8}" 0 ∷
+    -- check 8
+    answers k-book "[0,{\"a\":[[\"0.0\",\"2\",\"3\"]],\"c\":\"1\"},\"book-10\",\"XBT/USD\"]" 8 ∷
+    answers k-book "[0,{\"a\":[[\"1\",\"0\",\"3\"]],\"c\":\"1\"},\"book-10\",\"XBT/USD\"]" 0 ∷
+    answers k-book "[0,{\"as\":[[\"1\",\"0\",\"3\"]],\"bs\":[]},\"book-10\",\"XBT/USD\"]" 8 ∷
+    answers k-book "[0,{\"a\":[[\"1.\",\"2\",\"3\"]],\"c\":\"1\"},\"book-10\",\"XBT/USD\"]" 8 ∷
+    answers m-book "{\"channel\":\"book\",\"product\":\"BTC-VND\",\"type\":\"update\",\"data\":{\"bids\":[[\"1\",\"\\u0031\"]],\"asks\":[]},\"checksum\":5,\"gsn\":8}" 8 ∷
+    []
+
+examples : Each table
+unfolding table Each Holds number m-book k-book d·.isDigit d·.leading d·.valueFrom d·.significantIn d·.significant d·.written d2·.isWhole d2·.fractional d2·.pointed d2·.prefix d2·.read d2·.isZero d3·.readWhole d3·.atMost d3·.readChecksum t1·.byteAt t1·.blank t1·.digit t1·.hexDigit t1·.escaped t2·.andThen t2·.run t2·.blanks t2·.digits t2·.someDigits t2·.closing t2·.separator t2·.stringRest t2·.string t2·.minus t2·.sign t2·.int t2·.fraction t2·.exponent t2·.number t2·.prefix t2·.word t2·.scalar t2·.ended t2·.chars t2·.escape t2·.hexes j1·.next j1·.before j1·.onward j1·.list j1·.listOf j1·.itemsEnd j1·.element j1·.member j1·.elements j1·.members j1·.value j1·.text j2·.part j2·.means j2·.holds j2·.hasBackslash p·.andThen p·.all p·.top p·.isString p·.contents p·.arrayAt p·.objectAt p·.valuesOf p·.only p·.inner p·.wholeAt p·.checksumAt p·.quotedChecksumAt r·.entriesAt k·.frameOf k·.escapedK k·.oursK k·.times k·.together k·.isSnapshot k·.eachHasOne k·.lastOf k·.isUpdate r·.rowK r·.entryK k·.rowsOfAll k·.rowsOf k·.laid k·.objectsLayout k·.layoutK m·.someName m·.someString m·.escapedM m·.someMeans m·.oursM r·.rowM r·.entryM m·.isSnapshotAt m·.rowsOf m·.layoutM r·.badPrice r·.badSize r·.badTexts w·.bad r·.numberAt w·.quoteAt w·.decimals w·.tooMany w·.counted w·.laidOut w·.addressed w·.saidK w·.saidM w·.saidIn w·.said
+examples = (refl, (refl, (refl, (refl, (refl, (refl, (refl, (refl, (refl, (refl, (refl, (refl, (refl, (refl, (refl, (refl, (refl, (refl, (refl, (refl, (refl, (refl, (refl, (refl, (refl, (refl, (refl, (refl, (refl, (refl, (refl, (refl, (refl, (refl, (refl, (refl, (refl, (refl, (refl, (refl, (refl, (refl, (refl, (refl, (refl, (refl, (refl, (refl, (refl, (refl, (refl, (refl, (refl, (refl, (refl, (refl, (refl, (refl, (refl, tt)))))))))))))))))))))))))))))))))))))))))))))))))))))))))))

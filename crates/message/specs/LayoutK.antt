@@ -1,0 +1,100 @@
+-- Dialect K, as document 01 has it under "Messages". Assumes nothing: these are definitions.
+use Prim.Native.Nat.{ℕ, _+_}
+use mathlib.Core.Bool.{Bool, true, false, _&&_, _||_, cond}
+use mathlib.Core.List.{List, [], _∷_, _++_}
+use lib.Dec.{leb, eqb}
+use lib.ListN.{length}
+use Rattle.decimal.specs.Ascii.{ascii}
+use Rattle.decimal.specs.Digits.{Reading, reads, refused, written}
+use Rattle.json.specs.Json.{Span, Pair}
+use Rattle.json.specs.Names.{means, hasBackslash}
+use Rattle.settings.specs.Settings.{Terms}
+use Rattle.entries.specs.Places.{andThen, all, isString, objectAt, valuesOf, only, wholeAt, quotedChecksumAt}
+use Rattle.entries.specs.Rows.{Row, entriesAt, entryK}
+use Rattle.message.specs.Layout.{Printed, printed, unprinted, Layout}
+
+-- An array of four or five elements: whole number, one or two objects, channel, pair.
+pub record Frame : Type 0 where
+  pub first : Span
+  pub objects : List Span
+  pub channel : Span
+  pub pair : Span
+
+unfoldable pub frameOf : List Span → Reading Frame
+frameOf [] = refused
+frameOf (n ∷ []) = refused
+frameOf (n ∷ (o ∷ [])) = refused
+frameOf (n ∷ (o ∷ (c ∷ []))) = refused
+frameOf (n ∷ (o ∷ (c ∷ (p ∷ [])))) = reads (record { first = n; objects = o ∷ []; channel = c; pair = p })
+frameOf (n ∷ (o ∷ (q ∷ (c ∷ (p ∷ []))))) = reads (record { first = n; objects = o ∷ (q ∷ []); channel = c; pair = p })
+frameOf (n ∷ (o ∷ (q ∷ (c ∷ (p ∷ (x ∷ l)))))) = refused
+
+-- Check 4: a backslash in either of the last two elements that is a string.
+unfoldable pub escapedK : List ℕ → Frame → Bool
+escapedK s f = (isString s (f .channel) && hasBackslash s (f .channel)) || (isString s (f .pair) && hasBackslash s (f .pair))
+
+-- Check 5: it is this book's when channel is `book-` and the depth in decimal, and pair is the name.
+unfoldable pub oursK : Terms → List ℕ → Frame → Bool
+oursK t s f = means s (f .channel) (ascii "book-" ++ written (t .depth)) && means s (f .pair) (t .name)
+
+-- ---- check 6
+
+-- How often the members have a name.
+unfoldable pub times : List ℕ → List ℕ → List Pair → ℕ
+times s name ms = length (valuesOf s name ms)
+
+unfoldable pub together : List (List Pair) → List Pair
+together [] = []
+together (ms ∷ l) = ms ++ together l
+
+-- A snapshot has one object with `as` and `bs` once each and none of the others.
+unfoldable pub isSnapshot : List ℕ → List (List Pair) → Bool
+isSnapshot s objects =
+    eqb (length objects) 1
+    && (eqb (times s (ascii "as") (together objects)) 1
+    && (eqb (times s (ascii "bs") (together objects)) 1
+    && eqb (times s (ascii "a") (together objects) + (times s (ascii "b") (together objects) + times s (ascii "c") (together objects))) 0))
+
+-- An update has `a` and `b` each at most once over the message, at least one of them in each object, `c` once, in the last object, and neither
+-- `as` nor `bs`.
+unfoldable pub eachHasOne : List ℕ → List (List Pair) → Bool
+eachHasOne s [] = true
+eachHasOne s (ms ∷ l) = leb 1 (times s (ascii "a") ms + times s (ascii "b") ms) && eachHasOne s l
+
+unfoldable pub lastOf : List (List Pair) → List Pair
+lastOf [] = []
+lastOf (ms ∷ []) = ms
+lastOf (ms ∷ (ns ∷ l)) = lastOf (ns ∷ l)
+
+unfoldable pub isUpdate : List ℕ → List (List Pair) → Bool
+isUpdate s objects =
+    leb (times s (ascii "a") (together objects)) 1
+    && (leb (times s (ascii "b") (together objects)) 1
+    && (eachHasOne s objects
+    && (eqb (times s (ascii "c") (together objects)) 1
+    && (eqb (times s (ascii "c") (lastOf objects)) 1
+    && eqb (times s (ascii "as") (together objects) + times s (ascii "bs") (together objects)) 0))))
+
+-- The rows of all members that have a name, of which there is one at the most.
+unfoldable pub rowsOfAll : List ℕ → List Span → Reading (List Row)
+rowsOfAll s [] = reads []
+rowsOfAll s (a ∷ l) = andThen (entriesAt entryK s a) (λ rows. andThen (rowsOfAll s l) (λ more. reads (rows ++ more)))
+
+unfoldable pub rowsOf : List ℕ → List ℕ → List (List Pair) → Reading (List Row)
+rowsOf s name objects = rowsOfAll s (valuesOf s name (together objects))
+
+unfoldable pub laid : Bool → Printed → Reading (List Row) → Reading (List Row) → Reading Layout
+laid snapshot sum bids asks =
+    andThen bids (λ b. andThen asks (λ a. reads (record { snapshot = snapshot; bids = b; asks = a; checksum = sum; number = 0 })))
+
+unfoldable pub objectsLayout : List ℕ → List (List Pair) → Reading Layout
+objectsLayout s objects =
+    cond (isSnapshot s objects)
+    (laid true unprinted (rowsOf s (ascii "bs") objects) (rowsOf s (ascii "as") objects))
+    (cond (isUpdate s objects)
+    (andThen (only (valuesOf s (ascii "c") (together objects))) (λ c.
+    andThen (quotedChecksumAt s c) (λ sum. laid false (printed sum) (rowsOf s (ascii "b") objects) (rowsOf s (ascii "a") objects))))
+    refused)
+
+unfoldable pub layoutK : List ℕ → Frame → Reading Layout
+layoutK s f = andThen (wholeAt s (f .first)) (λ n. andThen (all (objectAt 15 s) (f .objects)) (objectsLayout s))

@@ -1,0 +1,56 @@
+-- Dialect M, as document 01 has it under "Messages". Assumes nothing: these are definitions.
+use Prim.Native.Nat.{ℕ}
+use mathlib.Core.Bool.{Bool, true, false, _&&_, _||_, cond}
+use mathlib.Core.List.{List, [], _∷_, _++_}
+use Rattle.decimal.specs.Ascii.{ascii}
+use Rattle.decimal.specs.Digits.{Reading, reads, refused}
+use Rattle.json.specs.Json.{Span, Pair}
+use Rattle.json.specs.Names.{means, hasBackslash}
+use Rattle.settings.specs.Settings.{Terms}
+use Rattle.entries.specs.Places.{andThen, all, isString, objectAt, valuesOf, only, wholeAt, checksumAt}
+use Rattle.entries.specs.Rows.{Row, entriesAt, entryM}
+use Rattle.message.specs.Layout.{Printed, printed, Layout}
+
+-- Check 4: a backslash in a top-level key or in a `channel` or `product` string.
+unfoldable pub someName : List ℕ → List Pair → Bool
+someName s [] = false
+someName s (m ∷ ms) = hasBackslash s (m .name) || someName s ms
+
+unfoldable pub someString : List ℕ → List Span → Bool
+someString s [] = false
+someString s (a ∷ l) = (isString s a && hasBackslash s a) || someString s l
+
+unfoldable pub escapedM : List ℕ → List Pair → Bool
+escapedM s ms = someName s ms || (someString s (valuesOf s (ascii "channel") ms) || someString s (valuesOf s (ascii "product") ms))
+
+-- Check 5: it is this book's when some member `channel` is `book` and some member `product` is the name.
+unfoldable pub someMeans : List ℕ → List ℕ → List Span → Bool
+someMeans s name [] = false
+someMeans s name (a ∷ l) = means s a name || someMeans s name l
+
+unfoldable pub oursM : Terms → List ℕ → List Pair → Bool
+oursM t s ms = someMeans s (ascii "book") (valuesOf s (ascii "channel") ms) && someMeans s (t .name) (valuesOf s (ascii "product") ms)
+
+-- ---- check 6: named, once each: `channel`, `product`, `type` (`snapshot` or `update`), `data`, `checksum`, `gsn`, and in `data` `bids` and `asks`
+
+unfoldable pub isSnapshotAt : List ℕ → Span → Reading Bool
+isSnapshotAt s a = cond (means s a (ascii "snapshot")) (reads true) (cond (means s a (ascii "update")) (reads false) refused)
+
+unfoldable pub rowsOf : List ℕ → List ℕ → List Pair → Reading (List Row)
+rowsOf s name ms = andThen (only (valuesOf s name ms)) (entriesAt entryM s)
+
+unfoldable pub layoutM : List ℕ → List Pair → Reading Layout
+layoutM s ms =
+    andThen (only (valuesOf s (ascii "channel") ms)) (λ c.
+    andThen (only (valuesOf s (ascii "product") ms)) (λ p.
+    andThen (only (valuesOf s (ascii "type") ms)) (λ t.
+    andThen (isSnapshotAt s t) (λ whole.
+    andThen (only (valuesOf s (ascii "data") ms)) (λ d.
+    andThen (objectAt 15 s d) (λ ds.
+    andThen (rowsOf s (ascii "bids") ds) (λ bs.
+    andThen (rowsOf s (ascii "asks") ds) (λ as′.
+    andThen (only (valuesOf s (ascii "checksum") ms)) (λ k.
+    andThen (checksumAt s k) (λ sum.
+    andThen (only (valuesOf s (ascii "gsn") ms)) (λ g.
+    andThen (wholeAt s g) (λ number.
+    reads (record { snapshot = whole; bids = bs; asks = as′; checksum = printed sum; number = number })))))))))))))

@@ -1,6 +1,6 @@
 -- What `broken` and `zero` say of check 8: which texts of rows it refuses.
 -- Assumes nothing.
-use mathlib.Core.Path.{_≡_, refl, sym, ap, _∙_}
+use mathlib.Core.Path.{_≡_, refl, sym, _∙_}
 use mathlib.Core.List.{List, [], _∷_, _++_}
 use mathlib.Core.Bool.{Bool, true, false, true≢false, _&&_, _||_, cond}
 use Prim.Native.Nat.{ℕ}

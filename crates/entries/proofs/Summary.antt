@@ -64,12 +64,6 @@ module _ (entry : List ℕ → Span → Reading Row) (s : List ℕ) where
     unfolding summaryIn
     in-unfair h = rw (h, summaryIn)
 
-  -- none of it is counted
-  in-none : (k : ℕ) (x : Items Span) → summaryIn (noEntries k) x ≡ summaryIn (noEntries 0) x
-  unfolding summaryIn noEntries
-  in-none k (items l e) = refl
-  in-none k noItems = refl
-
   -- ---- one entry: the span a, found as f
   module _ (sum : Entries) (a : Span) where
     abbrev f : Found

@@ -1,6 +1,6 @@
 -- What `broken` and `zero` say of check 8: which texts of rows it refuses.
 -- Assumes nothing.
-use mathlib.Core.Path.{_≡_, refl, sym, ap, _∙_}
+use mathlib.Core.Path.{_≡_, refl, sym, _∙_}
 use mathlib.Core.List.{List, [], _∷_, _++_}
 use mathlib.Core.Bool.{Bool, true, false, true≢false, _&&_, _||_, cond}
 use Prim.Native.Nat.{ℕ}
@@ -8,9 +8,12 @@ use native.Mathlib.Omega.{arith}
 use Rattle.decimal.specs.Digits.{Reading, reads, refused}
 use Rattle.decimal.specs.Decimal.{Number, read, isZero}
 use Rattle.json.specs.Json.{Span}
-use Rattle.entries.specs.Places.{inner}
-use Rattle.entries.specs.Rows.{Row, badPrice, badSize, badTexts}
-use Rattle.entries.specs.Summary.{zeroSize, anyBroken, anyZero}
+use lib.ListN.{length}
+use Rattle.entries.specs.Places.{andThen, all, inner, arrayAt}
+use Rattle.entries.specs.Rows.{Row, entriesAt, badPrice, badSize, badTexts}
+use Rattle.entries.specs.Summary.{zeroSize, anyBroken, anyZero, noEntries, summaryOf}
+use Rattle.entries.specs.declared.Entries.{Entries}
+use Rattle.entries.proofs.Strings.{StringAt, Sound}
 
 no-list : {A B : Type 0} {a : A} {l : List A} → _≡_ {A = List A} (a ∷ l) [] → B
 no-list h = let z : _≡_ {A = ℕ} 0 1 = cc in absurd (omega arith)
@@ -82,3 +85,51 @@ module _ (s : List ℕ) where
       let z = or-none (zeroSize s (r .size)) (anyZero s l) g in
       none-texts (badPrice s (r .price)) (badSize true s (r .size)) (r .price) (r .size) (badTexts true s l) (q .0)
       (snapshot-size s (r .size) ∙ none-or _ _ (q .1) (z .0)) (none-zero l (o .1) (z .1))
+
+-- ---- the same of what is told of an array: fair says that there are rows, and the rest speaks of them
+module _ (s : List ℕ) (e : ℕ) where
+  pub fair-rows : (y : Reading (List Row)) → summaryOf s e y .fair ≡ true → (rows : List Row) × (y ≡ reads rows)
+  unfolding summaryOf noEntries
+  fair-rows (reads rows) h = (rows, refl)
+  fair-rows refused h = absurd (true≢false (sym h))
+
+  pub unfair-rows : (y : Reading (List Row)) → summaryOf s e y .fair ≡ false → y ≡ refused
+  unfolding summaryOf
+  unfair-rows (reads rows) h = absurd (true≢false h)
+  unfair-rows refused h = refl
+
+  pub rows-told : (rows : List Row) → summaryOf s e (reads rows)
+      ≡ record { end = e; fair = true; count = length rows; broken = anyBroken s rows; zero = anyZero s rows }
+  unfolding summaryOf
+  rows-told rows = refl
+
+-- ---- the texts of all rows are strings
+pub data Strings (s : List ℕ) : List Row → Type 0 where
+  no-rows : Strings s []
+  one-row : (r : Row) (l : List Row) → StringAt s (r .price) → StringAt s (r .size) → Strings s l → Strings s (r ∷ l)
+
+no-rows-read : {A B : Type 0} {b : B} → refused ≡ reads b → A
+no-rows-read h = let z : _≡_ {A = ℕ} 0 1 = cc in absurd (omega arith)
+
+module _ (entry : List ℕ → Span → Reading Row) (s : List ℕ) (sound : Sound entry s) where
+  all-strings : (l : List Span) (rows : List Row) → all (entry s) l ≡ reads rows → Strings s rows
+  unfolding all andThen
+  all-strings [] rows h = let z : rows ≡ [] = cc in rw z no-rows
+  all-strings (a ∷ l) rows h = go (entry s a) refl (all (entry s) l) (λ bs k. all-strings l bs k) h
+    where
+      go : (y : Reading Row) → entry s a ≡ y → (z : Reading (List Row)) → ((bs : List Row) → z ≡ reads bs → Strings s bs)
+          → andThen y (λ b. andThen z (λ bs. reads (b ∷ bs))) ≡ reads rows → Strings s rows
+      go (reads r) q (reads bs) k g =
+          let c = sound a r q in
+          let z : rows ≡ r ∷ bs = cc in
+          rw z (one-row r bs (c .0) (c .1) (k bs refl))
+      go (reads r) q refused k g = no-rows-read g
+      go refused q z k g = no-rows-read g
+
+  pub rows-strings : (a : Span) (rows : List Row) → entriesAt entry s a ≡ reads rows → Strings s rows
+  unfolding entriesAt andThen
+  rows-strings a rows h = go (arrayAt 14 s a) h
+    where
+      go : (x : Reading (List Span)) → andThen x (all (entry s)) ≡ reads rows → Strings s rows
+      go (reads l) g = all-strings l rows g
+      go refused g = no-rows-read g

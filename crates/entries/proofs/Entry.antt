@@ -3,16 +3,15 @@
 use mathlib.Core.Path.{_≡_, refl, sym, ap, _∙_}
 use mathlib.Core.List.{List, [], _∷_}
 use mathlib.Core.Bool.{Bool, true, false, true≢false, _&&_}
-use Prim.Native.Nat.{ℕ, zero, suc, _+_, _-_, _≤_, _<_}
+use Prim.Native.Nat.{ℕ, zero, suc, _+_, _≤_, _<_}
 use native.Mathlib.Omega.{arith}
 use borrow.Author.Tests.{eq-eqb, ne-eqb}
-use Rattle.decimal.specs.Digits.{Reading, reads, refused}
+use Rattle.decimal.specs.Digits.{Reading, refused}
 use Rattle.json_tokens.specs.Bytes.{byteAt}
 use Rattle.json_tokens.specs.Tokens.{End, At, Broken, endOf, blanks, closing, separator, string}
-use Rattle.json_tokens.proofs.Laws.{end-at}
-use Rattle.json_tokens.proofs.Bounds.{bounds, end-broken, closing-in, separator-in}
+use Rattle.json_tokens.proofs.Bounds.{bounds, closing-in, separator-in}
 use lib.ListN.{length}
-use Rattle.json.specs.Json.{Span, Next, item, ends, wrong, Items, items, noItems, next, before, onward, list, itemsEnd, element, elements, value}
+use Rattle.json.specs.Json.{Span, item, ends, Items, items, noItems, next, before, onward, list, itemsEnd, element, elements, value}
 use Rattle.json.proofs.Laws.{value-array, before-end, element-is, element-wrong, later-item, later-ends, later-wrong}
 use Rattle.json.proofs.Bounds.{value-in}
 use Rattle.json.proofs.Walk.{Walk, walk, walk-ends, walk-wrong, walk-is, walk-item}

@@ -1,16 +1,16 @@
 -- The price and the size of an entry are strings: each begins with a quote, has room for two, and lies within the text.
 -- Assumes nothing.
-use mathlib.Core.Path.{_≡_, refl, sym, ap, _∙_}
+use mathlib.Core.Path.{_≡_, refl, sym, _∙_}
 use mathlib.Core.List.{List, [], _∷_}
 use mathlib.Core.Bool.{Bool, true, false, _&&_, cond, and-eq-true-iff}
-use Prim.Native.Nat.{ℕ, zero, suc, _+_, _≤_, _<_}
+use Prim.Native.Nat.{ℕ, zero, suc, _+_, _≤_}
 use native.Mathlib.Omega.{arith}
-use lib.ListN.{length, drop, length-drop}
+use lib.ListN.{length, drop}
 use lib.Dec.{eqb, ltb}
 use borrow.Author.Tests.{eqb-true}
 use Rattle.decimal.specs.Digits.{Reading, reads, refused}
 use Rattle.json_tokens.specs.Bytes.{byteAt, hexDigit, escaped}
-use Rattle.json_tokens.specs.Tokens.{End, At, Broken, chars, escape, hexes, stringRest, string}
+use Rattle.json_tokens.specs.Tokens.{End, At, chars, escape, hexes, stringRest, string}
 use Rattle.json_tokens.proofs.Laws.{string-yes}
 use Rattle.json_tokens.proofs.Bounds.{In, within, none, bounds, in-when, in-sub, string-in}
 use Rattle.json.specs.Json.{Span, Items, items, noItems, elements, value}

@@ -22,7 +22,7 @@ use Rattle.entries.specs.Summary.{foundOf, foundAt, zeroSize, anyBroken,
 use Rattle.entries.specs.Counting.{Laid, withRow, counted}
 use Rattle.entries.specs.declared.Found.{Found}
 use Rattle.entries.specs.declared.Entries.{Entries}
-use Rattle.entries.proofs.Strings.{Sound}
+use Rattle.entries.proofs.Strings.{StringAt, Sound}
 use Rattle.entries.proofs.Counting.{counted-row, counted-other, counted-unfair, counted-few}
 
 -- an entry among entries
@@ -63,12 +63,6 @@ module _ (entry : List ℕ → Span → Reading Row) (s : List ℕ) where
     in-unfair : sum .fair ≡ false → summaryIn sum (items l e) ≡ noEntries e
     unfolding summaryIn
     in-unfair h = rw (h, summaryIn)
-
-  -- none of it is counted
-  in-none : (k : ℕ) (x : Items Span) → summaryIn (noEntries k) x ≡ summaryIn (noEntries 0) x
-  unfolding summaryIn noEntries
-  in-none k (items l e) = refl
-  in-none k noItems = refl
 
   -- ---- one entry: the span a, found as f
   module _ (sum : Entries) (a : Span) where
@@ -156,6 +150,23 @@ module _ (entry : List ℕ → Span → Reading Row) (s : List ℕ) where
         go (At e) = sym (none e)
         go Broken = refl
 
+    -- the end is the value's, whatever it is
+    pub summary-end : summaryAt entry s at .end ≡ endOf (value 14 s at)
+    unfolding summaryAt summaryOf noEntries endOf
+    summary-end = go (value 14 s at)
+      where
+        at-value : (e : ℕ) (y : Reading (List Row)) → summaryOf s e y .end ≡ e
+        at-value e (reads rows) = refl
+        at-value e refused = refl
+
+        go : (x : End) → (elim x as (λ y. Entries) [ At e ↦ summaryOf s e (entriesAt entry s (record { from = at; to = e })) | Broken ↦ noEntries 0 ]) .end ≡ endOf x
+        go (At e) = at-value e (entriesAt entry s (record { from = at; to = e }))
+        go Broken = refl
+
+    pub summary-is : (e : ℕ) → value 14 s at ≡ At e → summaryAt entry s at ≡ summaryOf s e (entriesAt entry s (record { from = at; to = e }))
+    unfolding summaryAt
+    summary-is e v = rw (v, summaryAt)
+
     module _ (opens : byteAt s at ≡ 91) where
       abbrev whole : Items Span
       whole = elements (value 13 s) s (at + 1)
@@ -204,21 +215,24 @@ module _ (entry : List ℕ → Span → Reading Row) (s : List ℕ) where
         go (At e) = at-value e (entry s (record { from = i; to = e }))
         go Broken = refl
 
-    pub found-laid : Sound entry s → Laid s g
+    -- a fair entry's price and size are strings
+    pub found-strings : Sound entry s → g .fair ≡ true
+        → StringAt s (record { from = g .«price_from»; to = g .«price_to» }) × StringAt s (record { from = g .«size_from»; to = g .«size_to» })
     unfolding foundAt foundOf
-    found-laid sound fair = go (value 13 s i) told
+    found-strings sound fair = go (value 13 s i) told
       where
         at-value : (e : ℕ) (y : Reading Row) → entry s (record { from = i; to = e }) ≡ y → g ≡ foundOf e y
-            → ((g .«price_from» + 2 ≤ g .«price_to») × (g .«price_to» ≤ length s)) × ((g .«size_from» + 2 ≤ g .«size_to») × (g .«size_to» ≤ length s))
-        at-value e (reads r) q h =
-            let c = sound (record { from = i; to = e }) r q in
-            rw h ((c .0 .room, c .0 .inside), (c .1 .room, c .1 .inside))
+            → StringAt s (record { from = g .«price_from»; to = g .«price_to» }) × StringAt s (record { from = g .«size_from»; to = g .«size_to» })
+        at-value e (reads r) q h = rw h (sound (record { from = i; to = e }) r q)
         at-value e refused q h = absurd (true≢false (sym fair ∙ ap (λ (x : Found). x .fair) h))
 
         go : (x : End) → g ≡ elim x [ At e ↦ foundOf e (entry s (record { from = i; to = e })) | Broken ↦ foundOf 0 refused ]
-            → ((g .«price_from» + 2 ≤ g .«price_to») × (g .«price_to» ≤ length s)) × ((g .«size_from» + 2 ≤ g .«size_to») × (g .«size_to» ≤ length s))
+            → StringAt s (record { from = g .«price_from»; to = g .«price_to» }) × StringAt s (record { from = g .«size_from»; to = g .«size_to» })
         go (At e) h = at-value e (entry s (record { from = i; to = e })) refl h
         go Broken h = absurd (true≢false (sym fair ∙ ap (λ (x : Found). x .fair) h))
+
+    pub found-laid : Sound entry s → Laid s g
+    found-laid sound fair = let c = found-strings sound fair in ((c .0 .room, c .0 .inside), (c .1 .room, c .1 .inside))
 
     found-is : (e : ℕ) → value 13 s i ≡ At e → g ≡ foundOf e (entry s (record { from = i; to = e }))
     unfolding foundAt

@@ -1,14 +1,12 @@
 -- What is told of one entry and of an array of entries, in numbers: where they end, whether they are entries at all, how many there are, and which of
 -- check 8's faults they have.
 -- Assumes nothing: these are definitions.
-use Prim.Native.Nat.{ℕ, _+_, _≤_}
-use mathlib.Core.Path.{_≡_}
+use Prim.Native.Nat.{ℕ}
 use mathlib.Core.Bool.{Bool, true, false, _||_}
 use mathlib.Core.List.{List, [], _∷_}
 use lib.ListN.{length}
 use Rattle.decimal.specs.Digits.{Reading, reads, refused}
 use Rattle.decimal.specs.Decimal.{read, isZero}
-use Rattle.json_tokens.specs.Bytes.{byteAt, quote}
 use Rattle.json_tokens.specs.Tokens.{At, Broken}
 use Rattle.json.specs.Json.{Span, value}
 use Rattle.entries.specs.Places.{inner}

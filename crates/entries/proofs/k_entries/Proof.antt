@@ -11,7 +11,7 @@ use Rattle.json_tokens.proofs.Laws.{end-at, in-byte}
 use Rattle.json_tokens.specs.Tokens.{closing, separator}
 use Rattle.json.proofs.Walk.{Walk}
 use Rattle.entries.proofs.Strings.{k-sound}
-use Rattle.entries.proofs.Summary.{each, each-broken, each-few, each-further, each-last, each-on, each-wrong, found-laid, found-past, nothing, summary-empty, summary-other, summary-start, summaryIn}
+use Rattle.entries.proofs.Summary.{each, each-broken, each-few, each-further, each-last, each-on, each-wrong, found-laid, found-past, summary-empty, summary-other, summary-start, summaryIn}
 use Rattle.entries.specs.Rows.{entryK}
 use Rattle.entries.specs.Summary.{noEntries, summaryAt}
 use Rattle.entries.specs.declared.Entries.{Entries}

@@ -1,1 +1,2 @@
+-- A level's piece of checksum text.
 pub mod Piece

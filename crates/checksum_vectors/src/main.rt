@@ -15,12 +15,12 @@ use decimal::Parsed;
 use decimal::ParsedWhole;
 use libc::STDIN_FILENO;
 use libc::STDOUT_FILENO;
+use lines::LINE_END;
+use lines::find;
 use side::Found;
 use side::Level;
 use side::Levels;
 use side::Side;
-
-const LINE_END: u8 = 10;
 
 const BLANK: u8 = 32;
 
@@ -46,21 +46,6 @@ fn run_lines(s: &[u8]) {
         book = run_line(book, &s[at..end]);
         at = end + 1;
     }
-}
-
-// Where a byte stands, from a position on, or the end.
-fn find(s: &[u8], at: usize, b: u8) -> usize
-    requires { ⌜ at ≤ length (now s) ⌝ }
-    ensures { λ r. ⌜ (at ≤ r) × (r ≤ length (now (s .entry))) ⌝ }
-{
-    let mut i = at;
-    while i < s.len() {
-        if s[i] == b {
-            return i;
-        }
-        i += 1;
-    }
-    i
 }
 
 fn new_book(m: bool, depth: usize) -> Book

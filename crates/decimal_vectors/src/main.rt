@@ -19,8 +19,8 @@ use decimal::Tail;
 use decimal::Written;
 use libc::STDIN_FILENO;
 use libc::STDOUT_FILENO;
-
-const LINE_END: u8 = 10;
+use lines::LINE_END;
+use lines::find;
 
 const BLANK: u8 = 32;
 
@@ -37,21 +37,6 @@ fn run_lines(s: &[u8]) {
         run_line(&s[at..end]);
         at = end + 1;
     }
-}
-
-// Where a byte stands, from a position on, or the end.
-fn find(s: &[u8], at: usize, b: u8) -> usize
-    requires { ⌜ at ≤ length (now s) ⌝ }
-    ensures { λ r. ⌜ (at ≤ r) × (r ≤ length (now (s .entry))) ⌝ }
-{
-    let mut i = at;
-    while i < s.len() {
-        if s[i] == b {
-            return i;
-        }
-        i += 1;
-    }
-    i
 }
 
 fn run_line(s: &[u8]) {

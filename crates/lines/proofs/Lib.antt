@@ -1,0 +1,2 @@
+-- Laws of what stands before a byte.
+pub mod Before

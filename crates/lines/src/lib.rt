@@ -1,0 +1,24 @@
+// Parts of a text: where a byte stands next, as the end of a line does.
+//
+//     let end = lines::find(s, at, lines::LINE_END);     // the line that begins at `at` is &s[at..end]
+ghost use mathlib.Core.Path.{_≡_};
+ghost use Prim.Native.Nat.{_+_, _≤_};
+ghost use lib.ListN.{length, drop};
+ghost use Rattle.lines.specs.Lines.{before};
+
+pub const LINE_END: u8 = 10;
+
+// Where a byte stands, from a position on, or the end of the text.
+pub fn find(s: &[u8], at: usize, b: u8) -> usize
+    requires { ⌜ at ≤ length (now s) ⌝ }
+    ensures { λ r. ⌜ (at ≤ r) × (r ≤ length (now (s .entry))) × (r ≡ at + before b (drop at (now (s .entry)))) ⌝ }
+{
+    let mut i = at;
+    while i < s.len() {
+        if s[i] == b {
+            return i;
+        }
+        i += 1;
+    }
+    i
+}

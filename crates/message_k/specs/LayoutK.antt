@@ -6,12 +6,11 @@ use lib.Dec.{leb, eqb}
 use lib.ListN.{length}
 use Rattle.decimal.specs.Ascii.{ascii}
 use Rattle.decimal.specs.Digits.{Reading, reads, refused, written}
-use Rattle.json.specs.Json.{Span, Pair}
+use Rattle.json.specs.Json.{Span, Pair, maxDepth}
 use Rattle.json.specs.Names.{means, hasBackslash}
-use Rattle.settings.specs.Settings.{Terms}
-use Rattle.entries.specs.Places.{andThen, all, isString, objectAt, valuesOf, only, wholeAt, quotedChecksumAt}
-use Rattle.entries.specs.Rows.{Row, entriesAt, entryK}
-use Rattle.message.specs.Layout.{Printed, printed, unprinted, Layout}
+use Rattle.entries.specs.Places.{andThen, all, isString, arrayAt, objectAt, valuesOf, only, wholeAt, quotedChecksumAt}
+use Rattle.entries.specs.Rows.{entryK}
+use Rattle.layout.specs.Layout.{printed, unprinted, Listed, Layout, Heard, unlisted, listedAt, laid}
 
 -- An array of four or five elements: whole number, one or two objects, channel, pair.
 pub record Frame : Type 0 where
@@ -34,8 +33,8 @@ unfoldable pub escapedK : List ℕ → Frame → Bool
 escapedK s f = (isString s (f .channel) && hasBackslash s (f .channel)) || (isString s (f .pair) && hasBackslash s (f .pair))
 
 -- Check 5: it is this book's when channel is `book-` and the depth in decimal, and pair is the name.
-unfoldable pub oursK : Terms → List ℕ → Frame → Bool
-oursK t s f = means s (f .channel) (ascii "book-" ++ written (t .depth)) && means s (f .pair) (t .name)
+unfoldable pub oursK : ℕ → List ℕ → List ℕ → Frame → Bool
+oursK depth name s f = means s (f .channel) (ascii "book-" ++ written depth) && means s (f .pair) name
 
 -- ---- check 6
 
@@ -75,26 +74,30 @@ isUpdate s objects =
     && (eqb (times s (ascii "c") (lastOf objects)) 1
     && eqb (times s (ascii "as") (together objects) + times s (ascii "bs") (together objects)) 0))))
 
--- The rows of all members that have a name, of which there is one at the most.
-unfoldable pub rowsOfAll : List ℕ → List Span → Reading (List Row)
-rowsOfAll s [] = reads []
-rowsOfAll s (a ∷ l) = andThen (entriesAt entryK s a) (λ rows. andThen (rowsOfAll s l) (λ more. reads (rows ++ more)))
+-- The array of entries that the members of a name hold, of which there is one at the most.
+unfoldable pub listedOf : List ℕ → List Span → Reading Listed
+listedOf s [] = reads unlisted
+listedOf s (a ∷ []) = listedAt entryK s a
+listedOf s (a ∷ (b ∷ l)) = refused
 
-unfoldable pub rowsOf : List ℕ → List ℕ → List (List Pair) → Reading (List Row)
-rowsOf s name objects = rowsOfAll s (valuesOf s name (together objects))
-
-unfoldable pub laid : Bool → Printed → Reading (List Row) → Reading (List Row) → Reading Layout
-laid snapshot sum bids asks =
-    andThen bids (λ b. andThen asks (λ a. reads (record { snapshot = snapshot; bids = b; asks = a; checksum = sum; number = 0 })))
+unfoldable pub listedIn : List ℕ → List ℕ → List (List Pair) → Reading Listed
+listedIn s name objects = listedOf s (valuesOf s name (together objects))
 
 unfoldable pub objectsLayout : List ℕ → List (List Pair) → Reading Layout
 objectsLayout s objects =
     cond (isSnapshot s objects)
-    (laid true unprinted (rowsOf s (ascii "bs") objects) (rowsOf s (ascii "as") objects))
+    (laid true unprinted 0 (listedIn s (ascii "bs") objects) (listedIn s (ascii "as") objects))
     (cond (isUpdate s objects)
     (andThen (only (valuesOf s (ascii "c") (together objects))) (λ c.
-    andThen (quotedChecksumAt s c) (λ sum. laid false (printed sum) (rowsOf s (ascii "b") objects) (rowsOf s (ascii "a") objects))))
+    andThen (quotedChecksumAt s c) (λ sum. laid false (printed sum) 0 (listedIn s (ascii "b") objects) (listedIn s (ascii "a") objects))))
     refused)
 
 unfoldable pub layoutK : List ℕ → Frame → Reading Layout
 layoutK s f = andThen (wholeAt s (f .first)) (λ n. andThen (all (objectAt 15 s) (f .objects)) (objectsLayout s))
+
+-- ---- the message, to a book of that depth and name
+
+unfoldable pub heardK : ℕ → List ℕ → List ℕ → Span → Reading Heard
+heardK depth name s a =
+    andThen (andThen (arrayAt maxDepth s a) frameOf) (λ f.
+    reads (record { escaped = escapedK s f; ours = oursK depth name s f; layout = layoutK s f }))

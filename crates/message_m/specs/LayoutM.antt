@@ -1,15 +1,14 @@
 -- Dialect M, as document 01 has it under "Messages". Assumes nothing: these are definitions.
 use Prim.Native.Nat.{ℕ}
 use mathlib.Core.Bool.{Bool, true, false, _&&_, _||_, cond}
-use mathlib.Core.List.{List, [], _∷_, _++_}
+use mathlib.Core.List.{List, [], _∷_}
 use Rattle.decimal.specs.Ascii.{ascii}
 use Rattle.decimal.specs.Digits.{Reading, reads, refused}
-use Rattle.json.specs.Json.{Span, Pair}
+use Rattle.json.specs.Json.{Span, Pair, maxDepth}
 use Rattle.json.specs.Names.{means, hasBackslash}
-use Rattle.settings.specs.Settings.{Terms}
-use Rattle.entries.specs.Places.{andThen, all, isString, objectAt, valuesOf, only, wholeAt, checksumAt}
-use Rattle.entries.specs.Rows.{Row, entriesAt, entryM}
-use Rattle.message.specs.Layout.{Printed, printed, Layout}
+use Rattle.entries.specs.Places.{andThen, isString, objectAt, valuesOf, only, wholeAt, checksumAt}
+use Rattle.entries.specs.Rows.{entryM}
+use Rattle.layout.specs.Layout.{printed, Listed, Layout, Heard, listedAt, laid}
 
 -- Check 4: a backslash in a top-level key or in a `channel` or `product` string.
 unfoldable pub someName : List ℕ → List Pair → Bool
@@ -28,29 +27,34 @@ unfoldable pub someMeans : List ℕ → List ℕ → List Span → Bool
 someMeans s name [] = false
 someMeans s name (a ∷ l) = means s a name || someMeans s name l
 
-unfoldable pub oursM : Terms → List ℕ → List Pair → Bool
-oursM t s ms = someMeans s (ascii "book") (valuesOf s (ascii "channel") ms) && someMeans s (t .name) (valuesOf s (ascii "product") ms)
+unfoldable pub oursM : List ℕ → List ℕ → List Pair → Bool
+oursM name s ms = someMeans s (ascii "book") (valuesOf s (ascii "channel") ms) && someMeans s name (valuesOf s (ascii "product") ms)
 
 -- ---- check 6: named, once each: `channel`, `product`, `type` (`snapshot` or `update`), `data`, `checksum`, `gsn`, and in `data` `bids` and `asks`
 
 unfoldable pub isSnapshotAt : List ℕ → Span → Reading Bool
 isSnapshotAt s a = cond (means s a (ascii "snapshot")) (reads true) (cond (means s a (ascii "update")) (reads false) refused)
 
-unfoldable pub rowsOf : List ℕ → List ℕ → List Pair → Reading (List Row)
-rowsOf s name ms = andThen (only (valuesOf s name ms)) (entriesAt entryM s)
+unfoldable pub listedIn : List ℕ → List ℕ → List Pair → Reading Listed
+listedIn s name ms = andThen (only (valuesOf s name ms)) (listedAt entryM s)
 
 unfoldable pub layoutM : List ℕ → List Pair → Reading Layout
 layoutM s ms =
     andThen (only (valuesOf s (ascii "channel") ms)) (λ c.
     andThen (only (valuesOf s (ascii "product") ms)) (λ p.
     andThen (only (valuesOf s (ascii "type") ms)) (λ t.
-    andThen (isSnapshotAt s t) (λ whole.
+    andThen (isSnapshotAt s t) (λ snapshot.
     andThen (only (valuesOf s (ascii "data") ms)) (λ d.
     andThen (objectAt 15 s d) (λ ds.
-    andThen (rowsOf s (ascii "bids") ds) (λ bs.
-    andThen (rowsOf s (ascii "asks") ds) (λ as′.
     andThen (only (valuesOf s (ascii "checksum") ms)) (λ k.
     andThen (checksumAt s k) (λ sum.
     andThen (only (valuesOf s (ascii "gsn") ms)) (λ g.
     andThen (wholeAt s g) (λ number.
-    reads (record { snapshot = whole; bids = bs; asks = as′; checksum = printed sum; number = number })))))))))))))
+    laid snapshot (printed sum) number (listedIn s (ascii "bids") ds) (listedIn s (ascii "asks") ds)))))))))))
+
+-- ---- the message, to a book of that name
+
+unfoldable pub heardM : List ℕ → List ℕ → Span → Reading Heard
+heardM name s a =
+    andThen (objectAt maxDepth s a) (λ ms.
+    reads (record { escaped = escapedM s ms; ours = oursM name s ms; layout = layoutM s ms }))

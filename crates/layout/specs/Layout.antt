@@ -1,0 +1,44 @@
+-- What is read of a message, in either dialect. Assumes nothing: these are definitions.
+use Prim.Native.Nat.{ℕ}
+use mathlib.Core.Bool.{Bool}
+use mathlib.Core.List.{List, [], _∷_}
+use Rattle.decimal.specs.Digits.{Reading, reads, refused}
+use Rattle.json.specs.Json.{Span}
+use Rattle.entries.specs.Places.{andThen}
+use Rattle.entries.specs.Rows.{Row, entriesAt}
+
+-- How a message prints a checksum, if it does.
+pub data Printed : Type 0 where
+  printed : ℕ → Printed
+  unprinted : Printed
+
+-- The entries of one side in written order, and the position where their array begins, which is 0 if the message has none for that side.
+pub record Listed : Type 0 where
+  pub at : ℕ
+  pub rows : List Row
+
+-- What the layout of a message gives: a snapshot or an update, the entries of each side, the checksum, the sequence number.
+pub record Layout : Type 0 where
+  pub snapshot : Bool
+  pub bids : Listed
+  pub asks : Listed
+  pub checksum : Printed
+  pub number : ℕ
+
+-- A message of the dialect's outer form: whether it has a backslash in check 4's places, whether it is this book's (check 5), and its layout (check 6).
+pub record Heard : Type 0 where
+  pub escaped : Bool
+  pub ours : Bool
+  pub layout : Reading Layout
+
+-- The entries of a side that has no array.
+abbrev pub unlisted : Listed
+unlisted = record { at = 0; rows = [] }
+
+-- The array of entries that a value is; `entry` is K's or M's.
+unfoldable pub listedAt : (List ℕ → Span → Reading Row) → List ℕ → Span → Reading Listed
+listedAt entry s a = andThen (entriesAt entry s a) (λ rows. reads (record { at = a .from; rows = rows }))
+
+unfoldable pub laid : Bool → Printed → ℕ → Reading Listed → Reading Listed → Reading Layout
+laid snapshot sum number bids asks =
+    andThen bids (λ b. andThen asks (λ a. reads (record { snapshot = snapshot; bids = b; asks = a; checksum = sum; number = number })))

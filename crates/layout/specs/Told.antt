@@ -1,0 +1,101 @@
+-- What one walk over a message tells, in numbers. Assumes nothing: these are definitions.
+use Prim.Native.Nat.{ℕ}
+use mathlib.Core.Bool.{Bool, true, false, _&&_, _||_, cond}
+use mathlib.Core.List.{List}
+use lib.ListN.{length}
+use Rattle.decimal.specs.Digits.{Reading, reads, refused}
+use Rattle.json_tokens.specs.Tokens.{At, Broken}
+use Rattle.json.specs.Json.{Span, value, maxDepth}
+use Rattle.entries.specs.Summary.{anyBroken, anyZero}
+use Rattle.layout.specs.Layout.{Printed, printed, unprinted, Listed, Layout, Heard}
+use Rattle.entries.specs.declared.Entries.{Entries}
+use Rattle.layout.specs.declared.Listing.{Listing}
+use Rattle.layout.specs.declared.Outline.{Outline}
+use Rattle.layout.specs.declared.Told.{Told}
+
+-- ---- the entries of a side
+
+-- A value that is no array of entries.
+abbrev pub notListed : Listing
+notListed = record { at = 0; fair = false; count = 0; broken = false; zero = false }
+
+-- The entries of a side that has no array.
+abbrev pub nothingListed : Listing
+nothingListed = record { at = 0; fair = true; count = 0; broken = false; zero = false }
+
+unfoldable pub listingOf : List ℕ → Reading Listed → Listing
+listingOf s (reads l) = record { at = l .at; fair = true; count = length (l .rows); broken = anyBroken s (l .rows); zero = anyZero s (l .rows) }
+listingOf s refused = notListed
+
+-- The same, made of what is told of the array at a position.
+unfoldable pub listingFrom : ℕ → Entries → Listing
+listingFrom at e = cond (e .fair) (record { at = at; fair = true; count = e .count; broken = e .broken; zero = e .zero }) notListed
+
+-- ---- the layout
+
+unfoldable pub isPrinted : Printed → Bool
+isPrinted (printed n) = true
+isPrinted unprinted = false
+
+unfoldable pub sumOf : Printed → ℕ
+sumOf (printed n) = n
+sumOf unprinted = 0
+
+-- Some text breaks check 8.
+unfoldable pub anyBad : Bool → List ℕ → Listed → Bool
+anyBad snapshot s l = anyBroken s (l .rows) || (snapshot && anyZero s (l .rows))
+
+-- A layout that is broken.
+abbrev pub noOutline : Outline
+noOutline = record { fair = false; snapshot = false; «bids_at» = 0; bids = 0; «asks_at» = 0; asks = 0; bad = false; printed = false; checksum = 0; number = 0 }
+
+unfoldable pub outlineOf : List ℕ → Reading Layout → Outline
+outlineOf s (reads l) =
+    record {
+      fair = true;
+      snapshot = l .snapshot;
+      «bids_at» = l .bids .at;
+      bids = length (l .bids .rows);
+      «asks_at» = l .asks .at;
+      asks = length (l .asks .rows);
+      bad = anyBad (l .snapshot) s (l .bids) || anyBad (l .snapshot) s (l .asks);
+      printed = isPrinted (l .checksum);
+      checksum = sumOf (l .checksum);
+      number = l .number;
+    }
+outlineOf s refused = noOutline
+
+-- The same, made of what is told of the sides.
+unfoldable pub isBad : Bool → Listing → Bool
+isBad snapshot l = l .broken || (snapshot && l .zero)
+
+unfoldable pub outlineFrom : Bool → Listing → Listing → Bool → ℕ → ℕ → Outline
+outlineFrom snapshot bids asks sent sum number =
+    cond (bids .fair && asks .fair)
+    (record {
+      fair = true;
+      snapshot = snapshot;
+      «bids_at» = bids .at;
+      bids = bids .count;
+      «asks_at» = asks .at;
+      asks = asks .count;
+      bad = isBad snapshot bids || isBad snapshot asks;
+      printed = sent;
+      checksum = sum;
+      number = number;
+    })
+    noOutline
+
+-- ---- the message
+
+-- A value that has not the dialect's outer form.
+abbrev pub noFrame : ℕ → Told
+noFrame end = record { end = end; framed = false; escaped = false; ours = false; outline = noOutline }
+
+unfoldable pub toldOf : List ℕ → ℕ → Reading Heard → Told
+toldOf s end (reads h) = record { end = end; framed = true; escaped = h .escaped; ours = h .ours; outline = outlineOf s (h .layout) }
+toldOf s end refused = noFrame end
+
+-- The value at a position as a message; `hear` is K's or M's.
+unfoldable pub toldAt : (List ℕ → Span → Reading Heard) → List ℕ → ℕ → Told
+toldAt hear s at = elim (value maxDepth s at) [ At e ↦ toldOf s e (hear s (record { from = at; to = e })) | Broken ↦ toldOf s 0 refused ]

@@ -1,0 +1,161 @@
+// What one walk over a message tells of it, in either dialect: everything that the checks need, so that the first refusal that
+// fits is chosen afterwards.
+use entries::Entries;
+ghost use mathlib.Core.Path.{_≡_};
+ghost use mathlib.Core.Bool.{_&&_, _||_};
+ghost use Rattle.layout.specs.Told.{listingFrom, nothingListed, outlineFrom, noOutline, noFrame};
+
+// The entries of one side.
+pub struct Listing {
+    // Where the array of entries begins, or 0 where the message has none for this side.
+    pub at: usize,
+    // Whether it is an array of entries. If not, what is below says nothing.
+    pub fair: bool,
+    pub count: usize,
+    // Whether some price is no decimal or zero, or some size is no decimal.
+    pub broken: bool,
+    // Whether some size is zero.
+    pub zero: bool,
+}
+
+// The layout of a message.
+pub struct Outline {
+    // Whether the layout is right. If not, what is below says nothing.
+    pub fair: bool,
+    pub snapshot: bool,
+    // Where the array of the bids begins, or 0 where there is none, and how many bids it has.
+    pub bids_at: usize,
+    pub bids: usize,
+    pub asks_at: usize,
+    pub asks: usize,
+    // Whether some price or size breaks a rule of decimals.
+    pub bad: bool,
+    // Whether the message carries a checksum.
+    pub printed: bool,
+    pub checksum: u32,
+    // The sequence number, 0 where the dialect has none.
+    pub number: u64,
+}
+
+pub struct Told {
+    // Past the message's value, or 0 where it is not JSON.
+    pub end: usize,
+    // Whether it has the outer form of the dialect. If not, what is below says nothing.
+    pub framed: bool,
+    // Whether a backslash stands where the book's name could be written with one.
+    pub escaped: bool,
+    // Whether it is this book's.
+    pub ours: bool,
+    pub outline: Outline,
+}
+
+// The array of entries at `at`, of which the entries are told.
+pub fn listing_at(at: usize, entries: Entries) -> Listing
+    ensures { λ r. ⌜ r ≡ listingFrom at entries ⌝ }
+{
+    if entries.fair {
+        return Listing {
+            at,
+            fair: true,
+            count: entries.count,
+            broken: entries.broken,
+            zero: entries.zero,
+        };
+    }
+    Listing {
+        at: 0,
+        fair: false,
+        count: 0,
+        broken: false,
+        zero: false,
+    }
+}
+
+// The entries of a side that has no array.
+pub fn no_listing() -> Listing
+    ensures { λ r. ⌜ r ≡ nothingListed ⌝ }
+{
+    Listing {
+        at: 0,
+        fair: true,
+        count: 0,
+        broken: false,
+        zero: false,
+    }
+}
+
+// The layout of a message of these entries, if they are entries.
+pub fn outline_of(
+    snapshot: bool,
+    bids: Listing,
+    asks: Listing,
+    printed: bool,
+    checksum: u32,
+    number: u64,
+) -> Outline
+    ensures { λ r. ⌜ r ≡ outlineFrom snapshot bids asks printed checksum number ⌝ }
+{
+    if bids.fair {
+        if asks.fair {
+            return Outline {
+                fair: true,
+                snapshot,
+                bids_at: bids.at,
+                bids: bids.count,
+                asks_at: asks.at,
+                asks: asks.count,
+                bad: either(is_bad(snapshot, bids), is_bad(snapshot, asks)),
+                printed,
+                checksum,
+                number,
+            };
+        }
+    }
+    no_outline()
+}
+
+fn is_bad(snapshot: bool, side: Listing) -> bool
+    ensures { λ r. ⌜ r ≡ (side .broken || (snapshot && side .zero)) ⌝ }
+{
+    if side.broken {
+        return true;
+    }
+    if snapshot { side.zero } else { false }
+}
+
+fn either(a: bool, b: bool) -> bool
+    ensures { λ r. ⌜ r ≡ (a || b) ⌝ }
+{
+    if a { true } else { b }
+}
+
+// A layout that is broken.
+pub fn no_outline() -> Outline
+    ensures { λ r. ⌜ r ≡ noOutline ⌝ }
+{
+    Outline {
+        fair: false,
+        snapshot: false,
+        bids_at: 0,
+        bids: 0,
+        asks_at: 0,
+        asks: 0,
+        bad: false,
+        printed: false,
+        checksum: 0,
+        number: 0,
+    }
+}
+
+// A value that ends at `end` and has not the dialect's outer form.
+pub fn untold(end: usize) -> Told
+    ensures { λ r. ⌜ r ≡ noFrame end ⌝ }
+{
+    Told {
+        end,
+        framed: false,
+        escaped: false,
+        ours: false,
+        outline: no_outline(),
+    }
+}

@@ -1,0 +1,2 @@
+-- In reading order: the layout of dialect K.
+pub mod LayoutK

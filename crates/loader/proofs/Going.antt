@@ -1,0 +1,83 @@
+-- The loop over an array of entries: the words of the rows before an entry, and the rows from it on. Assumes nothing.
+use Prim.Native.Nat.{ℕ, _+_, _≤_, _<_}
+use mathlib.Core.Path.{_≡_, refl, sym, ap, _∙_, subst}
+use mathlib.Core.Bool.{Bool, true, false}
+use mathlib.Core.List.{List, [], _∷_, _++_, append-nil, append-assoc}
+use native.Mathlib.Omega.{arith}
+use lib.ListN.{length, set, length-append}
+use Rattle.decimal.specs.Digits.{Reading}
+use Rattle.decimal.specs.Decimal.{Number}
+use Rattle.json_tokens.specs.Tokens.{endOf, separator}
+use Rattle.json.specs.Json.{Span}
+use Rattle.entries.specs.Rows.{Row}
+use Rattle.entries.specs.Summary.{foundOf, foundAt}
+use Rattle.entries.specs.declared.Found.{Found}
+use Rattle.entries.proofs.Strings.{Sound, k-sound, m-sound}
+use Rattle.entries.proofs.Summary.{found-laid}
+use Rattle.side.specs.Words.{Packed}
+use Rattle.side.specs.declared.Level.{Level}
+use Rattle.loader.specs.Loaded.{rowsAt, Loadable, Room, Loaded}
+use Rattle.loader.specs.Reading.{entryFor, firstAt, Placed, LevelAt}
+use Rattle.loader.proofs.Rows.{Left, first-left, Here, left-here}
+use Rattle.loader.proofs.Words.{rowOf, loaded-none, loaded-more}
+
+pub sound-for : (m : Bool) (s : List ℕ) → Sound (entryFor m) s
+sound-for true s = m-sound s
+sound-for false s = k-sound s
+
+-- `at` is where the next entry begins, or 0 where there is none
+pub record Going (entry : List ℕ → Span → Reading Row) (piece : Number → Number → List ℕ) (s prices sizes rests : List ℕ) (at k : ℕ) : Type 0 where
+  pub done : List Row
+  pub left : List Row
+  pub whole : rowsAt entry s ≡ done ++ left
+  pub few : length (rowsAt entry s) ≤ 100
+  pub loaded : Loaded piece s done prices sizes rests k
+  pub over : at ≡ 0 → left ≡ []
+  pub on : (at ≡ 0 → ⊥) → Left entry s at left
+
+module _ (entry : List ℕ → Span → Reading Row) {piece : Number → Number → List ℕ} (s : List ℕ) {prices sizes rests : List ℕ} where
+  pub going-start : (at : ℕ) → at ≡ firstAt s → Loadable entry s → Room prices sizes rests → Going entry piece s prices sizes rests at 0
+  going-start at e a r =
+      let f = first-left entry s (a .end) (rowsAt entry s) (a .listed) in
+      record { done = []; left = rowsAt entry s; whole = refl; few = a .few; loaded = loaded-none r; over = λ z. f .0 (sym e ∙ z); on = λ n. rw e (f .1 (λ z. n (e ∙ z))) }
+
+  pub going-end : {at k : ℕ} → Going entry piece s prices sizes rests at k → at ≡ 0 → Loaded piece s (rowsAt entry s) prices sizes rests k
+  going-end {at} {k} g z =
+      subst (λ (rows : List Row). Loaded piece s rows prices sizes rests k) (sym (g .whole ∙ ap (λ (x : List Row). g .done ++ x) (g .over z) ∙ append-nil (g .done))) (g .loaded)
+
+  module _ {at k : ℕ} (g : Going entry piece s prices sizes rests at k) (n : 0 < at) (f : Found) (told : f ≡ foundAt entry s at) where
+    here : Here entry s (g .left) f
+    here = left-here entry s at (g .left) (g .on (λ z. omega arith)) f told
+
+    pub going-below : k < 100
+    going-below =
+        let a = ap length (g .whole) in
+        let b = length-append (g .done) (g .left) in
+        let c = ap length (here .both) in
+        let d = g .few in
+        let e = g .loaded .count in
+        omega arith
+
+    pub going-placed : Sound entry s → Placed s f
+    unfolding foundOf
+    going-placed sound = found-laid entry s at f told sound (ap (λ (x : Found). x .fair) (here .is-row))
+
+    row-is : here .row ≡ rowOf f
+    unfolding foundOf
+    row-is = sym (ap rowOf (here .is-row))
+
+    pub going-more : (level : Level) (rest : ℕ) → Packed level rest → LevelAt piece s f level → (j : ℕ) → j ≡ endOf (separator 44 s (f .end))
+        → Going entry piece s (set prices k (level .price)) (set sizes k (level .size)) (set rests k rest) j (k + 1)
+    going-more level rest p l j h =
+        let o = here .onwards j h in
+        record {
+          done = g .done ++ (rowOf f ∷ []);
+          left = here .later;
+          whole =
+              g .whole ∙ ap (λ (x : List Row). g .done ++ x) (here .both ∙ ap (λ (r : Row). r ∷ here .later) row-is)
+              ∙ sym (append-assoc (g .done) (rowOf f ∷ []) (here .later));
+          few = g .few;
+          loaded = loaded-more (g .loaded) going-below f level rest p l;
+          over = o .0;
+          on = o .1;
+        }

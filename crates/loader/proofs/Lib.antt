@@ -1,0 +1,4 @@
+-- What the proofs of several functions cite, here and in the crates above.
+pub mod Rows
+pub mod Words
+pub mod Going

@@ -1,0 +1,151 @@
+-- The level of an entry, and the words of one entry more. Assumes nothing.
+use Prim.Native.Nat.{ℕ, _+_, _<_}
+use mathlib.Core.Path.{_≡_, refl, sym, ap, ap₂, _∙_, subst}
+use mathlib.Core.Bool.{Bool, true, false}
+use mathlib.Core.List.{List, [], _∷_, _++_, map}
+use native.Mathlib.Omega.{arith}
+use native.Mathlib.Numerals.{add-one}
+use borrow.Author.Tests.{eqb-true, eqb-false}
+use lib.Dec.{eqb, lit<}
+use lib.ListN.{length, take, set, length-append, length-set}
+use lib.Seq.{take-suc-set, length-take-le}
+use Rattle.decimal.specs.Digits.{reads, refused}
+use Rattle.decimal.specs.Decimal.{Number, number, read, Within, isZero}
+use Rattle.decimal.specs.declared.Decimal.{Decimal}
+use Rattle.decimal.proofs.RoundTrip.{read-within}
+use Rattle.json.specs.Json.{Span}
+use Rattle.entries.specs.Places.{inner}
+use Rattle.entries.specs.Rows.{Row, numberAt}
+use Rattle.entries.specs.declared.Found.{Found}
+use Rattle.side.specs.Level.{PriceLevel, levelPrice, levelSize, shown}
+use Rattle.side.specs.Side.{Edit, sets, removes, mapEdit, All, IfSet, named}
+use Rattle.side.specs.Words.{Packed, editOf, entriesOf}
+use Rattle.side.specs.declared.Level.{Level}
+use Rattle.side.proofs.All.{all-append}
+use Rattle.side.proofs.Packing.{edit-packed, edit-removal, entries-snoc}
+use Rattle.checksum.specs.Carried.{Carries, Made}
+use Rattle.loader.specs.Loaded.{editFor, editAt, Room, Loaded}
+use Rattle.loader.specs.Reading.{priceSpan, sizeSpan, NumberOf, LevelAt}
+
+-- ---- the level of an entry
+
+module _ (s : List ℕ) (a : Span) where
+  pub number-read : (d : Decimal) → read (inner s a) ≡ reads (number d) → NumberOf s a d
+  unfolding numberAt
+  number-read d h = record { is = rw (h, numberAt); within = read-within (inner s a) (number d) h }
+
+  pub number-none : read (inner s a) ≡ refused → NumberOf s a (record { digits = 0; decimals = 0 })
+  unfolding numberAt number
+  number-none h = record { is = rw (h, numberAt); within = record { few = omega arith; low = lit< tt } }
+
+pub level-made : {piece : Number → Number → List ℕ} (s : List ℕ) (f : Found) {price size : Decimal} {level : Level} → NumberOf s (priceSpan f) price → NumberOf s (sizeSpan f) size
+    → Made piece price size level → LevelAt piece s f level
+unfolding shown
+level-made s f p z m =
+    record {
+      shows = m .shows ∙ ap₂ (λ (x y : Number). record { price = x; size = y }) (p .is) (z .is);
+      within = subst Within (sym (ap (λ (l : PriceLevel). l .price) (m .shows))) (p .within);
+      carries = m .carries;
+    }
+
+-- ---- the entry that a level's words hold
+
+abbrev pub rowOf : Found → Row
+rowOf f = record { price = priceSpan f; size = sizeSpan f }
+
+record Holds (piece : Number → Number → List ℕ) (s : List ℕ) (f : Found) (e : Edit Level) : Type 0 where
+  within : Within (named levelPrice e)
+  says : mapEdit shown e ≡ editAt s (rowOf f)
+  carried : IfSet (Carries piece) e
+
+module _ {piece : Number → Number → List ℕ} (s : List ℕ) (f : Found) (level : Level) (rest : ℕ) (p : Packed level rest) (l : LevelAt piece s f level) where
+  says-level : editFor (levelPrice level) (levelSize level) ≡ editAt s (rowOf f)
+  unfolding editAt shown
+  says-level = ap₂ editFor (ap (λ (x : PriceLevel). x .price) (l .shows)) (ap (λ (x : PriceLevel). x .size) (l .shows))
+
+  for-removal : eqb (level .size) 0 ≡ true → editFor (levelPrice level) (levelSize level) ≡ removes (levelPrice level)
+  unfolding editFor isZero levelSize
+  for-removal e = rw e
+
+  for-set : eqb (level .size) 0 ≡ false → editFor (levelPrice level) (levelSize level) ≡ sets (shown level)
+  unfolding editFor isZero levelSize shown
+  for-set e = rw e
+
+  holds : Holds piece s f (editOf (level .price) (level .size) rest)
+  unfolding named mapEdit IfSet
+  holds = go (eqb (level .size) 0) refl
+    where
+      go : (b : Bool) → eqb (level .size) 0 ≡ b → Holds piece s f (editOf (level .price) (level .size) rest)
+      go true e =
+          subst (Holds piece s f)
+          (sym (ap (λ (z : ℕ). editOf (level .price) z rest) (eqb-true (level .size) 0 e) ∙ ap (editOf (level .price) 0) (p .word) ∙ edit-removal level (p .fits)))
+          (record { within = l .within; says = sym (for-removal e) ∙ says-level; carried = tt })
+      go false e =
+          subst (Holds piece s f)
+          (sym (ap (editOf (level .price) (level .size)) (p .word) ∙ edit-packed level (p .fits) (eqb-false (level .size) 0 e)))
+          (record { within = l .within; says = sym (for-set e) ∙ says-level; carried = l .carries })
+
+-- ---- the lists of words
+
+map-snoc : {A B : Type 0} (g : A → B) (l : List A) (x : A) → map g (l ++ (x ∷ [])) ≡ map g l ++ (g x ∷ [])
+map-snoc g [] x = refl
+map-snoc {A} {B} g (y ∷ l) x = ap (λ (t : List B). g y ∷ t) (map-snoc g l x)
+
+pub loaded-none : {piece : Number → Number → List ℕ} {s prices sizes rests : List ℕ} → Room prices sizes rests → Loaded piece s [] prices sizes rests 0
+unfolding All entriesOf
+loaded-none r = record { room = r; count = refl; few = omega arith; given = record { few = omega arith; sizes-long = refl; rests-long = refl; within = tt }; edits = refl; carried = tt }
+
+module _ {piece : Number → Number → List ℕ} {s : List ℕ} {rows : List Row} {prices sizes rests : List ℕ} {k : ℕ} (h : Loaded piece s rows prices sizes rests k)
+    (below : k < 100) (f : Found) (level : Level) (rest : ℕ) (p : Packed level rest) (l : LevelAt piece s f level) where
+  abbrev e : Edit Level
+  e = editOf (level .price) (level .size) rest
+
+  abbrev stored : List (Edit Level)
+  stored = entriesOf (take k prices) (take k sizes) (take k rests)
+
+  long : (xs : List ℕ) → length xs ≡ 100 → length (take k xs) ≡ k
+  long xs n = length-take-le k xs (omega arith)
+
+  grown : (xs : List ℕ) (x : ℕ) → length xs ≡ 100 → length (take (k + 1) (set xs k x)) ≡ k + 1
+  grown xs x n = let e : length (set xs k x) ≡ length xs = length-set xs k x in length-take-le (k + 1) (set xs k x) (omega arith)
+
+  front : (xs : List ℕ) (x : ℕ) → length xs ≡ 100 → take (k + 1) (set xs k x) ≡ take k xs ++ (x ∷ [])
+  front xs x n = ap (λ (n : ℕ). take n (set xs k x)) (add-one k) ∙ take-suc-set xs k x (omega arith)
+
+  more : entriesOf (take (k + 1) (set prices k (level .price))) (take (k + 1) (set sizes k (level .size))) (take (k + 1) (set rests k rest)) ≡ stored ++ (e ∷ [])
+  more =
+      let lp = h .room .prices-long in
+      let lz = h .room .sizes-long in
+      let lr = h .room .rests-long in
+      ap (λ (x : List ℕ). entriesOf x (take (k + 1) (set sizes k (level .size))) (take (k + 1) (set rests k rest))) (front prices (level .price) lp)
+      ∙ ap (λ (x : List ℕ). entriesOf (take k prices ++ (level .price ∷ [])) x (take (k + 1) (set rests k rest))) (front sizes (level .size) lz)
+      ∙ ap (entriesOf (take k prices ++ (level .price ∷ [])) (take k sizes ++ (level .size ∷ []))) (front rests rest lr)
+      ∙ entries-snoc (take k prices) (take k sizes) (take k rests) (level .price) (level .size) rest (long sizes lz ∙ sym (long prices lp)) (long rests lr ∙ sym (long prices lp))
+
+  each-edit : (P : Edit Level → Type 0) → P e → All P stored →
+      All P (entriesOf (take (k + 1) (set prices k (level .price))) (take (k + 1) (set sizes k (level .size))) (take (k + 1) (set rests k rest)))
+  unfolding All
+  each-edit P a b = subst (All P) (sym more) (all-append P stored (e ∷ []) b (a, tt))
+
+  pub loaded-more : Loaded piece s (rows ++ (rowOf f ∷ [])) (set prices k (level .price)) (set sizes k (level .size)) (set rests k rest) (k + 1)
+  loaded-more =
+      let b = holds s f level rest p l in
+      let lp = h .room .prices-long in
+      let lz = h .room .sizes-long in
+      let lr = h .room .rests-long in
+      record {
+        room = record { prices-long = length-set prices k (level .price) ∙ lp; sizes-long = length-set sizes k (level .size) ∙ lz; rests-long = length-set rests k rest ∙ lr };
+        count = let n = h .count in let m = length-append rows (rowOf f ∷ []) in omega arith;
+        few = omega arith;
+        given = record {
+          few = let n = grown prices (level .price) lp in omega arith;
+          sizes-long = grown sizes (level .size) lz ∙ sym (grown prices (level .price) lp);
+          rests-long = grown rests rest lr ∙ sym (grown prices (level .price) lp);
+          within = each-edit (λ x. Within (named levelPrice x)) (b .within) (h .given .within);
+        };
+        edits =
+            ap (map (mapEdit shown)) more ∙ map-snoc (mapEdit shown) stored e
+            ∙ ap₂ (λ (x : List (Edit PriceLevel)) (y : Edit PriceLevel). x ++ (y ∷ [])) (h .edits) (b .says)
+            ∙ sym (map-snoc (editAt s) rows (rowOf f));
+        carried = each-edit (IfSet (Carries piece)) (b .carried) (h .carried);
+      }

@@ -1,0 +1,134 @@
+-- `load` meets its contract: each turn stores the words of one entry more, and where no entry follows, they are the words of all the rows.
+use borrow.Author.Needs.{needs}
+use Prim.Native.Nat.{_-_}
+use native.Mathlib.Omega.{arith}
+use Rattle.loader.specs.Reading.{entryFor, pieceFor}
+use Rattle.loader.proofs.Going.{Going, sound-for, going-start, going-end, going-below, going-placed, going-more}
+use Rattle.loader.proofs.load.Statement.{statement}
+use Rattle.loader.proofs.load.Tie as tie
+
+abbrev Inv-loop : tie.InvT-loop
+Inv-loop s m prices₀ sizes₀ rests₀ at₀ k₀ prices sizes rests at k =
+    Going (entryFor m) (pieceFor m) s prices sizes rests at k
+
+abbrev μ-loop : tie.MeasureT-loop
+μ-loop s m prices₀ sizes₀ rests₀ at₀ k₀ prices sizes rests at k = 100 - k
+
+first-at-requires : tie.Need-first-at-requires Inv-loop μ-loop
+first-at-requires c κs = search needs
+
+loop-holds : tie.Need-loop-holds Inv-loop μ-loop
+loop-holds c =
+    let a = c .before .before .args in
+    let s = a .s .now in
+    going-start (entryFor (a .m)) s (c .first-at .result) (c .first-at .ensures) (c .before .before .pre .0) (c .before .before .pre .1)
+
+entry-at-requires : tie.Need-entry-at-requires Inv-loop μ-loop
+entry-at-requires c κs = search needs
+
+level-at-requires : tie.Need-level-at-requires Inv-loop μ-loop
+level-at-requires c κs =
+    let a = c .before .before .before .before .before .args in
+    let s = a .s .now in
+    going-placed (entryFor (a .m)) s (c .before .before .loop .inv) (c .before .loop-test .taken) (c .entry-at .result) (c .entry-at .ensures) (sound-for (a .m) s)
+
+mul-prices : tie.Need-mul-prices Inv-loop μ-loop
+mul-prices c =
+    let a = c .before .before .before .before .before .before .args in
+    let s = a .s .now in
+    let k = going-below (entryFor (a .m)) s (c .before .before .before .loop .inv) (c .before .before .loop-test .taken) (c .before .entry-at .result) (c .before .entry-at .ensures) in
+    omega arith
+
+element-write-prices : tie.Need-element-write-prices Inv-loop μ-loop
+element-write-prices c =
+    let a = c .before .before .before .before .before .before .args in
+    let s = a .s .now in
+    let k = going-below (entryFor (a .m)) s (c .before .before .before .loop .inv) (c .before .before .loop-test .taken) (c .before .entry-at .result) (c .before .entry-at .ensures) in
+    let r = c .before .before .before .loop .inv .loaded .room in
+    omega arith
+
+mul-sizes : tie.Need-mul-sizes Inv-loop μ-loop
+mul-sizes c =
+    let a = c .before .before .before .before .before .before .args in
+    let s = a .s .now in
+    let k = going-below (entryFor (a .m)) s (c .before .before .before .loop .inv) (c .before .before .loop-test .taken) (c .before .entry-at .result) (c .before .entry-at .ensures) in
+    omega arith
+
+element-write-sizes : tie.Need-element-write-sizes Inv-loop μ-loop
+element-write-sizes c =
+    let a = c .before .before .before .before .before .before .args in
+    let s = a .s .now in
+    let k = going-below (entryFor (a .m)) s (c .before .before .before .loop .inv) (c .before .before .loop-test .taken) (c .before .entry-at .result) (c .before .entry-at .ensures) in
+    let r = c .before .before .before .loop .inv .loaded .room in
+    omega arith
+
+pack-requires : tie.Need-pack-requires Inv-loop μ-loop
+pack-requires c κs = search needs
+
+mul-rests : tie.Need-mul-rests Inv-loop μ-loop
+mul-rests c =
+    let a = c .before .before .before .before .before .before .before .args in
+    let s = a .s .now in
+    let k = going-below (entryFor (a .m)) s (c .before .before .before .before .loop .inv) (c .before .before .before .loop-test .taken) (c .before .before .entry-at .result) (c .before .before .entry-at .ensures) in
+    omega arith
+
+element-write-rests : tie.Need-element-write-rests Inv-loop μ-loop
+element-write-rests c =
+    let a = c .before .before .before .before .before .before .before .args in
+    let s = a .s .now in
+    let k = going-below (entryFor (a .m)) s (c .before .before .before .before .loop .inv) (c .before .before .before .loop-test .taken) (c .before .before .entry-at .result) (c .before .before .entry-at .ensures) in
+    let r = c .before .before .before .before .loop .inv .loaded .room in
+    omega arith
+
+add-k : tie.Need-add-k Inv-loop μ-loop
+add-k c =
+    let a = c .before .before .before .before .before .before .before .args in
+    let s = a .s .now in
+    let k = going-below (entryFor (a .m)) s (c .before .before .before .before .loop .inv) (c .before .before .before .loop-test .taken) (c .before .before .entry-at .result) (c .before .before .entry-at .ensures) in
+    omega arith
+
+comma-end-requires : tie.Need-comma-end-requires Inv-loop μ-loop
+comma-end-requires c κs = search needs
+
+loop-less : tie.Need-loop-less Inv-loop μ-loop
+loop-less c =
+    let a = c .before .before .before .before .before .before .before .before .args in
+    let s = a .s .now in
+    let k = going-below (entryFor (a .m)) s (c .before .before .before .before .before .loop .inv) (c .before .before .before .before .loop-test .taken) (c .before .before .before .entry-at .result) (c .before .before .before .entry-at .ensures) in
+    omega arith
+
+loop-again : tie.Need-loop-again Inv-loop μ-loop
+loop-again c =
+    let a = c .before .before .before .before .before .before .before .before .args in
+    let s = a .s .now in
+    going-more (entryFor (a .m)) s (c .before .before .before .before .before .loop .inv) (c .before .before .before .before .loop-test .taken) (c .before .before .before .entry-at .result) (c .before .before .before .entry-at .ensures) (c .before .before .level-at .result) (c .before .pack .result) (c .before .pack .ensures) (c .before .before .level-at .ensures) (c .comma-end .result) (c .comma-end .ensures)
+
+returns : tie.Need-returns Inv-loop μ-loop
+returns c =
+    let a = c .before .before .before .before .args in
+    let s = a .s .now in
+    let t = c .loop-test .left in
+    going-end (entryFor (a .m)) s (c .before .loop .inv) (omega arith)
+
+pub load-spec : {M : Type 1} → statement M
+load-spec =
+    tie.close
+    (tie.spec
+    Inv-loop
+    μ-loop
+    first-at-requires
+    loop-holds
+    entry-at-requires
+    level-at-requires
+    mul-prices
+    element-write-prices
+    mul-sizes
+    element-write-sizes
+    pack-requires
+    mul-rests
+    element-write-rests
+    add-k
+    comma-end-requires
+    loop-less
+    loop-again
+    returns)

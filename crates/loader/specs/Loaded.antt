@@ -1,0 +1,56 @@
+-- What the loader makes of an array of entries. Assumes nothing: these are definitions.
+use Prim.Native.Nat.{ℕ, _≤_}
+use mathlib.Core.Bool.{cond}
+use mathlib.Core.List.{List, [], map}
+use mathlib.Core.Path.{_≡_}
+use lib.ListN.{length, take}
+use Rattle.decimal.specs.Digits.{Reading, reads, refused}
+use Rattle.decimal.specs.Decimal.{Number, isZero}
+use Rattle.json.specs.Json.{Span}
+use Rattle.entries.specs.Rows.{Row, entriesAt, numberAt}
+use Rattle.side.specs.Level.{PriceLevel, shown}
+use Rattle.side.specs.Side.{Edit, sets, removes, mapEdit, All, IfSet}
+use Rattle.side.specs.Words.{entriesOf}
+use Rattle.side.specs.Kept.{maxEntries, Given}
+use Rattle.checksum.specs.Carried.{Carries}
+
+-- ---- what an entry does to its side
+
+-- A size of zero removes the level at the price; any other sets it.
+unfoldable pub editFor : Number → Number → Edit PriceLevel
+editFor price size = cond (isZero size) (removes price) (sets (record { price = price; size = size }))
+
+unfoldable pub editAt : List ℕ → Row → Edit PriceLevel
+editAt s r = editFor (numberAt s (r .price)) (numberAt s (r .size))
+
+-- ---- a text that begins with an array of entries; `entry` is K's or M's
+
+-- Its rows, in written order. Where the array ends is told by its bytes: the end of the span is not asked.
+unfoldable pub rowsOf : Reading (List Row) → List Row
+rowsOf (reads rows) = rows
+rowsOf refused = []
+
+unfoldable pub rowsAt : (List ℕ → Span → Reading Row) → List ℕ → List Row
+rowsAt entry s = rowsOf (entriesAt entry s (record { from = 0; to = length s }))
+
+pub record Loadable (entry : List ℕ → Span → Reading Row) (s : List ℕ) : Type 0 where
+  pub end : ℕ
+  pub listed : entriesAt entry s (record { from = 0; to = end }) ≡ reads (rowsAt entry s)
+  pub few : length (rowsAt entry s) ≤ maxEntries
+
+-- ---- the words
+
+pub record Room (prices sizes rests : List ℕ) : Type 0 where
+  pub prices-long : length prices ≡ maxEntries
+  pub sizes-long : length sizes ≡ maxEntries
+  pub rests-long : length rests ≡ maxEntries
+
+-- The first n words of each list are those of the rows, as `side::apply` wants them: they stand for what the rows say, and a level that they set
+-- carries the sum of its piece.
+pub record Loaded (piece : Number → Number → List ℕ) (s : List ℕ) (rows : List Row) (prices sizes rests : List ℕ) (n : ℕ) : Type 0 where
+  pub room : Room prices sizes rests
+  pub count : n ≡ length rows
+  pub few : n ≤ maxEntries
+  pub given : Given (take n prices) (take n sizes) (take n rests)
+  pub edits : map (mapEdit shown) (entriesOf (take n prices) (take n sizes) (take n rests)) ≡ map (editAt s) rows
+  pub carried : All (IfSet (Carries piece)) (entriesOf (take n prices) (take n sizes) (take n rests))

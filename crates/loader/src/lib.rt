@@ -1,0 +1,122 @@
+// The entries of one side of a message, read where they lie in its text into the three words each that `side::apply` takes.
+// A level that is set carries the sum of its piece of checksum text.
+//
+//     let n = loader::k_load(&message[at..], &mut prices, &mut sizes, &mut rests);
+//     side::apply(bids, Side::Bids, depth, &prices[..n], &sizes[..n], &rests[..n])
+ghost use mathlib.Core.Path.{_≡_};
+ghost use Rattle.piece.specs.Piece.{kPiece, mPiece};
+ghost use Rattle.entries.specs.Rows.{entryK, entryM};
+ghost use Rattle.entries.specs.Counting.{Quoted};
+ghost use Rattle.entries.specs.Summary.{foundAt};
+ghost use Rattle.loader.specs.Loaded.{Loadable, Loaded, Room, rowsAt};
+ghost use Rattle.loader.specs.Reading.{entryFor, pieceFor, firstAt, LevelAt, Placed, NumberOf};
+use decimal::Decimal;
+use decimal::Parsed;
+use entries::Found;
+use json_tokens::array_close_end;
+use json_tokens::comma_end;
+use json_tokens::skip_blanks;
+use side::Level;
+
+// How many entries a message may have for one side.
+pub const MAX_ENTRIES: usize = 100;
+
+// The entries of dialect K in the array that the text begins with, a word of each slice for each entry, from place 0 on;
+// how many there are.
+pub fn k_load(
+    s: &[u8],
+    prices: &mut [u64; MAX_ENTRIES],
+    sizes: &mut [u64; MAX_ENTRIES],
+    rests: &mut [u64; MAX_ENTRIES],
+) -> usize
+    requires { ⌜ Loadable entryK (now s) × Room (now prices) (now sizes) (now rests) ⌝ }
+    ensures { λ r. ⌜ Loaded kPiece (now (s .entry)) (rowsAt entryK (now (s .entry))) (now (prices .exit)) (now (sizes .exit)) (now (rests .exit)) r ⌝ }
+{
+    load(s, false, prices, sizes, rests)
+}
+
+// The same for dialect M.
+pub fn m_load(
+    s: &[u8],
+    prices: &mut [u64; MAX_ENTRIES],
+    sizes: &mut [u64; MAX_ENTRIES],
+    rests: &mut [u64; MAX_ENTRIES],
+) -> usize
+    requires { ⌜ Loadable entryM (now s) × Room (now prices) (now sizes) (now rests) ⌝ }
+    ensures { λ r. ⌜ Loaded mPiece (now (s .entry)) (rowsAt entryM (now (s .entry))) (now (prices .exit)) (now (sizes .exit)) (now (rests .exit)) r ⌝ }
+{
+    load(s, true, prices, sizes, rests)
+}
+
+// Either dialect: M, or else K.
+fn load(
+    s: &[u8],
+    m: bool,
+    prices: &mut [u64; MAX_ENTRIES],
+    sizes: &mut [u64; MAX_ENTRIES],
+    rests: &mut [u64; MAX_ENTRIES],
+) -> usize
+    requires { ⌜ Loadable (entryFor m) (now s) × Room (now prices) (now sizes) (now rests) ⌝ }
+    ensures { λ r. ⌜ Loaded (pieceFor m) (now (s .entry)) (rowsAt (entryFor m) (now (s .entry))) (now (prices .exit)) (now (sizes .exit)) (now (rests .exit)) r ⌝ }
+{
+    let mut at = first_at(s);
+    let mut k = 0;
+    while 0 < at {
+        let found = entry_at(s, at, m);
+        let level = level_at(s, found, m);
+        prices[k] = level.price;
+        sizes[k] = level.size;
+        rests[k] = side::pack(level);
+        k += 1;
+        at = comma_end(s, found.end);
+    }
+    k
+}
+
+// Where the first entry of the array begins, or 0 where it has none.
+fn first_at(s: &[u8]) -> usize
+    ensures { λ r. ⌜ r ≡ firstAt (now (s .entry)) ⌝ }
+{
+    if 0 < array_close_end(s, 1) {
+        return 0;
+    }
+    skip_blanks(s, 1)
+}
+
+fn entry_at(s: &[u8], at: usize, m: bool) -> Found
+    ensures { λ r. ⌜ r ≡ foundAt (entryFor m) (now (s .entry)) at ⌝ }
+{
+    if m {
+        return entries::m_entry(s, at);
+    }
+    entries::k_entry(s, at)
+}
+
+// The level of an entry, also of one that removes it.
+fn level_at(s: &[u8], found: Found, m: bool) -> Level
+    requires { ⌜ Placed (now s) found ⌝ }
+    ensures { λ r. ⌜ LevelAt (pieceFor m) (now (s .entry)) found r ⌝ }
+{
+    let price = number_at(s, found.price_from, found.price_to);
+    let size = number_at(s, found.size_from, found.size_to);
+    if m {
+        return checksum::m_level(price, size);
+    }
+    checksum::k_level(price, size)
+}
+
+// The decimal in the text from `from` to `to`, quotes included; 0 where it is none.
+fn number_at(s: &[u8], from: usize, to: usize) -> Decimal
+    requires { ⌜ Quoted (now s) from to ⌝ }
+    ensures { λ r. ⌜ NumberOf (now (s .entry)) (record { from = from; to = to }) r ⌝ }
+{
+    let first = from + 1;
+    let last = to - 1;
+    match decimal::parse(&s[first..last]) {
+        Parsed::Number(d) => d,
+        Parsed::Refused => Decimal {
+            digits: 0,
+            decimals: 0,
+        },
+    }
+}

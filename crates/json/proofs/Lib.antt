@@ -7,3 +7,4 @@ pub mod Reading
 pub mod Names
 pub mod Finding
 pub mod Claims
+pub mod Shift

@@ -1,11 +1,9 @@
 // The entries of one side of a message, read where they lie in its text into the three words each that `side::apply` takes.
 // A level that is set carries the sum of its piece of checksum text.
 //
-//     let n = loader::k_load(&message[at..], &mut prices, &mut sizes, &mut rests);
+//     let n = loader::load(&message[at..], false, &mut prices, &mut sizes, &mut rests);
 //     side::apply(bids, Side::Bids, depth, &prices[..n], &sizes[..n], &rests[..n])
 ghost use mathlib.Core.Path.{_≡_};
-ghost use Rattle.piece.specs.Piece.{kPiece, mPiece};
-ghost use Rattle.entries.specs.Rows.{entryK, entryM};
 ghost use Rattle.entries.specs.Counting.{Quoted};
 ghost use Rattle.entries.specs.Summary.{foundAt};
 ghost use Rattle.loader.specs.Loaded.{Loadable, Loaded, Room, rowsAt};
@@ -21,35 +19,9 @@ use side::Level;
 // How many entries a message may have for one side.
 pub const MAX_ENTRIES: usize = 100;
 
-// The entries of dialect K in the array that the text begins with, a word of each slice for each entry, from place 0 on;
-// how many there are.
-pub fn k_load(
-    s: &[u8],
-    prices: &mut [u64; MAX_ENTRIES],
-    sizes: &mut [u64; MAX_ENTRIES],
-    rests: &mut [u64; MAX_ENTRIES],
-) -> usize
-    requires { ⌜ Loadable entryK (now s) × Room (now prices) (now sizes) (now rests) ⌝ }
-    ensures { λ r. ⌜ Loaded kPiece (now (s .entry)) (rowsAt entryK (now (s .entry))) (now (prices .exit)) (now (sizes .exit)) (now (rests .exit)) r ⌝ }
-{
-    load(s, false, prices, sizes, rests)
-}
-
-// The same for dialect M.
-pub fn m_load(
-    s: &[u8],
-    prices: &mut [u64; MAX_ENTRIES],
-    sizes: &mut [u64; MAX_ENTRIES],
-    rests: &mut [u64; MAX_ENTRIES],
-) -> usize
-    requires { ⌜ Loadable entryM (now s) × Room (now prices) (now sizes) (now rests) ⌝ }
-    ensures { λ r. ⌜ Loaded mPiece (now (s .entry)) (rowsAt entryM (now (s .entry))) (now (prices .exit)) (now (sizes .exit)) (now (rests .exit)) r ⌝ }
-{
-    load(s, true, prices, sizes, rests)
-}
-
-// Either dialect: M, or else K.
-fn load(
+// The entries in the array that the text begins with, a word of each array for each entry, from place 0 on; how many there are.
+// `m` says that the dialect is M, else it is K.
+pub fn load(
     s: &[u8],
     m: bool,
     prices: &mut [u64; MAX_ENTRIES],

@@ -3,8 +3,6 @@ ghost use mathlib.Core.Path.{_≡_};
 ghost use Prim.Native.Nat.{_≤_};
 ghost use lib.ListN.{length};
 ghost use Rattle.side.specs.Kept.{held};
-ghost use Rattle.loader.specs.Loaded.{Loadable, Loaded, Room, rowsAt};
-ghost use Rattle.loader.specs.Reading.{entryFor, pieceFor};
 ghost use Rattle.sides.specs.Worked.{Sound, Ready, editsAt, Worked};
 use loader::MAX_ENTRIES;
 use side::Applied;
@@ -35,30 +33,6 @@ pub fn apply_entries(
     let mut prices = [0; MAX_ENTRIES];
     let mut sizes = [0; MAX_ENTRIES];
     let mut rests = [0; MAX_ENTRIES];
-    let n = load(&s[at..], m, &mut prices, &mut sizes, &mut rests);
-    side::apply(
-        kept,
-        side,
-        depth,
-        &prices[..n],
-        &sizes[..n],
-        &rests[..n],
-    )
-}
-
-// The entries that the text begins with, in words.
-fn load(
-    s: &[u8],
-    m: bool,
-    prices: &mut [u64; MAX_ENTRIES],
-    sizes: &mut [u64; MAX_ENTRIES],
-    rests: &mut [u64; MAX_ENTRIES],
-) -> usize
-    requires { ⌜ Loadable (entryFor m) (now s) × Room (now prices) (now sizes) (now rests) ⌝ }
-    ensures { λ r. ⌜ Loaded (pieceFor m) (now (s .entry)) (rowsAt (entryFor m) (now (s .entry))) (now (prices .exit)) (now (sizes .exit)) (now (rests .exit)) r ⌝ }
-{
-    if m {
-        return loader::m_load(s, prices, sizes, rests);
-    }
-    loader::k_load(s, prices, sizes, rests)
+    let n = loader::load(&s[at..], m, &mut prices, &mut sizes, &mut rests);
+    side::apply(kept, side, depth, &prices[..n], &sizes[..n], &rests[..n])
 }

@@ -1,0 +1,91 @@
+-- `apply_entries` meets its contract: no entries leave the side as it is; others are loaded, then applied.
+use Rattle.sides.proofs.Working.{rest-of, none-worked, some-worked}
+use mathlib.Core.Path.{refl}
+use native.Mathlib.Omega.{arith}
+use lib.ListN.{length-take}
+use denote.Ref.{now}
+use borrow.Author.Needs.{needs}
+use Rattle.sides.proofs.apply_entries.Statement.{statement}
+use Rattle.sides.proofs.apply_entries.Tie as tie
+
+returns : tie.Need-returns
+returns c =
+    let a = c .before .before .args in
+    let p = c .before .before .pre in
+    none-worked (a .m) (a .side) (a .depth) (a .kept) (now (a .s)) (a .at) (a .count) (c .if1 .taken) (p .0) (p .3)
+
+sub-load : tie.Need-sub-load
+sub-load c = c .before .before .pre .1 .inside (c .if1 .left)
+
+part-load-start : tie.Need-part-load-start
+part-load-start c = c .before .before .pre .1 .inside (c .if1 .left)
+
+part-load-end : tie.Need-part-load-end
+part-load-end c = search needs
+
+load-requires : tie.Need-load-requires
+load-requires c κs =
+    let a = c .before .before .before .before .before .before .args in
+    let p = c .before .before .before .before .before .before .pre in
+    rw (rest-of (now (a .s)) (a .at)) (p .1 .loadable (c .before .before .before .before .if1 .left), record { prices-long = refl; sizes-long = refl; rests-long = refl })
+
+array-share-prefix-prices : tie.Need-array-share-prefix-prices
+array-share-prefix-prices c = search needs
+
+slice-aggregate-apply : tie.Need-slice-aggregate-apply
+slice-aggregate-apply c =
+    let r = c .before .load .ensures .room .prices-long in
+    let l = length-take (c .before .load .result) (c .before .load .last .1 .1 .0) in
+    let f = c .before .load .ensures .few in
+    omega arith
+
+array-share-prefix-sizes : tie.Need-array-share-prefix-sizes
+array-share-prefix-sizes c = search needs
+
+slice-aggregate-apply-2 : tie.Need-slice-aggregate-apply-2
+slice-aggregate-apply-2 c =
+    let r = c .before .before .load .ensures .room .sizes-long in
+    let l = length-take (c .before .before .load .result) (c .before .before .load .last .1 .1 .1 .0) in
+    let f = c .before .before .load .ensures .few in
+    omega arith
+
+array-share-prefix-rests : tie.Need-array-share-prefix-rests
+array-share-prefix-rests c = search needs
+
+slice-aggregate-apply-3 : tie.Need-slice-aggregate-apply-3
+slice-aggregate-apply-3 c =
+    let r = c .before .before .before .load .ensures .room .rests-long in
+    let l = length-take (c .before .before .before .load .result) (c .before .before .before .load .last .1 .1 .1 .1 .0) in
+    let f = c .before .before .before .load .ensures .few in
+    omega arith
+
+apply-requires : tie.Need-apply-requires
+apply-requires c κs =
+    let a = c .before .before .before .before .before .before .before .before .before .before .args in
+    let p = c .before .before .before .before .before .before .before .before .before .before .pre in
+    (p .0 .good, c .before .before .before .load .ensures .given, p .2)
+
+returns-2 : tie.Need-returns-2
+returns-2 c =
+    let a = c .before .before .before .before .before .before .before .before .before .before .before .args in
+    let p = c .before .before .before .before .before .before .before .before .before .before .before .pre in
+    let l = c .before .before .before .before .load in
+    some-worked (a .m) (a .side) (a .depth) (a .kept) (now (a .s)) (a .at) (a .count) (l .last .1 .1 .0) (l .last .1 .1 .1 .0) (l .last .1 .1 .1 .1 .0) (l .result) (c .apply .result) (c .before .before .before .before .before .before .before .before .before .if1 .left) (p .0) (rw (rest-of (now (a .s)) (a .at)) at (l .ensures)) (c .apply .ensures)
+
+pub apply-entries-spec : {M : Type 1} → statement M
+apply-entries-spec =
+    tie.close
+    (tie.spec
+    returns
+    sub-load
+    part-load-start
+    part-load-end
+    load-requires
+    array-share-prefix-prices
+    slice-aggregate-apply
+    array-share-prefix-sizes
+    slice-aggregate-apply-2
+    array-share-prefix-rests
+    slice-aggregate-apply-3
+    apply-requires
+    returns-2)

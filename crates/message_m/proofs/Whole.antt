@@ -3,13 +3,15 @@
 use mathlib.Core.Path.{_≡_, refl, sym, ap, ap₂, _∙_}
 use mathlib.Core.List.{List, [], _∷_}
 use mathlib.Core.Bool.{Bool, true, false, _&&_, _||_, cond}
-use Prim.Native.Nat.{ℕ, suc, _+_}
+use Prim.Native.Nat.{ℕ, _+_, _≤_, _<_}
 use native.Mathlib.Omega.{arith}
 use borrow.Author.Tests.{eqb-true, eqb-false}
 use lib.Dec.{eqb}
+use lib.ListN.{length}
 use Rattle.decimal.specs.Ascii.{ascii}
 use Rattle.decimal.specs.Digits.{Reading, reads, refused}
-use Rattle.json_tokens.specs.Tokens.{End, At, Broken, endOf}
+use Rattle.json_tokens.specs.Bytes.{byteAt}
+use Rattle.json_tokens.specs.Tokens.{End, At, Broken, endOf, blanks, closing}
 use Rattle.json.specs.Json.{Span, Pair, value}
 use Rattle.json.specs.Names.{means, hasBackslash}
 use Rattle.entries.specs.Places.{andThen, isString, objectAt, valuesOf, only, wholeAt, checksumAt}
@@ -17,7 +19,7 @@ use Rattle.entries.specs.Rows.{entryM}
 use Rattle.layout.specs.Fold.{foldFrom}
 use Rattle.layout.specs.Layout.{printed, Listed, Layout, Heard, listedAt, laid}
 use Rattle.layout.specs.Marks.{few, fewMore, unmarked, more, marksOf, moreListed, slotsOf}
-use Rattle.layout.specs.Told.{listingOf, noOutline, outlineOf, outlineFrom, isPrinted, sumOf, toldOf, toldAt}
+use Rattle.layout.specs.Told.{listingOf, noOutline, noFrame, outlineOf, outlineFrom, isPrinted, sumOf, toldOf, toldAt}
 use Rattle.layout.specs.declared.Listing.{Listing}
 use Rattle.layout.specs.declared.Mark.{Mark}
 use Rattle.layout.specs.declared.Slot.{Slot}
@@ -26,13 +28,13 @@ use Rattle.layout.specs.declared.Told.{Told}
 use Rattle.layout.proofs.Laws.{outline-of}
 use Rattle.layout.proofs.Marks.{values-fold, only-once, only-other, slot-times}
 use Rattle.message_m.specs.LayoutM.{someName, someString, escapedM, someMeans, oursM, isSnapshotAt, listedIn, layoutM, heardM}
-use Rattle.message_m.specs.Collected.{onMember, sideM, noData, emptyData, dataEnd, moreData, dataFrom, dataOf, noLabel, moreLabel, moreBody, noMembers, moreMembers, onceAt, onceListed, outlineWhere, numbersIn, bodyIn, outlineIn, toldIn}
+use Rattle.message_m.specs.Collected.{onMember, sideM, noData, emptyData, dataEnd, moreData, dataFrom, dataOf, noLabel, moreLabel, moreBody, noMembers, moreMembers, onceAt, onceListed, outlineWhere, numbersIn, bodyIn, outlineIn, toldIn, Placed}
 use Rattle.message_m.specs.declared.Data.{Data}
 use Rattle.message_m.specs.declared.Label.{Label}
 use Rattle.message_m.specs.declared.Members.{Members}
-use Rattle.message_m.proofs.Steps.{on-yes, on-no}
+use Rattle.message_m.proofs.Steps.{on-yes, on-no, placed-more}
 use Rattle.message_m.proofs.Outlines.{placeOf, once-yes, once-no, listed-yes, listed-no}
-use Rattle.message_m.proofs.Objects.{object-broken}
+use Rattle.message_m.proofs.Objects.{object-broken, made-other, made-empty, made-start, Loop, Rest}
 
 -- a component that follows the members of one name
 on-fold : {S A : Type 0} (s name : List ℕ) (step : S → Pair → S) (get : S → A) (add : A → Span → A)
@@ -50,6 +52,32 @@ data-folds s e ms =
     let b = on-fold s (ascii "bids") (moreData s) (λ (d : Data). d .bids) (moreListed (sideM s)) (λ st m. refl) emptyData ms in
     let a = on-fold s (ascii "asks") (moreData s) (λ (d : Data). d .asks) (moreListed (sideM s)) (λ st m. refl) emptyData ms in
     sym (rw (b, a))
+
+data-ends : (s : List ℕ) (d : Data) (m : Pair) → moreData s d m .end ≡ m .value .to
+unfolding moreData
+data-ends s d m = refl
+
+-- the loop over them
+abbrev pub dataLoop : List ℕ → Loop Data Data
+dataLoop s = record { step = moreData s; close = dataEnd; bad = noData 0; end = λ (d : Data). d .end; ends = data-ends s }
+
+-- the value at a position, as that of a member `data`
+abbrev pub dataAt : List ℕ → ℕ → Data
+dataAt s at = dataOf s (record { from = at; to = endOf (value 15 s at) })
+
+module _ (s : List ℕ) (at : ℕ) where
+  pub data-none : (byteAt s at ≡ 123 → ⊥) → {e : ℕ} → e ≡ endOf (value 15 s at) → noData e ≡ dataAt s at
+  unfolding dataOf dataFrom
+  data-none n h = ap noData h ∙ made-other (dataFrom s) 14 s at n
+
+  module _ (opens : byteAt s at ≡ 123) (e : ℕ) (h : e ≡ endOf (closing 125 s (at + 1))) where
+    pub data-empty : 0 < e → dataEnd e emptyData ≡ dataAt s at
+    unfolding dataOf
+    data-empty p = made-empty (dataFrom s) 14 s at opens (moreData s) dataEnd emptyData (data-folds s) e h p
+
+    pub data-start : e ≡ 0 → (k : ℕ) → k ≡ blanks s (at + 1) → Rest (dataLoop s) 14 s emptyData k (dataAt s at)
+    unfolding dataOf dataFrom
+    data-start z k b = made-start (dataFrom s) 14 s at opens (moreData s) dataEnd emptyData (data-folds s) e h z k b
 
 -- ---- names and labels
 or-assoc : (a b c : Bool) → ((a || b) || c) ≡ (a || (b || c))
@@ -300,3 +328,42 @@ module _ (name s : List ℕ) where
           → elim x [ At e ↦ toldOf s e (heardM name s (record { from = at; to = e })) | Broken ↦ toldOf s 0 refused ] ≡ toldFrom (endOf x) (objectAt 16 s (record { from = at; to = endOf x }))
       go (At e) q = refl
       go Broken q = ap (toldFrom 0) (sym (object-broken 15 s (record { from = at; to = 0 }) q))
+
+members-end : (name s : List ℕ) (met : Members) (m : Pair) → moreMembers name s met m .body .end ≡ m .value .to
+unfolding moreMembers moreBody
+members-end name s met m = refl
+
+-- the loop over its members
+abbrev pub messageLoop : List ℕ → List ℕ → Loop Members Told
+messageLoop name s = record { step = moreMembers name s; close = toldIn s; bad = noFrame 0; end = λ (x : Members). x .body .end; ends = members-end name s }
+
+module _ (name s : List ℕ) (at : ℕ) where
+  pub told-none : (byteAt s at ≡ 123 → ⊥) → {e : ℕ} → e ≡ endOf (value 16 s at) → noFrame e ≡ toldAt (heardM name) s at
+  unfolding toldOf andThen
+  told-none n h = ap noFrame h ∙ made-other (toldFrom name s) 15 s at n ∙ told-is name s at
+
+  module _ (opens : byteAt s at ≡ 123) (e : ℕ) (h : e ≡ endOf (closing 125 s (at + 1))) where
+    pub told-empty : 0 < e → toldIn s e noMembers ≡ toldAt (heardM name) s at
+    told-empty p = made-empty (toldFrom name s) 15 s at opens (moreMembers name s) (toldIn s) noMembers (told-folds name s) e h p ∙ told-is name s at
+
+    pub told-start : e ≡ 0 → (k : ℕ) → k ≡ blanks s (at + 1) → Rest (messageLoop name s) 15 s noMembers k (toldAt (heardM name) s at)
+    unfolding toldOf andThen
+    told-start z k b =
+        rw (told-is name s at) at (made-start (toldFrom name s) 15 s at opens (moreMembers name s) (toldIn s) noMembers (told-folds name s) e h z k b)
+
+-- the places of the two numbers' marks
+abbrev pub Marked : List ℕ → Members → Type 0
+Marked s met = Placed s (met .checksum) × Placed s (met .gsn)
+
+pub marked-more : (name s : List ℕ) (met : Members) (n : Span) (d j e : ℕ) (next : Members) → next ≡ moreMembers name s met (record { name = n; value = record { from = j; to = endOf (value d s j) } })
+    → next .body .end ≡ e → j ≤ e → e ≤ length s → Marked s met → Marked s next
+unfolding moreMembers moreBody
+marked-more name s met n d j e next h q l t p =
+    let v : Pair = record { name = n; value = record { from = j; to = endOf (value d s j) } } in
+    let y : endOf (value d s j) ≡ e = sym (ap (λ (x : Members). x .body .end) h) ∙ q in
+    let l′ : j ≤ endOf (value d s j) = omega arith in
+    let t′ : endOf (value d s j) ≤ length s = omega arith in
+    rw h (placed-more s (ascii "checksum") (met .checksum) v (p .0) l′ t′, placed-more s (ascii "gsn") (met .gsn) v (p .1) l′ t′)
+
+pub unmarked-placed : (s : List ℕ) → Marked s noMembers
+unmarked-placed s = ((omega arith, omega arith), (omega arith, omega arith))

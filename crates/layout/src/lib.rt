@@ -2,8 +2,9 @@
 // fits is chosen afterwards.
 use entries::Entries;
 ghost use mathlib.Core.Path.{_≡_};
-ghost use mathlib.Core.Bool.{_&&_, _||_};
-ghost use Rattle.layout.specs.Told.{listingFrom, nothingListed, outlineFrom, noOutline, noFrame};
+ghost use mathlib.Core.Bool.{_||_};
+ghost use Rattle.layout.specs.Marks.{fewMore, unmarked, more, emptySlot};
+ghost use Rattle.layout.specs.Told.{notListed, nothingListed, listingFrom, isBad, outlineFrom, noOutline, noFrame};
 
 // The entries of one side.
 pub struct Listing {
@@ -49,6 +50,21 @@ pub struct Told {
     pub outline: Outline,
 }
 
+// How often a member of one name was met, and where the value of the last one lies.
+pub struct Mark {
+    // 0, 1, or 2 for more often.
+    pub times: usize,
+    pub from: usize,
+    pub to: usize,
+}
+
+// How often a member of one name was met, and what is told of the entries that the last one holds.
+pub struct Slot {
+    // 0, 1, or 2 for more often.
+    pub times: usize,
+    pub listing: Listing,
+}
+
 // The array of entries at `at`, of which the entries are told.
 pub fn listing_at(at: usize, entries: Entries) -> Listing
     ensures { λ r. ⌜ r ≡ listingFrom at entries ⌝ }
@@ -62,6 +78,13 @@ pub fn listing_at(at: usize, entries: Entries) -> Listing
             zero: entries.zero,
         };
     }
+    not_listed()
+}
+
+// A value that is no array of entries.
+fn not_listed() -> Listing
+    ensures { λ r. ⌜ r ≡ notListed ⌝ }
+{
     Listing {
         at: 0,
         fair: false,
@@ -110,12 +133,13 @@ pub fn outline_of(
                 number,
             };
         }
+        return no_outline();
     }
     no_outline()
 }
 
 fn is_bad(snapshot: bool, side: Listing) -> bool
-    ensures { λ r. ⌜ r ≡ (side .broken || (snapshot && side .zero)) ⌝ }
+    ensures { λ r. ⌜ r ≡ isBad snapshot side ⌝ }
 {
     if side.broken {
         return true;
@@ -158,4 +182,50 @@ pub fn untold(end: usize) -> Told
         ours: false,
         outline: no_outline(),
     }
+}
+
+pub fn no_mark() -> Mark
+    ensures { λ r. ⌜ r ≡ unmarked ⌝ }
+{
+    Mark {
+        times: 0,
+        from: 0,
+        to: 0,
+    }
+}
+
+// One more member, whose value lies from `from` to `to`.
+pub fn marked(mark: Mark, from: usize, to: usize) -> Mark
+    ensures { λ r. ⌜ r ≡ more mark (record { from = from; to = to }) ⌝ }
+{
+    Mark {
+        times: few_more(mark.times),
+        from,
+        to,
+    }
+}
+
+pub fn no_slot() -> Slot
+    ensures { λ r. ⌜ r ≡ emptySlot ⌝ }
+{
+    Slot {
+        times: 0,
+        listing: not_listed(),
+    }
+}
+
+// One more member, which holds these entries.
+pub fn slotted(slot: Slot, listing: Listing) -> Slot
+    ensures { λ r. ⌜ r ≡ record { times = fewMore (slot .times); listing = listing } ⌝ }
+{
+    Slot {
+        times: few_more(slot.times),
+        listing,
+    }
+}
+
+fn few_more(times: usize) -> usize
+    ensures { λ r. ⌜ r ≡ fewMore times ⌝ }
+{
+    if times == 0 { 1 } else { 2 }
 }

@@ -1,3 +1,6 @@
--- In reading order: what a message says; worked examples.
+-- In reading order: the numbers of the answers; what a message says; what its reader answers, and how that is decided; worked examples.
+pub mod Answers
 pub mod Meaning
+pub mod Verdict
+pub mod Deciding
 pub mod Examples

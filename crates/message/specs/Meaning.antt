@@ -8,12 +8,14 @@ use lib.ListN.{length}
 use Rattle.decimal.specs.Digits.{Reading, reads, refused}
 use Rattle.decimal.specs.Decimal.{Number}
 use Rattle.json.specs.Json.{Span, text}
-use Rattle.settings.specs.Settings.{Terms}
+use Rattle.settings.specs.Settings.{Terms, good}
 use Rattle.entries.specs.Places.{top}
 use Rattle.entries.specs.Rows.{Row, badTexts, numberAt}
 use Rattle.layout.specs.Layout.{Printed, Listed, Layout, Heard}
 use Rattle.message_k.specs.LayoutK.{heardK}
 use Rattle.message_m.specs.LayoutM.{heardM}
+use Rattle.message.specs.declared.Answer.{Answer}
+use Rattle.message.specs.declared.Answer.the-variants.{Shut, TooLong, NotJson, Escaped, NotOurs, BadLayout, TooManyEntries, BadDecimal}
 use Rattle.settings.specs.declared.Dialect.{Dialect}
 use Rattle.settings.specs.declared.Dialect.the-variants.{K, M, Unknown}
 
@@ -23,38 +25,29 @@ maxMessage = 32768
 abbrev pub maxEntries : ℕ
 maxEntries = 100
 
--- The first check that a message fails, by its number, or the layout of one that fails none.
+-- The answer to a message that fails a check, or the layout of one that fails none.
 pub data Checked : Type 0 where
-  fails : ℕ → Checked
+  fails : Answer → Checked
   passes : Layout → Checked
-
--- ---- check 8: a decimal rule broken, price zero, or size zero in a snapshot
-
--- The texts that break it, the bids' before the asks'.
-unfoldable pub bad : List ℕ → Layout → List Span
-bad s l = badTexts (l .snapshot) s (l .bids .rows) ++ badTexts (l .snapshot) s (l .asks .rows)
-
-unfoldable pub decimals : List ℕ → Layout → Checked
-decimals s l = elim (bad s l) [ [] ↦ passes l | a ∷ rest ↦ fails 8 ]
 
 -- ---- check 7: over 100 entries on one side
 
 unfoldable pub tooMany : Layout → Bool
 tooMany l = ltb maxEntries (length (l .bids .rows)) || ltb maxEntries (length (l .asks .rows))
 
-unfoldable pub counted : List ℕ → Layout → Checked
-counted s l = cond (tooMany l) (fails 7) (decimals s l)
+unfoldable pub counted : Layout → Checked
+counted l = cond (tooMany l) (fails TooManyEntries) (passes l)
 
 -- ---- checks 4, 5 and 6
 
-unfoldable pub laidOut : List ℕ → Reading Layout → Checked
-laidOut s (reads l) = counted s l
-laidOut s refused = fails 6
+unfoldable pub laidOut : Reading Layout → Checked
+laidOut (reads l) = counted l
+laidOut refused = fails BadLayout
 
 -- What is no message of the dialect's outer form is not this book's.
-unfoldable pub addressed : List ℕ → Reading Heard → Checked
-addressed s (reads h) = cond (h .escaped) (fails 4) (cond (h .ours) (laidOut s (h .layout)) (fails 5))
-addressed s refused = fails 5
+unfoldable pub addressed : Reading Heard → Checked
+addressed (reads h) = cond (h .escaped) (fails Escaped) (cond (h .ours) (laidOut (h .layout)) (fails NotOurs))
+addressed refused = fails NotOurs
 
 unfoldable pub heardIn : Dialect → Terms → List ℕ → Span → Reading Heard
 heardIn K t = heardK (t .depth) (t .name)
@@ -63,8 +56,29 @@ heardIn Unknown t = λ s a. refused
 
 -- ---- checks 2 and 3
 
+unfoldable pub framed : Terms → List ℕ → Checked
+framed t s = cond (ltb maxMessage (length s)) (fails TooLong) (cond (text s) (addressed (heardIn (t .dialect) t s (top s))) (fails NotJson))
+
+-- ---- check 8: a decimal rule broken, price zero, or size zero in a snapshot
+
+-- The texts that break it, of each side in written order, the bids' before the asks'.
+unfoldable pub bad : List ℕ → Layout → List Span
+bad s l = badTexts (l .snapshot) s (l .bids .rows) ++ badTexts (l .snapshot) s (l .asks .rows)
+
+unfoldable pub decimals : List ℕ → Layout → Checked
+decimals s l = elim (bad s l) [ [] ↦ passes l | a ∷ rest ↦ fails BadDecimal ]
+
+unfoldable pub alsoDecimals : List ℕ → Checked → Checked
+alsoDecimals s (fails a) = fails a
+alsoDecimals s (passes l) = decimals s l
+
+-- ---- checks 2 to 8, of a book that is not shut, and check 1, which the settings decide
+
 unfoldable pub checked : Terms → List ℕ → Checked
-checked t s = cond (ltb maxMessage (length s)) (fails 2) (cond (text s) (addressed s (heardIn (t .dialect) t s (top s))) (fails 3))
+checked t s = alsoDecimals s (framed t s)
+
+unfoldable pub judged : Terms → List ℕ → Checked
+judged t s = cond (good t) (checked t s) (fails Shut)
 
 -- ---- what a message says that fails none of them
 
@@ -81,7 +95,7 @@ pub record Message : Type 0 where
   pub number : ℕ
 
 pub data Said : Type 0 where
-  refuses : ℕ → Said
+  refuses : Answer → Said
   says : Message → Said
 
 unfoldable pub quoteAt : List ℕ → Row → Quote
@@ -94,8 +108,33 @@ unfoldable pub messageOf : List ℕ → Layout → Message
 messageOf s l = record { snapshot = l .snapshot; bids = quotesOf s (l .bids); asks = quotesOf s (l .asks); checksum = l .checksum; number = l .number }
 
 unfoldable pub saidOf : List ℕ → Checked → Said
-saidOf s (fails n) = refuses n
+saidOf s (fails a) = refuses a
 saidOf s (passes l) = says (messageOf s l)
 
 unfoldable pub said : Terms → List ℕ → Said
 said t s = saidOf s (checked t s)
+
+-- ---- the question for the first bad decimal
+
+-- The first text of a list, or the empty part at the start.
+unfoldable pub firstOf : List Span → Span
+firstOf [] = record { from = 0; to = 0 }
+firstOf (a ∷ l) = a
+
+-- Of the first texts of two lists, the one that is written first.
+unfoldable pub earlier : List Span → List Span → Span
+earlier [] l = firstOf l
+earlier (a ∷ k) [] = a
+earlier (a ∷ k) (b ∷ l) = cond (ltb (b .from) (a .from)) b a
+
+unfoldable pub firstBad : List ℕ → Layout → Span
+firstBad s l = earlier (badTexts (l .snapshot) s (l .bids .rows)) (badTexts (l .snapshot) s (l .asks .rows))
+
+unfoldable pub firstBadOf : List ℕ → Checked → Span
+firstBadOf s (fails a) = record { from = 0; to = 0 }
+firstBadOf s (passes l) = firstBad s l
+
+-- The first text that breaks check 8, in message order, quotes included; if settings are bad or checks 2 to 7 refuse or nothing breaks, the empty part
+-- at the start.
+unfoldable pub badDecimal : Terms → List ℕ → Span
+badDecimal t s = cond (good t) (firstBadOf s (framed t s)) (record { from = 0; to = 0 })

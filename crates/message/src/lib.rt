@@ -1,5 +1,98 @@
-// What a message says, from the settings and its text alone: the definition.
-//
-// `specs/Meaning` has it whole: the first of document 01's refusals 2 to 8 that fits, or a snapshot or an update with its
-// entries, its checksum and its sequence number. `specs/Examples` has messages with the answers that the definition
-// computes to. The code that reads messages stands on `entries`, which reads their entry arrays.
+// What a message says, from the settings and the text alone: the first refusal of checks 1 to 8 that fits, or where its entries
+// lie, its checksum and its sequence number. One walk over the message finds out all of it.
+use layout::Outline;
+use layout::Told;
+ghost use mathlib.Core.Path.{_≡_};
+ghost use Rattle.message.specs.Deciding.{decided, addressedTold, laidOutline};
+
+// The longest message.
+pub const MAX_MESSAGE: usize = 32768;
+
+// The most entries of a side in one message.
+pub const MAX_ENTRIES: usize = 100;
+
+// The answers of a book to messages and questions.
+pub enum Answer {
+    // The message is taken, or the question is answered.
+    Taken,
+    // The book has bad settings.
+    Shut,
+    // The message is over MAX_MESSAGE bytes.
+    TooLong,
+    // It is not JSON, or nested too deep.
+    NotJson,
+    // A backslash stands where the book's name could be written with one.
+    Escaped,
+    // It is not this book's.
+    NotOurs,
+    // The layout is broken.
+    BadLayout,
+    // Over MAX_ENTRIES entries on one side.
+    TooManyEntries,
+    // A price or a size is no decimal, or is zero where it must not be.
+    BadDecimal,
+    // A snapshot names one price twice on a side.
+    PriceTwice,
+    // There is no snapshot that could be spoken of.
+    NoSnapshot,
+    // The sequence number of an update is not greater than the book's.
+    OldNumber,
+    // Too many levels on a side after the message.
+    TooManyLevels,
+    // The checksum differs.
+    WrongChecksum,
+    // The level asked for is not there.
+    NoLevel,
+    // The lent buffer is too small.
+    NoRoom,
+}
+
+pub enum Verdict {
+    Fails(Answer),
+    Passes(Outline),
+}
+
+// The first of checks 3 to 7 that fails, by what was told of the message; `ended` says that nothing stands past its value.
+fn decide(told: Told, ended: bool) -> Verdict
+    ensures { λ r. ⌜ r ≡ decided told ended ⌝ }
+{
+    if told.end == 0 {
+        return Verdict::Fails(Answer::NotJson);
+    }
+    if ended {
+        return decide_address(told);
+    }
+    Verdict::Fails(Answer::NotJson)
+}
+
+// Checks 4 to 7.
+fn decide_address(told: Told) -> Verdict
+    ensures { λ r. ⌜ r ≡ addressedTold told ⌝ }
+{
+    if told.framed {
+        if told.escaped {
+            return Verdict::Fails(Answer::Escaped);
+        }
+        if told.ours {
+            return decide_layout(told.outline);
+        }
+        return Verdict::Fails(Answer::NotOurs);
+    }
+    Verdict::Fails(Answer::NotOurs)
+}
+
+// Checks 6 and 7.
+fn decide_layout(outline: Outline) -> Verdict
+    ensures { λ r. ⌜ r ≡ laidOutline outline ⌝ }
+{
+    if outline.fair {
+        if MAX_ENTRIES < outline.bids {
+            return Verdict::Fails(Answer::TooManyEntries);
+        }
+        if MAX_ENTRIES < outline.asks {
+            return Verdict::Fails(Answer::TooManyEntries);
+        }
+        return Verdict::Passes(outline);
+    }
+    Verdict::Fails(Answer::BadLayout)
+}

@@ -1,0 +1,2 @@
+-- In reading order: the reference book.
+pub mod Reference

@@ -1,0 +1,84 @@
+-- What is told of the sides and of a layout, from what is told of arrays of entries.
+-- Assumes nothing.
+use mathlib.Core.Path.{_≡_, refl, sym, ap, _∙_}
+use mathlib.Core.List.{List}
+use mathlib.Core.Bool.{Bool, true, false, _&&_, _||_, cond}
+use Prim.Native.Nat.{ℕ}
+use lib.ListN.{length}
+use Rattle.decimal.specs.Digits.{Reading, reads, refused}
+use Rattle.json.specs.Json.{Span}
+use Rattle.entries.specs.Places.{andThen}
+use Rattle.entries.specs.Rows.{Row, entriesAt}
+use Rattle.entries.specs.Summary.{noEntries, summaryOf}
+use Rattle.entries.specs.declared.Entries.{Entries}
+use Rattle.layout.specs.Layout.{Printed, printed, unprinted, Listed, Layout, listedAt, laid}
+use Rattle.layout.specs.Told.{notListed, listingOf, listingFrom, noOutline, outlineOf, isPrinted, sumOf, anyBad, isBad, outlineFrom}
+use Rattle.layout.specs.declared.Listing.{Listing}
+use Rattle.layout.specs.declared.Outline.{Outline}
+
+module _ (at : ℕ) (e : Entries) where
+  pub listing-fair : e .fair ≡ true → record { at = at; fair = true; count = e .count; broken = e .broken; zero = e .zero } ≡ listingFrom at e
+  unfolding listingFrom
+  listing-fair h = sym (rw (h, listingFrom))
+
+  pub listing-unfair : e .fair ≡ false → notListed ≡ listingFrom at e
+  unfolding listingFrom
+  listing-unfair h = sym (rw (h, listingFrom))
+
+-- The listing of a value is made of the summary of it.
+pub listing-of : (entry : List ℕ → Span → Reading Row) (s : List ℕ) (a : Span) (e : ℕ)
+    → listingFrom (a .from) (summaryOf s e (entriesAt entry s a)) ≡ listingOf s (listedAt entry s a)
+unfolding listedAt listingFrom summaryOf noEntries listingOf andThen
+listing-of entry s a e = go (entriesAt entry s a)
+  where
+    go : (x : Reading (List Row)) → listingFrom (a .from) (summaryOf s e x) ≡ listingOf s (andThen x (λ rows. reads (record { at = a .from; rows = rows })))
+    go (reads rows) = refl
+    go refused = refl
+
+-- Whether a side breaks a rule of decimals.
+module _ (snapshot : Bool) (l : Listing) where
+  pub bad-broken : l .broken ≡ true → true ≡ isBad snapshot l
+  unfolding isBad
+  bad-broken h = sym (rw (h, isBad))
+
+  pub bad-snapshot : l .broken ≡ false → snapshot ≡ true → l .zero ≡ isBad snapshot l
+  unfolding isBad
+  bad-snapshot h g = sym (rw (h, g, isBad))
+
+  pub bad-update : l .broken ≡ false → snapshot ≡ false → false ≡ isBad snapshot l
+  unfolding isBad
+  bad-update h g = sym (rw (h, g, isBad))
+
+module _ (snapshot : Bool) (b a : Listing) (sent : Bool) (sum number : ℕ) where
+  pub outline-fair : b .fair ≡ true → a .fair ≡ true → (x y z : Bool) → x ≡ isBad snapshot b → y ≡ isBad snapshot a → z ≡ (x || y)
+      → record {
+        fair = true;
+        snapshot = snapshot;
+        «bids_at» = b .at;
+        bids = b .count;
+        «asks_at» = a .at;
+        asks = a .count;
+        bad = z;
+        printed = sent;
+        checksum = sum;
+        number = number;
+      }
+      ≡ outlineFrom snapshot b a sent sum number
+  unfolding outlineFrom isBad
+  outline-fair h g x y z p q r = sym (rw (h, g, outlineFrom, r, p, q))
+
+  pub outline-bids : b .fair ≡ false → noOutline ≡ outlineFrom snapshot b a sent sum number
+  unfolding outlineFrom
+  outline-bids h = sym (rw (h, outlineFrom))
+
+  pub outline-asks : b .fair ≡ true → a .fair ≡ false → noOutline ≡ outlineFrom snapshot b a sent sum number
+  unfolding outlineFrom
+  outline-asks h g = sym (rw (h, g, outlineFrom))
+
+-- The outline of a layout is made of the listings of its sides.
+pub outline-of : (s : List ℕ) (snapshot : Bool) (p : Printed) (n : ℕ) (b a : Reading Listed)
+    → outlineFrom snapshot (listingOf s b) (listingOf s a) (isPrinted p) (sumOf p) n ≡ outlineOf s (laid snapshot p n b a)
+unfolding outlineFrom listingOf laid andThen outlineOf isBad anyBad
+outline-of s snapshot p n (reads b) (reads a) = refl
+outline-of s snapshot p n (reads b) refused = refl
+outline-of s snapshot p n refused a = refl

@@ -1,0 +1,18 @@
+-- `listing_at` meets its contract: by whether the value is an array of entries.
+use Rattle.layout.proofs.Laws.{listing-fair, listing-unfair}
+use mathlib.Core.Path.{_∙_}
+use borrow.Author.Needs.{needs}
+use Rattle.layout.proofs.listing_at.Statement.{statement}
+use Rattle.layout.proofs.listing_at.Tie as tie
+
+returns : tie.Need-returns
+returns c = listing-fair (c .before .args .at) (c .before .args .entries) (c .if1 .taken)
+
+not-listed-requires : tie.Need-not-listed-requires
+not-listed-requires c κs = search needs
+
+returns-2 : tie.Need-returns-2
+returns-2 c = c .not-listed .ensures ∙ listing-unfair (c .before .before .args .at) (c .before .before .args .entries) (c .before .if1 .left)
+
+pub listing-at-spec : {M : Type 1} → statement M
+listing-at-spec = tie.close (tie.spec returns not-listed-requires returns-2)

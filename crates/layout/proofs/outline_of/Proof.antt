@@ -1,0 +1,49 @@
+-- `outline_of` meets its contract: by which sides are arrays of entries.
+use Rattle.layout.proofs.Laws.{outline-fair, outline-asks, outline-bids}
+use mathlib.Core.Path.{_∙_}
+use borrow.Author.Needs.{needs}
+use Rattle.layout.proofs.outline_of.Statement.{statement}
+use Rattle.layout.proofs.outline_of.Tie as tie
+
+is-bad-requires : tie.Need-is-bad-requires
+is-bad-requires c κs = search needs
+
+is-bad-requires-2 : tie.Need-is-bad-requires-2
+is-bad-requires-2 c κs = search needs
+
+either-requires : tie.Need-either-requires
+either-requires c κs = search needs
+
+returns : tie.Need-returns
+returns c =
+    let a = c .before .before .before .before .before .args in
+    outline-fair (a .snapshot) (a .bids) (a .asks) (a .printed) (a .checksum) (a .number) (c .before .before .before .before .if1 .taken) (c .before .before .before .if2 .taken) (c .before .before .is-bad .result) (c .before .is-bad2 .result) (c .either .result) (c .before .before .is-bad .ensures) (c .before .is-bad2 .ensures) (c .either .ensures)
+
+no-outline-requires : tie.Need-no-outline-requires
+no-outline-requires c κs = search needs
+
+returns-2 : tie.Need-returns-2
+returns-2 c =
+    let a = c .before .before .before .args in
+    c .no-outline .ensures ∙ outline-asks (a .snapshot) (a .bids) (a .asks) (a .printed) (a .checksum) (a .number) (c .before .before .if1 .taken) (c .before .if2 .left)
+
+no-outline-requires-2 : tie.Need-no-outline-requires-2
+no-outline-requires-2 c κs = search needs
+
+returns-3 : tie.Need-returns-3
+returns-3 c =
+    let a = c .before .before .args in
+    c .no-outline2 .ensures ∙ outline-bids (a .snapshot) (a .bids) (a .asks) (a .printed) (a .checksum) (a .number) (c .before .if1 .left)
+
+pub outline-of-spec : {M : Type 1} → statement M
+outline-of-spec =
+    tie.close
+    (tie.spec
+    is-bad-requires
+    is-bad-requires-2
+    either-requires
+    returns
+    no-outline-requires
+    returns-2
+    no-outline-requires-2
+    returns-3)

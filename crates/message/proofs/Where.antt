@@ -1,0 +1,176 @@
+-- Where the entries of a message lie: those of a side, if there are any, are the array of entries at the position that its layout has.
+-- Assumes nothing.
+use mathlib.Core.Path.{_≡_, refl, sym, ap, _∙_}
+use mathlib.Core.List.{List, [], _∷_}
+use mathlib.Core.Bool.{Bool, true, false, cond}
+use Prim.Native.Nat.{ℕ}
+use native.Mathlib.Omega.{arith}
+use Rattle.decimal.specs.Ascii.{ascii}
+use Rattle.decimal.specs.Digits.{Reading, reads, refused}
+use Rattle.json.specs.Json.{Span, Pair, text}
+use Rattle.settings.specs.Settings.{Terms}
+use Rattle.settings.specs.declared.Dialect.{Dialect}
+use Rattle.settings.specs.declared.Dialect.the-variants.{K, M, Unknown}
+use Rattle.entries.specs.Places.{andThen, all, arrayAt, objectAt, valuesOf, only, wholeAt, checksumAt, quotedChecksumAt, top}
+use Rattle.entries.specs.Rows.{Row, entryK, entryM, entriesAt}
+use Rattle.layout.specs.Layout.{Printed, printed, unprinted, Listed, Layout, Heard, unlisted, listedAt, laid}
+use Rattle.message_k.specs.LayoutK.{Frame, frameOf, isSnapshot, isUpdate, together, listedOf, listedIn, objectsLayout, layoutK, heardK}
+use Rattle.message_m.specs.LayoutM.{isSnapshotAt, listedIn as listedInM, layoutM, heardM}
+use lib.Dec.{ltb}
+use lib.ListN.{length}
+use Rattle.message.specs.Meaning.{Checked, fails, passes, tooMany, counted, laidOut, addressed, heardIn, framed}
+use Rattle.message.specs.declared.Answer.{Answer}
+use Rattle.message.specs.declared.Answer.the-variants.{TooLong, NotJson, Escaped, NotOurs, BadLayout, TooManyEntries}
+
+-- The entries of dialect d.
+unfoldable pub entryIn : Dialect → List ℕ → Span → Reading Row
+entryIn K = entryK
+entryIn M = entryM
+entryIn Unknown = λ s a. refused
+
+-- The rows are those of the array of entries at the position, or there are none.
+pub data Lies (entry : List ℕ → Span → Reading Row) (s : List ℕ) (l : Listed) : Type 0 where
+  nowhere : l .rows ≡ [] → Lies entry s l
+  there : (to : ℕ) → entriesAt entry s (record { from = l .at; to = to }) ≡ reads (l .rows) → Lies entry s l
+
+pub record LieIn (entry : List ℕ → Span → Reading Row) (s : List ℕ) (l : Layout) : Type 0 where
+  pub bids : Lies entry s (l .bids)
+  pub asks : Lies entry s (l .asks)
+
+-- ---- what was read of what was read
+no-reading : {A B : Type 0} {b : B} → refused ≡ reads b → A
+no-reading h = let z : _≡_ {A = ℕ} 0 1 = cc in absurd (omega arith)
+
+reads-same : {A : Type 0} {a b : A} → reads a ≡ reads b → a ≡ b
+reads-same h = cc
+
+then-reads : {A B : Type 0} (x : Reading A) (f : A → Reading B) (b : B) → andThen x f ≡ reads b → (a : A) × (f a ≡ reads b)
+unfolding andThen
+then-reads (reads a) f b h = (a, h)
+then-reads refused f b h = no-reading h
+
+-- ---- a side, and a layout of two
+module _ (entry : List ℕ → Span → Reading Row) (s : List ℕ) where
+  listed-lies : (a : Span) (l : Listed) → listedAt entry s a ≡ reads l → Lies entry s l
+  unfolding listedAt andThen
+  listed-lies a l h = go (entriesAt entry s a) refl h
+    where
+      go : (x : Reading (List Row)) → entriesAt entry s a ≡ x → andThen x (λ rows. reads (record { at = a .from; rows = rows })) ≡ reads l → Lies entry s l
+      go (reads rows) q g =
+          let e : l ≡ record { at = a .from; rows = rows } = sym (reads-same g) in
+          rw e (there (a .to) q)
+      go refused q g = no-reading g
+
+  laid-lies : (snapshot : Bool) (p : Printed) (n : ℕ) (b a : Reading Listed)
+      → ((x : Listed) → b ≡ reads x → Lies entry s x) → ((x : Listed) → a ≡ reads x → Lies entry s x)
+      → (l : Layout) → laid snapshot p n b a ≡ reads l → LieIn entry s l
+  unfolding laid andThen
+  laid-lies snapshot p n (reads b) (reads a) f g l h =
+      let e : l ≡ record { snapshot = snapshot; bids = b; asks = a; checksum = p; number = n } = sym (reads-same h) in
+      rw e (record { bids = f b refl; asks = g a refl })
+  laid-lies snapshot p n (reads b) refused f g l h = no-reading h
+  laid-lies snapshot p n refused a f g l h = no-reading h
+
+-- ---- K
+module _ (s : List ℕ) where
+  k-list-lies : (l : List Span) (x : Listed) → listedOf s l ≡ reads x → Lies entryK s x
+  unfolding listedOf
+  k-list-lies [] x h = let e : x ≡ unlisted = sym (reads-same h) in rw e (nowhere refl)
+  k-list-lies (a ∷ []) x h = listed-lies entryK s a x h
+  k-list-lies (a ∷ (b ∷ l)) x h = no-reading h
+
+  k-objects-lie : (o : List (List Pair)) (l : Layout) → objectsLayout s o ≡ reads l → LieIn entryK s l
+  unfolding objectsLayout listedIn
+  k-objects-lie o l h = at (isSnapshot s o) (isUpdate s o) h
+    where
+      lies : (name : List ℕ) (x : Listed) → listedIn s name o ≡ reads x → Lies entryK s x
+      lies name = k-list-lies (valuesOf s name (together o))
+
+      at : (x y : Bool)
+          → cond x (laid true unprinted 0 (listedIn s (ascii "bs") o) (listedIn s (ascii "as") o))
+          (cond y
+          (andThen (only (valuesOf s (ascii "c") (together o))) (λ c.
+          andThen (quotedChecksumAt s c) (λ sum. laid false (printed sum) 0 (listedIn s (ascii "b") o) (listedIn s (ascii "a") o))))
+          refused)
+          ≡ reads l → LieIn entryK s l
+      at true y g = laid-lies entryK s true unprinted 0 _ _ (lies (ascii "bs")) (lies (ascii "as")) l g
+      at false true g =
+          let c = then-reads (only (valuesOf s (ascii "c") (together o))) _ l g in
+          let d = then-reads (quotedChecksumAt s (c .0)) _ l (c .1) in
+          laid-lies entryK s false (printed (d .0)) 0 _ _ (lies (ascii "b")) (lies (ascii "a")) l (d .1)
+      at false false g = no-reading g
+
+  k-lies : (f : Frame) (l : Layout) → layoutK s f ≡ reads l → LieIn entryK s l
+  unfolding layoutK
+  k-lies f l h =
+      let n = then-reads (wholeAt s (f .first)) _ l h in
+      let o = then-reads (all (objectAt 15 s) (f .objects)) _ l (n .1) in
+      k-objects-lie (o .0) l (o .1)
+
+  -- ---- M
+  m-list-lies : (name : List ℕ) (ms : List Pair) (x : Listed) → listedInM s name ms ≡ reads x → Lies entryM s x
+  unfolding listedInM
+  m-list-lies name ms x h =
+      let a = then-reads (only (valuesOf s name ms)) (listedAt entryM s) x h in
+      listed-lies entryM s (a .0) x (a .1)
+
+  m-lies : (ms : List Pair) (l : Layout) → layoutM s ms ≡ reads l → LieIn entryM s l
+  unfolding layoutM
+  m-lies ms l h =
+      let a = then-reads (only (valuesOf s (ascii "channel") ms)) _ l h in
+      let b = then-reads (only (valuesOf s (ascii "product") ms)) _ l (a .1) in
+      let c = then-reads (only (valuesOf s (ascii "type") ms)) _ l (b .1) in
+      let t = then-reads (isSnapshotAt s (c .0)) _ l (c .1) in
+      let d = then-reads (only (valuesOf s (ascii "data") ms)) _ l (t .1) in
+      let o = then-reads (objectAt 15 s (d .0)) _ l (d .1) in
+      let k = then-reads (only (valuesOf s (ascii "checksum") ms)) _ l (o .1) in
+      let n = then-reads (checksumAt s (k .0)) _ l (k .1) in
+      let g = then-reads (only (valuesOf s (ascii "gsn") ms)) _ l (n .1) in
+      let w = then-reads (wholeAt s (g .0)) _ l (g .1) in
+      laid-lies entryM s (t .0) (printed (n .0)) (w .0) _ _ (m-list-lies (ascii "bids") (o .0)) (m-list-lies (ascii "asks") (o .0)) l (w .1)
+
+-- ---- the whole: a message that passes checks 2 to 7, and one that passes 8 too
+no-pass : {A : Type 0} (a : Answer) (l : Layout) → fails a ≡ passes l → A
+no-pass a l h = let z : _≡_ {A = ℕ} 0 1 = cc in absurd (omega arith)
+
+module _ (entry : List ℕ → Span → Reading Row) (s : List ℕ) where
+  counted-lies : (r : Reading Layout) → ((x : Layout) → r ≡ reads x → LieIn entry s x) → (l : Layout) → laidOut r ≡ passes l → LieIn entry s l
+  unfolding laidOut counted
+  counted-lies (reads x) f l h = at (tooMany x) h
+    where
+      at : (b : Bool) → cond b (fails TooManyEntries) (passes x) ≡ passes l → LieIn entry s l
+      at true g = no-pass TooManyEntries l g
+      at false g = let e : l ≡ x = cc in rw e (f x refl)
+  counted-lies refused f l h = no-pass BadLayout l h
+
+  addressed-lies : (r : Reading Heard) → ((x : Heard) → r ≡ reads x → (y : Layout) → x .layout ≡ reads y → LieIn entry s y)
+      → (l : Layout) → addressed r ≡ passes l → LieIn entry s l
+  unfolding addressed
+  addressed-lies (reads x) f l h = at (x .escaped) (x .ours) h
+    where
+      at : (a b : Bool) → cond a (fails Escaped) (cond b (laidOut (x .layout)) (fails NotOurs)) ≡ passes l → LieIn entry s l
+      at true b g = no-pass Escaped l g
+      at false true g = counted-lies (x .layout) (f x refl) l g
+      at false false g = no-pass NotOurs l g
+  addressed-lies refused f l h = no-pass NotOurs l h
+
+heard-lies : (d : Dialect) (t : Terms) (s : List ℕ) (a : Span) (x : Heard) → heardIn d t s a ≡ reads x → (y : Layout) → x .layout ≡ reads y → LieIn (entryIn d) s y
+unfolding heardIn entryIn heardK heardM
+heard-lies K t s a x h y g =
+    let f = then-reads (andThen (arrayAt 16 s a) frameOf) _ x h in
+    let e = reads-same (f .1) in
+    k-lies s (f .0) y (ap (λ (z : Heard). z .layout) e ∙ g)
+heard-lies M t s a x h y g =
+    let f = then-reads (objectAt 16 s a) _ x h in
+    let e = reads-same (f .1) in
+    m-lies s (f .0) y (ap (λ (z : Heard). z .layout) e ∙ g)
+heard-lies Unknown t s a x h y g = no-reading h
+
+pub framed-lies : (t : Terms) (s : List ℕ) (l : Layout) → framed t s ≡ passes l → LieIn (entryIn (t .dialect)) s l
+unfolding framed
+framed-lies t s l h = at (ltb 32768 (length s)) (text s) h
+  where
+    at : (a b : Bool) → cond a (fails TooLong) (cond b (addressed (heardIn (t .dialect) t s (top s))) (fails NotJson)) ≡ passes l → LieIn (entryIn (t .dialect)) s l
+    at true b g = no-pass TooLong l g
+    at false true g = addressed-lies (entryIn (t .dialect)) s (heardIn (t .dialect) t s (top s)) (heard-lies (t .dialect) t s (top s)) l g
+    at false false g = no-pass NotJson l g

@@ -1,0 +1,19 @@
+-- The checks by what one walk over a message tells. Assumes nothing: these are definitions.
+use Prim.Native.Nat.{ℕ}
+use mathlib.Core.Bool.{Bool, _||_, cond}
+use lib.Dec.{ltb, eqb}
+use Rattle.layout.specs.declared.Outline.{Outline}
+use Rattle.layout.specs.declared.Told.{Told}
+use Rattle.message.specs.Meaning.{maxEntries}
+use Rattle.message.specs.declared.Answer.the-variants.{NotJson, Escaped, NotOurs, BadLayout, TooManyEntries}
+use Rattle.message.specs.declared.Verdict.{Verdict}
+use Rattle.message.specs.declared.Verdict.the-variants.{Fails, Passes}
+
+unfoldable pub laidOutline : Outline → Verdict
+laidOutline o = cond (o .fair) (cond (ltb maxEntries (o .bids) || ltb maxEntries (o .asks)) (Fails TooManyEntries) (Passes o)) (Fails BadLayout)
+
+unfoldable pub addressedTold : Told → Verdict
+addressedTold t = cond (t .framed) (cond (t .escaped) (Fails Escaped) (cond (t .ours) (laidOutline (t .outline)) (Fails NotOurs))) (Fails NotOurs)
+
+unfoldable pub decided : Told → Bool → Verdict
+decided t ended = cond (eqb (t .end) 0) (Fails NotJson) (cond ended (addressedTold t) (Fails NotJson))

@@ -1,0 +1,2 @@
+-- In reading order: the text of a snapshot.
+pub mod Snapshot

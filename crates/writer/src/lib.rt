@@ -1,0 +1,1 @@
+// Writes a book as a snapshot.

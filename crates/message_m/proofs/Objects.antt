@@ -79,13 +79,13 @@ module _ {S R : Type 0} (o : Loop S R) (d : ℕ) (s : List ℕ) where
   abbrev pub Rest : S → ℕ → R → Type 0
   Rest st i r = Left (o .step) (o .close) (o .bad) d s st i r
 
-  module _ {st : S} {i : ℕ} {r : R} (w : Rest st i r) (k : ℕ) (p : k ≡ endOf (string s i)) where
+  module _ (st : S) {i : ℕ} {r : R} (w : Rest st i r) (k : ℕ) (p : k ≡ endOf (string s i)) where
     pub no-name : k ≡ 0 → o .bad ≡ r
-    no-name = fold-no-name (o .step) (o .close) (o .bad) d s w k p
+    no-name = fold-no-name (o .step) (o .close) (o .bad) d s st w k p
 
     module _ (k≢0 : k ≡ 0 → ⊥) (j : ℕ) (q : j ≡ endOf (separator 58 s k)) where
       pub no-colon : j ≡ 0 → o .bad ≡ r
-      no-colon = fold-no-colon (o .step) (o .close) (o .bad) d s w k p k≢0 j q
+      no-colon = fold-no-colon (o .step) (o .close) (o .bad) d s st w k p k≢0 j q
 
       -- the member whose value begins at j
       module _ (j≢0 : j ≡ 0 → ⊥) (next : S) (g : next ≡ o .step st (memberAt d s i k j)) where
@@ -96,23 +96,23 @@ module _ {S R : Type 0} (o : Loop S R) (d : ℕ) (s : List ℕ) where
         next-is = g ∙ ap (λ (t : ℕ). o .step st (record { name = record { from = i; to = k }; value = record { from = j; to = t } })) (sym value-end)
 
         pub no-value : o .end next ≡ 0 → o .bad ≡ r
-        no-value = fold-no-value (o .step) (o .close) (o .bad) d s w k p k≢0 j q j≢0 (o .end next) value-end
+        no-value = fold-no-value (o .step) (o .close) (o .bad) d s st w k p k≢0 j q j≢0 (o .end next) value-end
 
         module _ (n : o .end next ≡ 0 → ⊥) where
           pub value-places : (i < j) × (j < o .end next) × (o .end next ≤ length s)
           value-places =
-              let m = member-places (o .step) (o .close) (o .bad) d s w k p k≢0 j q j≢0 (o .end next) value-end n in
+              let m = member-places (o .step) (o .close) (o .bad) d s st w k p k≢0 j q j≢0 (o .end next) value-end n in
               let a = m .0 in
               let b = m .1 in
-              (omega arith, (m .2, m .3))
+              (omega arith, m .2, m .3)
 
           module _ (l : ℕ) (c : l ≡ endOf (separator 44 s (o .end next))) where
             pub next-member : (l ≡ 0 → ⊥) → (o .end next ≤ l) × Rest next l r
-            next-member y = fold-on (o .step) (o .close) (o .bad) d s w k p k≢0 j q j≢0 (o .end next) value-end n l c y next next-is
+            next-member y = fold-on (o .step) (o .close) (o .bad) d s st w k p k≢0 j q j≢0 (o .end next) value-end n l c y next next-is
 
             module _ (l≡0 : l ≡ 0) (u : ℕ) (x : u ≡ endOf (closing 125 s (o .end next))) where
               pub last-member : (u ≡ 0 → ⊥) → o .close u next ≡ r
-              last-member y = fold-last (o .step) (o .close) (o .bad) d s w k p k≢0 j q j≢0 (o .end next) value-end n l c l≡0 u x y next next-is
+              last-member y = fold-last (o .step) (o .close) (o .bad) d s st w k p k≢0 j q j≢0 (o .end next) value-end n l c l≡0 u x y next next-is
 
               pub no-brace : u ≡ 0 → o .bad ≡ r
-              no-brace = fold-broken (o .step) (o .close) (o .bad) d s w k p k≢0 j q j≢0 (o .end next) value-end n l c l≡0 u x
+              no-brace = fold-broken (o .step) (o .close) (o .bad) d s st w k p k≢0 j q j≢0 (o .end next) value-end n l c l≡0 u x

@@ -53,7 +53,7 @@ data-folds s e ms =
     let a = on-fold s (ascii "asks") (moreData s) (λ (d : Data). d .asks) (moreListed (sideM s)) (λ st m. refl) emptyData ms in
     sym (rw (b, a))
 
-data-ends : (s : List ℕ) (d : Data) (m : Pair) → moreData s d m .end ≡ m .value .to
+pub data-ends : (s : List ℕ) (d : Data) (m : Pair) → moreData s d m .end ≡ m .value .to
 unfolding moreData
 data-ends s d m = refl
 
@@ -329,7 +329,7 @@ module _ (name s : List ℕ) where
       go (At e) q = refl
       go Broken q = ap (toldFrom 0) (sym (object-broken 15 s (record { from = at; to = 0 }) q))
 
-members-end : (name s : List ℕ) (met : Members) (m : Pair) → moreMembers name s met m .body .end ≡ m .value .to
+pub members-end : (name s : List ℕ) (met : Members) (m : Pair) → moreMembers name s met m .body .end ≡ m .value .to
 unfolding moreMembers moreBody
 members-end name s met m = refl
 

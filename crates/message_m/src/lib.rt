@@ -487,9 +487,7 @@ fn numbers_outline(
 {
     match checksum_of(s, checksum) {
         ParsedChecksum::Number(sum) => match gsn_of(s, gsn) {
-            ParsedWhole::Number(number) => {
-                outline_of(snapshot, bids, asks, true, sum, number)
-            }
+            ParsedWhole::Number(number) => { outline_of(snapshot, bids, asks, true, sum, number) }
             ParsedWhole::Refused => no_outline(),
         },
         ParsedChecksum::Refused => no_outline(),

@@ -1,2 +1,3 @@
--- In reading order: the layout of dialect M.
+-- In reading order: the layout of dialect M; what one walk over a message collects of it.
 pub mod LayoutM
+pub mod Collected

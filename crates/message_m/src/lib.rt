@@ -1,1 +1,521 @@
-// Messages of a dialect.
+// A message of dialect M, read in one walk over its bytes: whether it is JSON, and all that the checks of a message need.
+//
+// Each member of the message, and of its `data`, is read once, whatever its name, and added to what was met before. The
+// layout is decided once all were met.
+use decimal::ParsedChecksum;
+use decimal::ParsedWhole;
+use decimal::parse_checksum;
+use decimal::parse_whole;
+use entries::m_entries;
+use json::has_backslash;
+use json::is_name;
+use json::is_short_name;
+use json::value_end;
+use json_tokens::OPEN_OBJECT;
+use json_tokens::QUOTE;
+use json_tokens::byte_at;
+use json_tokens::colon_end;
+use json_tokens::comma_end;
+use json_tokens::object_close_end;
+use json_tokens::skip_blanks;
+use json_tokens::string_end;
+use layout::Listing;
+use layout::Mark;
+use layout::Outline;
+use layout::Slot;
+use layout::Told;
+use layout::listing_at;
+use layout::marked;
+use layout::no_mark;
+use layout::no_outline;
+use layout::no_slot;
+use layout::outline_of;
+use layout::slotted;
+use layout::untold;
+ghost use mathlib.Core.Path.{_≡_};
+ghost use mathlib.Core.Bool.{_&&_, _||_};
+ghost use Rattle.decimal.specs.Ascii.{ascii};
+ghost use Rattle.decimal.specs.Reads.{parsedChecksum, parsedWhole};
+ghost use Rattle.json_tokens.specs.Tokens.{endOf};
+ghost use Rattle.json.specs.Json.{value};
+ghost use Rattle.json.specs.Names.{spelled, hasBackslash};
+ghost use Rattle.entries.specs.Places.{andThen, isString, wholeAt, checksumAt};
+ghost use Rattle.layout.specs.Marks.{more, moreListed};
+ghost use Rattle.layout.specs.Told.{toldAt};
+ghost use Rattle.message_m.specs.LayoutM.{heardM};
+ghost use Rattle.message_m.specs.Collected.{onMember, pairOf, memberAt, noData, dataEnd, moreData, dataOf, noLabel, moreLabel, moreBody, noMembers, moreMembers, onceAt, onceListed, numbersIn, bodyIn, outlineIn, toldIn, Placed};
+
+// How deep arrays and objects may nest in a message, in a member of it, and in a member of its `data`.
+const MESSAGE_DEPTH: usize = 16;
+
+const MEMBER_DEPTH: usize = 15;
+
+const SIDE_DEPTH: usize = 14;
+
+// Our names as numbers, the first byte the lowest, as `json::is_short_name` takes them.
+const CHANNEL: u64 = 0x6c656e6e616863;
+
+const PRODUCT: u64 = 0x746375646f7270;
+
+const TYPE: u64 = 0x65707974;
+
+const DATA: u64 = 0x61746164;
+
+const CHECKSUM: u64 = 0x6d75736b63656863;
+
+const GSN: u64 = 0x6e7367;
+
+const BIDS: u64 = 0x73646962;
+
+const ASKS: u64 = 0x736b7361;
+
+const BOOK: u64 = 0x6b6f6f62;
+
+const SNAPSHOT: u64 = 0x746f687370616e73;
+
+const UPDATE: u64 = 0x657461647075;
+
+// Where a member lies: its name with the quotes, and its value.
+struct Place {
+    name_from: usize,
+    name_to: usize,
+    from: usize,
+    to: usize,
+}
+
+// The value of a member `data`.
+struct Data {
+    // Past the value, or 0 where it is not JSON.
+    end: usize,
+    // Whether it is an object. If not, what is below says nothing.
+    is_object: bool,
+    bids: Slot,
+    asks: Slot,
+}
+
+// The members `channel`, or `product`, that were met.
+struct Label {
+    mark: Mark,
+    // Whether some value is a string with a backslash.
+    escaped: bool,
+    // Whether some value is the book's.
+    matches: bool,
+}
+
+// The members `data` that were met.
+struct Body {
+    // Past the value of the last member, whatever its name, or 0 where it is not JSON.
+    end: usize,
+    mark: Mark,
+    // The value of the last one.
+    last: Data,
+}
+
+// The members of a message that were met.
+struct Members {
+    body: Body,
+    // Whether some name has a backslash.
+    escaped: bool,
+    channel: Label,
+    product: Label,
+    // The members `type`.
+    kind: Mark,
+    checksum: Mark,
+    gsn: Mark,
+}
+
+// The message at `at`, to an M book of that name.
+pub fn m_message(s: &[u8], at: usize, name: &[u8]) -> Told
+    ensures { λ r. ⌜ r ≡ toldAt (heardM (now (name .entry))) (now (s .entry)) at ⌝ }
+{
+    if byte_at(s, at) != OPEN_OBJECT {
+        return untold(value_end(s, at, MESSAGE_DEPTH));
+    }
+    let none = object_close_end(s, at + 1);
+    if 0 < none {
+        return told(s, no_members(), none);
+    }
+    let mut i = skip_blanks(s, at + 1);
+    let mut met = no_members();
+    loop {
+        let name_to = string_end(s, i);
+        if name_to == 0 {
+            return untold(0);
+        }
+        let from = colon_end(s, name_to);
+        if from == 0 {
+            return untold(0);
+        }
+        let next = more_members(s, met, i, name_to, from, name);
+        let to = next.body.end;
+        if to == 0 {
+            return untold(0);
+        }
+        let j = comma_end(s, to);
+        if j == 0 {
+            let end = object_close_end(s, to);
+            if end == 0 {
+                return untold(0);
+            }
+            return told(s, next, end);
+        }
+        met = next;
+        i = j;
+    }
+}
+
+fn no_members() -> Members
+    ensures { λ r. ⌜ r ≡ noMembers ⌝ }
+{
+    Members {
+        body: Body {
+            end: 0,
+            mark: no_mark(),
+            last: no_data(0),
+        },
+        escaped: false,
+        channel: no_label(),
+        product: no_label(),
+        kind: no_mark(),
+        checksum: no_mark(),
+        gsn: no_mark(),
+    }
+}
+
+fn no_label() -> Label
+    ensures { λ r. ⌜ r ≡ noLabel ⌝ }
+{
+    Label {
+        mark: no_mark(),
+        escaped: false,
+        matches: false,
+    }
+}
+
+// One member more, whose name lies from `first` to `past`, and whose value begins at `from`.
+fn more_members(
+    s: &[u8],
+    met: Members,
+    first: usize,
+    past: usize,
+    from: usize,
+    name: &[u8],
+) -> Members
+    ensures { λ r. ⌜ r ≡ moreMembers (now (name .entry)) (now (s .entry)) met (memberAt 15 (now (s .entry)) first past from) ⌝ }
+{
+    let body = more_body(s, met.body, first, past, from);
+    let place = Place {
+        name_from: first,
+        name_to: past,
+        from,
+        to: body.end,
+    };
+    Members {
+        body,
+        escaped: either(met.escaped, has_backslash(s, first, past)),
+        channel: more_channel(s, met.channel, place),
+        product: more_product(s, met.product, place, name),
+        kind: more_marked(s, met.kind, place, TYPE, 4),
+        checksum: more_marked(s, met.checksum, place, CHECKSUM, 8),
+        gsn: more_marked(s, met.gsn, place, GSN, 3),
+    }
+}
+
+// The members of the name `name`, and one member more of whatever name.
+fn more_marked(s: &[u8], mark: Mark, place: Place, name: u64, length: usize) -> Mark
+    ensures { λ r. ⌜ r ≡ onMember (now (s .entry)) (spelled length name) more mark (pairOf place) ⌝ }
+{
+    if is_short_name(s, place.name_from, place.name_to, name, length) {
+        return marked(mark, place.from, place.to);
+    }
+    mark
+}
+
+fn more_channel(s: &[u8], label: Label, place: Place) -> Label
+    ensures { λ r. ⌜ r ≡ onMember (now (s .entry)) (ascii "channel") (moreLabel (now (s .entry)) (ascii "book")) label (pairOf place) ⌝ }
+{
+    if is_short_name(s, place.name_from, place.name_to, CHANNEL, 7) {
+        let matches = is_short_name(s, place.from, place.to, BOOK, 4);
+        return more_label(s, label, place.from, place.to, matches);
+    }
+    label
+}
+
+fn more_product(s: &[u8], label: Label, place: Place, name: &[u8]) -> Label
+    ensures { λ r. ⌜ r ≡ onMember (now (s .entry)) (ascii "product") (moreLabel (now (s .entry)) (now (name .entry))) label (pairOf place) ⌝ }
+{
+    if is_short_name(s, place.name_from, place.name_to, PRODUCT, 7) {
+        let matches = is_name(s, place.from, place.to, name);
+        return more_label(s, label, place.from, place.to, matches);
+    }
+    label
+}
+
+// One member more of the label's name; `matches`: its value is the book's.
+fn more_label(s: &[u8], label: Label, from: usize, to: usize, matches: bool) -> Label
+    ensures { λ r. ⌜ r ≡ record { mark = more (label .mark) (record { from = from; to = to }); escaped = label .escaped || (isString (now (s .entry)) (record { from = from; to = to }) && hasBackslash (now (s .entry)) (record { from = from; to = to })); matches = label .matches || matches } ⌝ }
+{
+    Label {
+        mark: marked(label.mark, from, to),
+        escaped: either(label.escaped, is_escaped(s, from, to)),
+        matches: either(label.matches, matches),
+    }
+}
+
+// Whether the value from `from` to `to` is a string with a backslash.
+fn is_escaped(s: &[u8], from: usize, to: usize) -> bool
+    ensures { λ r. ⌜ r ≡ (isString (now (s .entry)) (record { from = from; to = to }) && hasBackslash (now (s .entry)) (record { from = from; to = to })) ⌝ }
+{
+    if byte_at(s, from) == QUOTE {
+        return has_backslash(s, from, to);
+    }
+    false
+}
+
+fn either(a: bool, b: bool) -> bool
+    ensures { λ r. ⌜ r ≡ (a || b) ⌝ }
+{
+    if a { true } else { b }
+}
+
+fn both(a: bool, b: bool) -> bool
+    ensures { λ r. ⌜ r ≡ (a && b) ⌝ }
+{
+    if a { b } else { false }
+}
+
+// The same of `data` alone. The value is read here, whatever the member's name.
+fn more_body(s: &[u8], body: Body, first: usize, past: usize, from: usize) -> Body
+    ensures { λ r. ⌜ r ≡ moreBody (now (s .entry)) body (memberAt 15 (now (s .entry)) first past from) ⌝ }
+{
+    if is_short_name(s, first, past, DATA, 4) {
+        let data = m_data(s, from);
+        return Body {
+            end: data.end,
+            mark: marked(body.mark, from, data.end),
+            last: data,
+        };
+    }
+    let mark = body.mark;
+    let last = body.last;
+    Body {
+        end: value_end(s, from, MEMBER_DEPTH),
+        mark,
+        last,
+    }
+}
+
+// The value at `at`, as that of a member `data`.
+fn m_data(s: &[u8], at: usize) -> Data
+    ensures { λ r. ⌜ r ≡ dataOf (now (s .entry)) (record { from = at; to = endOf (value 15 (now (s .entry)) at) }) ⌝ }
+{
+    if byte_at(s, at) != OPEN_OBJECT {
+        return no_data(value_end(s, at, MEMBER_DEPTH));
+    }
+    let none = object_close_end(s, at + 1);
+    if 0 < none {
+        return data_end(no_data(0), none);
+    }
+    let mut i = skip_blanks(s, at + 1);
+    let mut met = data_end(no_data(0), 0);
+    loop {
+        let name_to = string_end(s, i);
+        if name_to == 0 {
+            return no_data(0);
+        }
+        let from = colon_end(s, name_to);
+        if from == 0 {
+            return no_data(0);
+        }
+        let next = more_data(s, met, i, name_to, from);
+        let to = next.end;
+        if to == 0 {
+            return no_data(0);
+        }
+        let j = comma_end(s, to);
+        if j == 0 {
+            let end = object_close_end(s, to);
+            if end == 0 {
+                return no_data(0);
+            }
+            return data_end(next, end);
+        }
+        met = next;
+        i = j;
+    }
+}
+
+// One member more of `data`.
+fn more_data(s: &[u8], met: Data, first: usize, past: usize, from: usize) -> Data
+    ensures { λ r. ⌜ r ≡ moreData (now (s .entry)) met (memberAt 14 (now (s .entry)) first past from) ⌝ }
+{
+    let bids = met.bids;
+    let asks = met.asks;
+    if is_short_name(s, first, past, BIDS, 4) {
+        let entries = m_entries(s, from);
+        return Data {
+            end: entries.end,
+            is_object: true,
+            bids: slotted(bids, listing_at(from, entries)),
+            asks,
+        };
+    }
+    if is_short_name(s, first, past, ASKS, 4) {
+        let entries = m_entries(s, from);
+        return Data {
+            end: entries.end,
+            is_object: true,
+            bids,
+            asks: slotted(asks, listing_at(from, entries)),
+        };
+    }
+    Data {
+        end: value_end(s, from, SIDE_DEPTH),
+        is_object: true,
+        bids,
+        asks,
+    }
+}
+
+// An object that ends at `end`, with the sides that were met in it.
+fn data_end(met: Data, end: usize) -> Data
+    ensures { λ r. ⌜ r ≡ dataEnd end met ⌝ }
+{
+    let bids = met.bids;
+    let asks = met.asks;
+    Data {
+        end,
+        is_object: true,
+        bids,
+        asks,
+    }
+}
+
+// A value that ends at `end` and is no object.
+fn no_data(end: usize) -> Data
+    ensures { λ r. ⌜ r ≡ noData end ⌝ }
+{
+    Data {
+        end,
+        is_object: false,
+        bids: no_slot(),
+        asks: no_slot(),
+    }
+}
+
+// What the members of a message that ends at `end` tell of it.
+fn told(s: &[u8], met: Members, end: usize) -> Told
+    requires { ⌜ Placed (now s) (met .checksum) × Placed (now s) (met .gsn) ⌝ }
+    ensures { λ r. ⌜ r ≡ toldIn (now (s .entry)) end met ⌝ }
+{
+    let channel = met.channel;
+    let product = met.product;
+    Told {
+        end,
+        framed: true,
+        escaped: either(met.escaped, either(channel.escaped, product.escaped)),
+        ours: both(channel.matches, product.matches),
+        outline: m_outline(s, met),
+    }
+}
+
+fn m_outline(s: &[u8], met: Members) -> Outline
+    requires { ⌜ Placed (now s) (met .checksum) × Placed (now s) (met .gsn) ⌝ }
+    ensures { λ r. ⌜ r ≡ outlineIn (now (s .entry)) met ⌝ }
+{
+    let channel = met.channel;
+    let product = met.product;
+    let kind = met.kind;
+    if channel.mark.times != 1 {
+        return no_outline();
+    }
+    if product.mark.times != 1 {
+        return no_outline();
+    }
+    if kind.times != 1 {
+        return no_outline();
+    }
+    if is_short_name(s, kind.from, kind.to, SNAPSHOT, 8) {
+        return body_outline(s, true, met);
+    }
+    if is_short_name(s, kind.from, kind.to, UPDATE, 6) {
+        return body_outline(s, false, met);
+    }
+    no_outline()
+}
+
+// The layout from `data` on.
+fn body_outline(s: &[u8], snapshot: bool, met: Members) -> Outline
+    requires { ⌜ Placed (now s) (met .checksum) × Placed (now s) (met .gsn) ⌝ }
+    ensures { λ r. ⌜ r ≡ bodyIn (now (s .entry)) snapshot met ⌝ }
+{
+    let body = met.body;
+    let data = body.last;
+    if body.mark.times != 1 {
+        return no_outline();
+    }
+    if data.is_object {
+        let bids = once_listed(data.bids);
+        let asks = once_listed(data.asks);
+        return numbers_outline(s, snapshot, bids, asks, met.checksum, met.gsn);
+    }
+    no_outline()
+}
+
+// The entries of a side that was met once.
+fn once_listed(slot: Slot) -> Listing
+    ensures { λ r. ⌜ r ≡ onceListed slot ⌝ }
+{
+    if slot.times == 1 {
+        return slot.listing;
+    }
+    let none = no_slot();
+    none.listing
+}
+
+// The layout from the checksum on.
+fn numbers_outline(
+    s: &[u8],
+    snapshot: bool,
+    bids: Listing,
+    asks: Listing,
+    checksum: Mark,
+    gsn: Mark,
+) -> Outline
+    requires { ⌜ Placed (now s) checksum × Placed (now s) gsn ⌝ }
+    ensures { λ r. ⌜ r ≡ numbersIn (now (s .entry)) snapshot bids asks checksum gsn ⌝ }
+{
+    match checksum_of(s, checksum) {
+        ParsedChecksum::Number(sum) => match gsn_of(s, gsn) {
+            ParsedWhole::Number(number) => { outline_of(snapshot, bids, asks, true, sum, number) }
+            ParsedWhole::Refused => no_outline(),
+        },
+        ParsedChecksum::Refused => no_outline(),
+    }
+}
+
+// The checksum, if its member was met once and holds one.
+fn checksum_of(s: &[u8], mark: Mark) -> ParsedChecksum
+    requires { ⌜ Placed (now s) mark ⌝ }
+    ensures { λ r. ⌜ parsedChecksum r ≡ andThen (onceAt mark) (checksumAt (now (s .entry))) ⌝ }
+{
+    let from = mark.from;
+    let to = mark.to;
+    if mark.times != 1 {
+        return ParsedChecksum::Refused;
+    }
+    parse_checksum(&s[from..to])
+}
+
+// The sequence number, if its member was met once and holds one.
+fn gsn_of(s: &[u8], mark: Mark) -> ParsedWhole
+    requires { ⌜ Placed (now s) mark ⌝ }
+    ensures { λ r. ⌜ parsedWhole r ≡ andThen (onceAt mark) (wholeAt (now (s .entry))) ⌝ }
+{
+    let from = mark.from;
+    let to = mark.to;
+    if mark.times != 1 {
+        return ParsedWhole::Refused;
+    }
+    parse_whole(&s[from..to])
+}

@@ -1,0 +1,5 @@
+-- In reading order: one member more; the layout out of what was met; the value at a position as an object; what was met in the end.
+pub mod Steps
+pub mod Outlines
+pub mod Objects
+pub mod Whole

@@ -1,0 +1,164 @@
+-- The layout out of what was met, one test at a time.
+-- Assumes nothing.
+use mathlib.Core.Path.{_≡_, refl, sym, ap, _∙_}
+use mathlib.Core.List.{List}
+use mathlib.Core.Bool.{Bool, true, false, _&&_, _||_, cond}
+use Prim.Native.Nat.{ℕ, _≤_}
+use borrow.Author.Tests.{eq-eqb, ne-eqb}
+use lib.Dec.{eqb}
+use Rattle.decimal.specs.Ascii.{ascii}
+use Rattle.decimal.specs.Digits.{Reading, reads, refused}
+use Rattle.json.specs.Json.{Span}
+use Rattle.json.specs.Names.{part, means}
+use Rattle.entries.specs.Places.{andThen, wholeAt, checksumAt}
+use Rattle.layout.specs.Told.{notListed, noOutline, outlineFrom}
+use Rattle.layout.specs.declared.Listing.{Listing}
+use Rattle.layout.specs.declared.Mark.{Mark}
+use Rattle.layout.specs.declared.Slot.{Slot}
+use Rattle.layout.specs.declared.Outline.{Outline}
+use Rattle.layout.specs.declared.Told.{Told}
+use Rattle.message_m.specs.LayoutM.{isSnapshotAt}
+use Rattle.message_m.specs.Collected.{onceAt, onceListed, outlineWhere, numbersIn, bodyIn, outlineIn, toldIn}
+use Rattle.message_m.specs.declared.Members.{Members}
+
+abbrev pub placeOf : Mark → Span
+placeOf m = record { from = m .from; to = m .to }
+
+-- ---- met once
+module _ (m : Mark) where
+  pub once-yes : m .times ≡ 1 → onceAt m ≡ reads (placeOf m)
+  unfolding onceAt
+  once-yes h = rw (eq-eqb (m .times) 1 h)
+
+  pub once-no : (m .times ≡ 1 → ⊥) → onceAt m ≡ refused
+  unfolding onceAt
+  once-no h = rw (ne-eqb (m .times) 1 h)
+
+  module _ {A : Type 0} (f : Span → Reading A) where
+    pub then-yes : m .times ≡ 1 → andThen (onceAt m) f ≡ f (placeOf m)
+    unfolding andThen
+    then-yes h = rw (once-yes h)
+
+    pub then-no : (m .times ≡ 1 → ⊥) → andThen (onceAt m) f ≡ refused
+    unfolding andThen
+    then-no h = rw (once-no h)
+
+module _ (t : Slot) where
+  pub listed-yes : t .times ≡ 1 → t .listing ≡ onceListed t
+  unfolding onceListed
+  listed-yes h = sym (rw (eq-eqb (t .times) 1 h))
+
+  pub listed-no : (t .times ≡ 1 → ⊥) → notListed ≡ onceListed t
+  unfolding onceListed
+  listed-no h = sym (rw (ne-eqb (t .times) 1 h))
+
+-- ---- where something is read, or not
+module _ {A : Type 0} (f : A → Outline) where
+  pub where-reads : {x : Reading A} {a : A} → x ≡ reads a → f a ≡ outlineWhere x f
+  unfolding outlineWhere
+  where-reads h = sym (rw h)
+
+  pub where-refused : {x : Reading A} → x ≡ refused → noOutline ≡ outlineWhere x f
+  unfolding outlineWhere
+  where-refused h = sym (rw h)
+
+-- ---- from the checksum on
+module _ (s : List ℕ) (snapshot : Bool) (b a : Listing) (k g : Mark) where
+  abbrev sum : Reading ℕ
+  sum = andThen (onceAt k) (checksumAt s)
+
+  abbrev number : Reading ℕ
+  number = andThen (onceAt g) (wholeAt s)
+
+  abbrev with-sum : ℕ → Outline
+  with-sum u = outlineWhere number (λ n. outlineFrom snapshot b a true u n)
+
+  pub numbers-no-sum : sum ≡ refused → noOutline ≡ numbersIn s snapshot b a k g
+  unfolding numbersIn
+  numbers-no-sum h = where-refused with-sum h
+
+  pub numbers-no-number : (u : ℕ) → sum ≡ reads u → number ≡ refused → noOutline ≡ numbersIn s snapshot b a k g
+  unfolding numbersIn
+  numbers-no-number u h r = where-refused (λ n. outlineFrom snapshot b a true u n) r ∙ where-reads with-sum h
+
+  pub numbers-are : (u n : ℕ) → sum ≡ reads u → number ≡ reads n → outlineFrom snapshot b a true u n ≡ numbersIn s snapshot b a k g
+  unfolding numbersIn
+  numbers-are u n h r = where-reads (λ n. outlineFrom snapshot b a true u n) r ∙ where-reads with-sum h
+
+-- ---- from `data` on
+module _ (s : List ℕ) (snapshot : Bool) (met : Members) where
+  abbrev numbers : Outline
+  numbers = numbersIn s snapshot (onceListed (met .body .last .bids)) (onceListed (met .body .last .asks)) (met .checksum) (met .gsn)
+
+  abbrev of-data : Span → Outline
+  of-data d = cond (met .body .last .«is_object») numbers noOutline
+
+  pub body-not-once : (met .body .mark .times ≡ 1 → ⊥) → noOutline ≡ bodyIn s snapshot met
+  unfolding bodyIn
+  body-not-once h = where-refused of-data (once-no (met .body .mark) h)
+
+  module _ (once : met .body .mark .times ≡ 1) where
+    pub body-object : met .body .last .«is_object» ≡ true → numbers ≡ bodyIn s snapshot met
+    unfolding bodyIn
+    body-object h = ap (λ (b : Bool). cond b numbers noOutline) (sym h) ∙ where-reads of-data (once-yes (met .body .mark) once)
+
+    pub body-no-object : met .body .last .«is_object» ≡ false → noOutline ≡ bodyIn s snapshot met
+    unfolding bodyIn
+    body-no-object h = ap (λ (b : Bool). cond b numbers noOutline) (sym h) ∙ where-reads of-data (once-yes (met .body .mark) once)
+
+-- ---- whole
+module _ (s : List ℕ) (met : Members) where
+  abbrev of-type : Bool → Outline
+  of-type snapshot = bodyIn s snapshot met
+
+  abbrev of-product : Span → Outline
+  of-product p = outlineWhere (andThen (onceAt (met .kind)) (isSnapshotAt s)) of-type
+
+  abbrev of-channel : Span → Outline
+  of-channel c = outlineWhere (onceAt (met .product .mark)) of-product
+
+  pub outline-no-channel : (met .channel .mark .times ≡ 1 → ⊥) → noOutline ≡ outlineIn s met
+  unfolding outlineIn
+  outline-no-channel h = where-refused of-channel (once-no (met .channel .mark) h)
+
+  module _ (c : met .channel .mark .times ≡ 1) where
+    past-channel : of-channel (placeOf (met .channel .mark)) ≡ outlineIn s met
+    unfolding outlineIn
+    past-channel = where-reads of-channel (once-yes (met .channel .mark) c)
+
+    pub outline-no-product : (met .product .mark .times ≡ 1 → ⊥) → noOutline ≡ outlineIn s met
+    outline-no-product h = where-refused of-product (once-no (met .product .mark) h) ∙ past-channel
+
+    module _ (p : met .product .mark .times ≡ 1) where
+      past-product : of-product (placeOf (met .product .mark)) ≡ outlineIn s met
+      past-product = where-reads of-product (once-yes (met .product .mark) p) ∙ past-channel
+
+      pub outline-no-type : (met .kind .times ≡ 1 → ⊥) → noOutline ≡ outlineIn s met
+      outline-no-type h = where-refused of-type (then-no (met .kind) (isSnapshotAt s) h) ∙ past-product
+
+      module _ (t : met .kind .times ≡ 1) where
+        pub outline-snapshot : means s (placeOf (met .kind)) (ascii "snapshot") ≡ true → bodyIn s true met ≡ outlineIn s met
+        unfolding isSnapshotAt
+        outline-snapshot h =
+            let k : isSnapshotAt s (placeOf (met .kind)) ≡ reads true = rw h in
+            where-reads of-type (then-yes (met .kind) (isSnapshotAt s) t ∙ k) ∙ past-product
+
+        module _ (n : means s (placeOf (met .kind)) (ascii "snapshot") ≡ false) where
+          pub outline-update : means s (placeOf (met .kind)) (ascii "update") ≡ true → bodyIn s false met ≡ outlineIn s met
+          unfolding isSnapshotAt
+          outline-update h =
+              let k : isSnapshotAt s (placeOf (met .kind)) ≡ reads false = rw (n, h) in
+              where-reads of-type (then-yes (met .kind) (isSnapshotAt s) t ∙ k) ∙ past-product
+
+          pub outline-neither : means s (placeOf (met .kind)) (ascii "update") ≡ false → noOutline ≡ outlineIn s met
+          unfolding isSnapshotAt
+          outline-neither h =
+              let k : isSnapshotAt s (placeOf (met .kind)) ≡ refused = rw (n, h) in
+              where-refused of-type (then-yes (met .kind) (isSnapshotAt s) t ∙ k) ∙ past-product
+
+-- part by part
+pub told-made : (s : List ℕ) (met : Members) (end : ℕ) {e o : Bool} {x : Outline} → e ≡ (met .escaped || (met .channel .escaped || met .product .escaped))
+    → o ≡ (met .channel .matches && met .product .matches) → x ≡ outlineIn s met
+    → _≡_ {A = Told} (record { end = end; framed = true; escaped = e; ours = o; outline = x }) (toldIn s end met)
+unfolding toldIn
+told-made s met end p q r = rw (p, q, r)

@@ -1,0 +1,369 @@
+-- What was met in the end is what the definition of the dialect asks for.
+-- Assumes nothing.
+use mathlib.Core.Path.{_≡_, refl, sym, ap, ap₂, _∙_}
+use mathlib.Core.List.{List, [], _∷_}
+use mathlib.Core.Bool.{Bool, true, false, _&&_, _||_, cond}
+use Prim.Native.Nat.{ℕ, _+_, _≤_, _<_}
+use native.Mathlib.Omega.{arith}
+use borrow.Author.Tests.{eqb-true, eqb-false}
+use lib.Dec.{eqb}
+use lib.ListN.{length}
+use Rattle.decimal.specs.Ascii.{ascii}
+use Rattle.decimal.specs.Digits.{Reading, reads, refused}
+use Rattle.json_tokens.specs.Bytes.{byteAt}
+use Rattle.json_tokens.specs.Tokens.{End, At, Broken, endOf, blanks, closing}
+use Rattle.json.specs.Json.{Span, Pair, value}
+use Rattle.json.specs.Names.{means, hasBackslash}
+use Rattle.entries.specs.Places.{andThen, isString, objectAt, valuesOf, only, wholeAt, checksumAt}
+use Rattle.entries.specs.Rows.{entryM}
+use Rattle.layout.specs.Fold.{foldFrom}
+use Rattle.layout.specs.Layout.{printed, Listed, Layout, Heard, listedAt, laid}
+use Rattle.layout.specs.Marks.{few, fewMore, unmarked, more, marksOf, moreListed, slotsOf}
+use Rattle.layout.specs.Told.{listingOf, noOutline, noFrame, outlineOf, outlineFrom, isPrinted, sumOf, toldOf, toldAt}
+use Rattle.layout.specs.declared.Listing.{Listing}
+use Rattle.layout.specs.declared.Mark.{Mark}
+use Rattle.layout.specs.declared.Slot.{Slot}
+use Rattle.layout.specs.declared.Outline.{Outline}
+use Rattle.layout.specs.declared.Told.{Told}
+use Rattle.layout.proofs.Laws.{outline-of}
+use Rattle.layout.proofs.Marks.{values-fold, only-once, only-other, slot-times}
+use Rattle.message_m.specs.LayoutM.{someName, someString, escapedM, someMeans, oursM, isSnapshotAt, listedIn, layoutM, heardM}
+use Rattle.message_m.specs.Collected.{onMember, sideM, noData, emptyData, dataEnd, moreData, dataFrom, dataOf, noLabel, moreLabel, moreBody, noMembers, moreMembers, onceAt, onceListed, outlineWhere, numbersIn, bodyIn, outlineIn, toldIn, Placed}
+use Rattle.message_m.specs.declared.Data.{Data}
+use Rattle.message_m.specs.declared.Label.{Label}
+use Rattle.message_m.specs.declared.Members.{Members}
+use Rattle.message_m.proofs.Steps.{on-yes, on-no, placed-more}
+use Rattle.message_m.proofs.Outlines.{placeOf, once-yes, once-no, listed-yes, listed-no}
+use Rattle.message_m.proofs.Objects.{object-broken, made-other, made-empty, made-start, Loop, Rest}
+
+-- a component that follows the members of one name
+on-fold : {S A : Type 0} (s name : List ℕ) (step : S → Pair → S) (get : S → A) (add : A → Span → A)
+    → ((st : S) (m : Pair) → get (step st m) ≡ onMember s name add (get st) m)
+    → (st : S) (ms : List Pair) → get (foldFrom step st ms) ≡ foldFrom add (get st) (valuesOf s name ms)
+on-fold s name step get add is =
+    values-fold s name step get add
+    (λ st m h. is st m ∙ on-yes s name add (get st) m h)
+    (λ st m h. is st m ∙ on-no s name add (get st) m h)
+
+-- ---- the sides of `data`
+pub data-folds : (s : List ℕ) (e : ℕ) (ms : List Pair) → dataFrom s e (reads ms) ≡ dataEnd e (foldFrom (moreData s) emptyData ms)
+unfolding dataFrom moreData noData
+data-folds s e ms =
+    let b = on-fold s (ascii "bids") (moreData s) (λ (d : Data). d .bids) (moreListed (sideM s)) (λ st m. refl) emptyData ms in
+    let a = on-fold s (ascii "asks") (moreData s) (λ (d : Data). d .asks) (moreListed (sideM s)) (λ st m. refl) emptyData ms in
+    sym (rw (b, a))
+
+pub data-ends : (s : List ℕ) (d : Data) (m : Pair) → moreData s d m .end ≡ m .value .to
+unfolding moreData
+data-ends s d m = refl
+
+-- the loop over them
+abbrev pub dataLoop : List ℕ → Loop Data Data
+dataLoop s = record { step = moreData s; close = dataEnd; bad = noData 0; end = λ (d : Data). d .end; ends = data-ends s }
+
+-- the value at a position, as that of a member `data`
+abbrev pub dataAt : List ℕ → ℕ → Data
+dataAt s at = dataOf s (record { from = at; to = endOf (value 15 s at) })
+
+module _ (s : List ℕ) (at : ℕ) where
+  pub data-none : (byteAt s at ≡ 123 → ⊥) → {e : ℕ} → e ≡ endOf (value 15 s at) → noData e ≡ dataAt s at
+  unfolding dataOf dataFrom
+  data-none n h = ap noData h ∙ made-other (dataFrom s) 14 s at n
+
+  module _ (opens : byteAt s at ≡ 123) (e : ℕ) (h : e ≡ endOf (closing 125 s (at + 1))) where
+    pub data-empty : 0 < e → dataEnd e emptyData ≡ dataAt s at
+    unfolding dataOf
+    data-empty p = made-empty (dataFrom s) 14 s at opens (moreData s) dataEnd emptyData (data-folds s) e h p
+
+    pub data-start : e ≡ 0 → (k : ℕ) → k ≡ blanks s (at + 1) → Rest (dataLoop s) 14 s emptyData k (dataAt s at)
+    unfolding dataOf dataFrom
+    data-start z k b = made-start (dataFrom s) 14 s at opens (moreData s) dataEnd emptyData (data-folds s) e h z k b
+
+-- ---- names and labels
+or-assoc : (a b c : Bool) → ((a || b) || c) ≡ (a || (b || c))
+or-assoc true b c = refl
+or-assoc false b c = refl
+
+or-false : (a : Bool) → (a || false) ≡ a
+or-false true = refl
+or-false false = refl
+
+names-from : (name s : List ℕ) (st : Members) (ms : List Pair) → foldFrom (moreMembers name s) st ms .escaped ≡ (st .escaped || someName s ms)
+unfolding foldFrom someName moreMembers
+names-from name s st [] = sym (or-false (st .escaped))
+names-from name s st (m ∷ ms) = names-from name s (moreMembers name s st m) ms ∙ or-assoc (st .escaped) (hasBackslash s (m .name)) (someName s ms)
+
+module _ (s text : List ℕ) where
+  label-mark : (l : Label) (vs : List Span) → foldFrom (moreLabel s text) l vs .mark ≡ foldFrom more (l .mark) vs
+  unfolding foldFrom moreLabel
+  label-mark l [] = refl
+  label-mark l (a ∷ vs) = label-mark (moreLabel s text l a) vs
+
+  label-escaped : (l : Label) (vs : List Span) → foldFrom (moreLabel s text) l vs .escaped ≡ (l .escaped || someString s vs)
+  unfolding foldFrom moreLabel someString
+  label-escaped l [] = sym (or-false (l .escaped))
+  label-escaped l (a ∷ vs) = label-escaped (moreLabel s text l a) vs ∙ or-assoc (l .escaped) (isString s a && hasBackslash s a) (someString s vs)
+
+  label-matches : (l : Label) (vs : List Span) → foldFrom (moreLabel s text) l vs .matches ≡ (l .matches || someMeans s text vs)
+  unfolding foldFrom moreLabel someMeans
+  label-matches l [] = sym (or-false (l .matches))
+  label-matches l (a ∷ vs) = label-matches (moreLabel s text l a) vs ∙ or-assoc (l .matches) (means s a text) (someMeans s text vs)
+
+-- ---- the layout
+
+only-is : (l : List Span) (m : Mark) → m ≡ marksOf l → only l ≡ onceAt m
+only-is l m h = go (eqb (marksOf l .times) 1) refl ∙ ap onceAt (sym h)
+  where
+    go : (b : Bool) → eqb (marksOf l .times) 1 ≡ b → only l ≡ onceAt (marksOf l)
+    go true q = let y = eqb-true (marksOf l .times) 1 q in only-once l y ∙ sym (once-yes (marksOf l) y)
+    go false q = let n = eqb-false (marksOf l .times) 1 q in only-other l n ∙ sym (once-no (marksOf l) n)
+
+-- what is read twice, one after the other, is read at once
+then-assoc : {A B C : Type 0} (x : Reading A) (f : A → Reading B) (g : B → Reading C) → andThen x (λ a. andThen (f a) g) ≡ andThen (andThen x f) g
+unfolding andThen
+then-assoc (reads a) f g = refl
+then-assoc refused f g = refl
+
+then-out : (s : List ℕ) {A : Type 0} (f : A → Reading Layout) (g : A → Outline) (x y : Reading A) → x ≡ y
+    → ((a : A) → x ≡ reads a → outlineOf s (f a) ≡ g a) → outlineOf s (andThen x f) ≡ outlineWhere y g
+unfolding andThen outlineWhere outlineOf
+then-out s {A} f g x y h k = go x refl ∙ ap (λ (z : Reading A). outlineWhere z g) h
+  where
+    go : (z : Reading A) → x ≡ z → outlineOf s (andThen z f) ≡ outlineWhere z g
+    go (reads a) q = k a q
+    go refused q = refl
+
+module _ (s : List ℕ) where
+  -- a side of `data`
+  side-of : (l : List Span) → listingOf s (andThen (only l) (listedAt entryM s)) ≡ onceListed (slotsOf (sideM s) l)
+  unfolding andThen only listingOf onceListed foldFrom moreListed fewMore few
+  side-of [] = refl
+  side-of (a ∷ []) = refl
+  side-of (a ∷ (b ∷ l)) =
+      let t = slot-times (sideM s) (a ∷ (b ∷ l)) in
+      listed-no (slotsOf (sideM s) (a ∷ (b ∷ l))) (λ h. omega arith)
+
+  -- the value of the only member `data` is the last one's
+  last-only : (l : List Span) (d : Data) (a : Span) → only l ≡ reads a → foldFrom (λ (d : Data) (a : Span). dataOf s a) d l ≡ dataOf s a
+  unfolding only foldFrom
+  last-only [] d a h = let z : _≡_ {A = ℕ} 0 1 = cc in absurd (omega arith)
+  last-only (b ∷ []) d a h = let e : b ≡ a = cc in ap (dataOf s) e
+  last-only (b ∷ (c ∷ l)) d a h = let z : _≡_ {A = ℕ} 0 1 = cc in absurd (omega arith)
+
+-- the members that were met, of which ms are all
+module _ (name s : List ℕ) (ms : List Pair) where
+  abbrev met : Members
+  met = foldFrom (moreMembers name s) noMembers ms
+
+  abbrev values : List ℕ → List Span
+  values n = valuesOf s n ms
+
+  channel-is : met .channel ≡ foldFrom (moreLabel s (ascii "book")) noLabel (values (ascii "channel"))
+  unfolding moreMembers
+  channel-is = on-fold s (ascii "channel") (moreMembers name s) (λ (x : Members). x .channel) (moreLabel s (ascii "book")) (λ st m. refl) noMembers ms
+
+  product-is : met .product ≡ foldFrom (moreLabel s name) noLabel (values (ascii "product"))
+  unfolding moreMembers
+  product-is = on-fold s (ascii "product") (moreMembers name s) (λ (x : Members). x .product) (moreLabel s name) (λ st m. refl) noMembers ms
+
+  kind-is : met .kind ≡ marksOf (values (ascii "type"))
+  unfolding moreMembers
+  kind-is = on-fold s (ascii "type") (moreMembers name s) (λ (x : Members). x .kind) more (λ st m. refl) noMembers ms
+
+  checksum-is : met .checksum ≡ marksOf (values (ascii "checksum"))
+  unfolding moreMembers
+  checksum-is = on-fold s (ascii "checksum") (moreMembers name s) (λ (x : Members). x .checksum) more (λ st m. refl) noMembers ms
+
+  gsn-is : met .gsn ≡ marksOf (values (ascii "gsn"))
+  unfolding moreMembers
+  gsn-is = on-fold s (ascii "gsn") (moreMembers name s) (λ (x : Members). x .gsn) more (λ st m. refl) noMembers ms
+
+  data-mark : met .body .mark ≡ marksOf (values (ascii "data"))
+  unfolding moreMembers moreBody
+  data-mark = on-fold s (ascii "data") (moreMembers name s) (λ (x : Members). x .body .mark) more (λ st m. refl) noMembers ms
+
+  data-last : met .body .last ≡ foldFrom (λ (d : Data) (a : Span). dataOf s a) (noData 0) (values (ascii "data"))
+  unfolding moreMembers moreBody
+  data-last = on-fold s (ascii "data") (moreMembers name s) (λ (x : Members). x .body .last) (λ (d : Data) (a : Span). dataOf s a) (λ st m. refl) noMembers ms
+
+  -- ---- from the checksum on, where ds are the members of `data`
+  module _ (snapshot : Bool) (ds : List Pair) where
+    abbrev bids : Reading Listed
+    bids = listedIn s (ascii "bids") ds
+
+    abbrev asks : Reading Listed
+    asks = listedIn s (ascii "asks") ds
+
+    abbrev bidSlot : Slot
+    bidSlot = slotsOf (sideM s) (valuesOf s (ascii "bids") ds)
+
+    abbrev askSlot : Slot
+    askSlot = slotsOf (sideM s) (valuesOf s (ascii "asks") ds)
+
+    abbrev all-read : ℕ → ℕ → Reading Layout
+    all-read sum number = laid snapshot (printed sum) number bids asks
+
+    abbrev sum-read : ℕ → Reading Layout
+    sum-read sum = andThen (only (values (ascii "gsn"))) (λ g. andThen (wholeAt s g) (all-read sum))
+
+    abbrev sides-read : Reading Layout
+    sides-read = andThen (only (values (ascii "checksum"))) (λ k. andThen (checksumAt s k) sum-read)
+
+    abbrev outline : ℕ → ℕ → Outline
+    outline sum number = outlineFrom snapshot (onceListed bidSlot) (onceListed askSlot) true sum number
+
+    all-out : (sum number : ℕ) → outlineOf s (all-read sum number) ≡ outline sum number
+    unfolding listedIn isPrinted sumOf
+    all-out sum number =
+        sym (outline-of s snapshot (printed sum) number bids asks)
+        ∙ ap₂ (λ (b a : Listing). outlineFrom snapshot b a true sum number) (side-of s (valuesOf s (ascii "bids") ds)) (side-of s (valuesOf s (ascii "asks") ds))
+
+    sum-out : (sum : ℕ) → outlineOf s (sum-read sum) ≡ outlineWhere (andThen (onceAt (met .gsn)) (wholeAt s)) (outline sum)
+    sum-out sum =
+        ap (outlineOf s) (then-assoc (only (values (ascii "gsn"))) (wholeAt s) (all-read sum))
+        ∙ then-out s (all-read sum) (outline sum) (andThen (only (values (ascii "gsn"))) (wholeAt s)) (andThen (onceAt (met .gsn)) (wholeAt s))
+        (ap (λ (x : Reading Span). andThen x (wholeAt s)) (only-is (values (ascii "gsn")) (met .gsn) gsn-is)) (λ n q. all-out sum n)
+
+    sides-out : outlineOf s sides-read ≡ numbersIn s snapshot (onceListed bidSlot) (onceListed askSlot) (met .checksum) (met .gsn)
+    unfolding numbersIn
+    sides-out =
+        ap (outlineOf s) (then-assoc (only (values (ascii "checksum"))) (checksumAt s) sum-read)
+        ∙ then-out s sum-read (λ sum. outlineWhere (andThen (onceAt (met .gsn)) (wholeAt s)) (outline sum))
+        (andThen (only (values (ascii "checksum"))) (checksumAt s)) (andThen (onceAt (met .checksum)) (checksumAt s))
+        (ap (λ (x : Reading Span). andThen x (checksumAt s)) (only-is (values (ascii "checksum")) (met .checksum) checksum-is)) (λ n q. sum-out n)
+
+  -- ---- from `data` on
+  module _ (snapshot : Bool) where
+    abbrev numbers : Data → Outline
+    numbers d = cond (d .«is_object») (numbersIn s snapshot (onceListed (d .bids)) (onceListed (d .asks)) (met .checksum) (met .gsn)) noOutline
+
+    abbrev data-read : Span → Reading Layout
+    data-read d = andThen (objectAt 15 s d) (sides-read snapshot)
+
+    data-out : (d : Span) → only (values (ascii "data")) ≡ reads d → outlineOf s (data-read d) ≡ numbers (met .body .last)
+    unfolding dataOf andThen outlineOf dataFrom noData
+    data-out d q = go (objectAt 15 s d) refl
+      where
+        go : (x : Reading (List Pair)) → objectAt 15 s d ≡ x → outlineOf s (andThen x (sides-read snapshot)) ≡ numbers (met .body .last)
+        go x h = at x ∙ ap numbers (sym (data-last ∙ last-only s (values (ascii "data")) (noData 0) d q ∙ ap (dataFrom s (d .to)) h))
+          where
+            at : (y : Reading (List Pair)) → outlineOf s (andThen y (sides-read snapshot)) ≡ numbers (dataFrom s (d .to) y)
+            at (reads ds) = sides-out snapshot ds
+            at refused = refl
+
+    body-out : outlineOf s (andThen (only (values (ascii "data"))) data-read) ≡ bodyIn s snapshot met
+    unfolding bodyIn
+    body-out =
+        then-out s data-read (λ d. numbers (met .body .last)) (only (values (ascii "data"))) (onceAt (met .body .mark))
+        (only-is (values (ascii "data")) (met .body .mark) data-mark) data-out
+
+  -- ---- whole
+  abbrev type-read : Bool → Reading Layout
+  type-read snapshot = andThen (only (values (ascii "data"))) (data-read snapshot)
+
+  abbrev product-read : Span → Reading Layout
+  product-read p = andThen (only (values (ascii "type"))) (λ t. andThen (isSnapshotAt s t) type-read)
+
+  abbrev channel-read : Span → Reading Layout
+  channel-read c = andThen (only (values (ascii "product"))) product-read
+
+  product-out : (p : Span) → outlineOf s (product-read p) ≡ outlineWhere (andThen (onceAt (met .kind)) (isSnapshotAt s)) (λ snapshot. bodyIn s snapshot met)
+  product-out p =
+      ap (outlineOf s) (then-assoc (only (values (ascii "type"))) (isSnapshotAt s) type-read)
+      ∙ then-out s type-read (λ snapshot. bodyIn s snapshot met) (andThen (only (values (ascii "type"))) (isSnapshotAt s)) (andThen (onceAt (met .kind)) (isSnapshotAt s))
+      (ap (λ (x : Reading Span). andThen x (isSnapshotAt s)) (only-is (values (ascii "type")) (met .kind) kind-is)) (λ b q. body-out b)
+
+  abbrev of-product : Span → Outline
+  of-product p = outlineWhere (andThen (onceAt (met .kind)) (isSnapshotAt s)) (λ snapshot. bodyIn s snapshot met)
+
+  abbrev of-channel : Span → Outline
+  of-channel c = outlineWhere (onceAt (met .product .mark)) of-product
+
+  channel-out : (c : Span) → outlineOf s (channel-read c) ≡ of-channel c
+  channel-out c =
+      then-out s product-read of-product (only (values (ascii "product"))) (onceAt (met .product .mark))
+      (only-is (values (ascii "product")) (met .product .mark) (ap (λ (l : Label). l .mark) product-is ∙ label-mark s name noLabel (values (ascii "product"))))
+      (λ p q. product-out p)
+
+  layout-out : outlineOf s (layoutM s ms) ≡ outlineIn s met
+  unfolding layoutM outlineIn
+  layout-out =
+      then-out s channel-read of-channel (only (values (ascii "channel"))) (onceAt (met .channel .mark))
+      (only-is (values (ascii "channel")) (met .channel .mark) (ap (λ (l : Label). l .mark) channel-is ∙ label-mark s (ascii "book") noLabel (values (ascii "channel"))))
+      (λ c q. channel-out c)
+
+  -- ---- check 4 and check 5
+  escaped-out : escapedM s ms ≡ (met .escaped || (met .channel .escaped || met .product .escaped))
+  unfolding escapedM
+  escaped-out =
+      let n = names-from name s noMembers ms in
+      let c = ap (λ (l : Label). l .escaped) channel-is ∙ label-escaped s (ascii "book") noLabel (values (ascii "channel")) in
+      let p = ap (λ (l : Label). l .escaped) product-is ∙ label-escaped s name noLabel (values (ascii "product")) in
+      sym (rw (n, c, p))
+
+  ours-out : oursM name s ms ≡ (met .channel .matches && met .product .matches)
+  unfolding oursM
+  ours-out =
+      let c = ap (λ (l : Label). l .matches) channel-is ∙ label-matches s (ascii "book") noLabel (values (ascii "channel")) in
+      let p = ap (λ (l : Label). l .matches) product-is ∙ label-matches s name noLabel (values (ascii "product")) in
+      sym (rw (c, p))
+
+-- ---- the message
+module _ (name s : List ℕ) where
+  abbrev heardOf : List Pair → Reading Heard
+  heardOf ms = reads (record { escaped = escapedM s ms; ours = oursM name s ms; layout = layoutM s ms })
+
+  abbrev pub toldFrom : ℕ → Reading (List Pair) → Told
+  toldFrom e x = toldOf s e (andThen x heardOf)
+
+  pub told-folds : (e : ℕ) (ms : List Pair) → toldFrom e (reads ms) ≡ toldIn s e (foldFrom (moreMembers name s) noMembers ms)
+  unfolding andThen toldOf toldIn
+  told-folds e ms = rw (escaped-out name s ms, ours-out name s ms, layout-out name s ms)
+
+  pub told-is : (at : ℕ) → toldFrom (endOf (value 16 s at)) (objectAt 16 s (record { from = at; to = endOf (value 16 s at) })) ≡ toldAt (heardM name) s at
+  unfolding toldAt heardM endOf andThen
+  told-is at = sym (go (value 16 s at) refl)
+    where
+      go : (x : End) → value 16 s at ≡ x
+          → elim x [ At e ↦ toldOf s e (heardM name s (record { from = at; to = e })) | Broken ↦ toldOf s 0 refused ] ≡ toldFrom (endOf x) (objectAt 16 s (record { from = at; to = endOf x }))
+      go (At e) q = refl
+      go Broken q = ap (toldFrom 0) (sym (object-broken 15 s (record { from = at; to = 0 }) q))
+
+pub members-end : (name s : List ℕ) (met : Members) (m : Pair) → moreMembers name s met m .body .end ≡ m .value .to
+unfolding moreMembers moreBody
+members-end name s met m = refl
+
+-- the loop over its members
+abbrev pub messageLoop : List ℕ → List ℕ → Loop Members Told
+messageLoop name s = record { step = moreMembers name s; close = toldIn s; bad = noFrame 0; end = λ (x : Members). x .body .end; ends = members-end name s }
+
+module _ (name s : List ℕ) (at : ℕ) where
+  pub told-none : (byteAt s at ≡ 123 → ⊥) → {e : ℕ} → e ≡ endOf (value 16 s at) → noFrame e ≡ toldAt (heardM name) s at
+  unfolding toldOf andThen
+  told-none n h = ap noFrame h ∙ made-other (toldFrom name s) 15 s at n ∙ told-is name s at
+
+  module _ (opens : byteAt s at ≡ 123) (e : ℕ) (h : e ≡ endOf (closing 125 s (at + 1))) where
+    pub told-empty : 0 < e → toldIn s e noMembers ≡ toldAt (heardM name) s at
+    told-empty p = made-empty (toldFrom name s) 15 s at opens (moreMembers name s) (toldIn s) noMembers (told-folds name s) e h p ∙ told-is name s at
+
+    pub told-start : e ≡ 0 → (k : ℕ) → k ≡ blanks s (at + 1) → Rest (messageLoop name s) 15 s noMembers k (toldAt (heardM name) s at)
+    unfolding toldOf andThen
+    told-start z k b =
+        rw (told-is name s at) at (made-start (toldFrom name s) 15 s at opens (moreMembers name s) (toldIn s) noMembers (told-folds name s) e h z k b)
+
+-- the places of the two numbers' marks
+abbrev pub Marked : List ℕ → Members → Type 0
+Marked s met = Placed s (met .checksum) × Placed s (met .gsn)
+
+pub marked-more : (name s : List ℕ) (met : Members) (n : Span) (d j e : ℕ) (next : Members) → next ≡ moreMembers name s met (record { name = n; value = record { from = j; to = endOf (value d s j) } })
+    → next .body .end ≡ e → j ≤ e → e ≤ length s → Marked s met → Marked s next
+unfolding moreMembers moreBody
+marked-more name s met n d j e next h q l t p =
+    let v : Pair = record { name = n; value = record { from = j; to = endOf (value d s j) } } in
+    let y : endOf (value d s j) ≡ e = sym (ap (λ (x : Members). x .body .end) h) ∙ q in
+    let l′ : j ≤ endOf (value d s j) = omega arith in
+    let t′ : endOf (value d s j) ≤ length s = omega arith in
+    rw h (placed-more s (ascii "checksum") (met .checksum) v (p .0) l′ t′, placed-more s (ascii "gsn") (met .gsn) v (p .1) l′ t′)
+
+pub unmarked-placed : (s : List ℕ) → Marked s noMembers
+unmarked-placed s = ((omega arith, omega arith), (omega arith, omega arith))

@@ -1,0 +1,46 @@
+-- `message_m::checksum_of` meets its contract: a member that was met once is read where it lies.
+-- Assumes nothing.
+use denote.Ref.{now}
+use mathlib.Core.Path.{_∙_, sym}
+use Rattle.json.specs.Names.{part}
+use Rattle.entries.specs.Places.{checksumAt}
+use Rattle.message_m.proofs.Outlines.{then-no, then-yes}
+use borrow.Author.Needs.{needs}
+use Rattle.message_m.proofs.checksum_of.Statement.{statement}
+use Rattle.message_m.proofs.checksum_of.Tie as tie
+
+returns : tie.Need-returns
+returns c =
+    let a = c .before .before .before .args in
+    let s = now (a .s) in
+    sym (then-no (a .mark) (checksumAt s) (c .if1 .taken))
+
+sub-parse-checksum : tie.Need-sub-parse-checksum
+sub-parse-checksum c = search needs
+
+part-parse-checksum-start : tie.Need-part-parse-checksum-start
+part-parse-checksum-start c = search needs
+
+part-parse-checksum-end : tie.Need-part-parse-checksum-end
+part-parse-checksum-end c = search needs
+
+parse-checksum-requires : tie.Need-parse-checksum-requires
+parse-checksum-requires c κs = search needs
+
+returns-2 : tie.Need-returns-2
+unfolding checksumAt part
+returns-2 c =
+    let a = c .before .before .before .before .before .args in
+    let s = now (a .s) in
+    c .parse-checksum .ensures ∙ sym (then-yes (a .mark) (checksumAt s) (c .before .before .if1 .left))
+
+pub checksum-of-spec : {M : Type 1} → statement M
+checksum-of-spec =
+    tie.close
+    (tie.spec
+    returns
+    sub-parse-checksum
+    part-parse-checksum-start
+    part-parse-checksum-end
+    parse-checksum-requires
+    returns-2)

@@ -1,0 +1,46 @@
+-- `message_m::gsn_of` meets its contract: a member that was met once is read where it lies.
+-- Assumes nothing.
+use denote.Ref.{now}
+use mathlib.Core.Path.{_∙_, sym}
+use Rattle.json.specs.Names.{part}
+use Rattle.entries.specs.Places.{wholeAt}
+use Rattle.message_m.proofs.Outlines.{then-no, then-yes}
+use borrow.Author.Needs.{needs}
+use Rattle.message_m.proofs.gsn_of.Statement.{statement}
+use Rattle.message_m.proofs.gsn_of.Tie as tie
+
+returns : tie.Need-returns
+returns c =
+    let a = c .before .before .before .args in
+    let s = now (a .s) in
+    sym (then-no (a .mark) (wholeAt s) (c .if1 .taken))
+
+sub-parse-whole : tie.Need-sub-parse-whole
+sub-parse-whole c = search needs
+
+part-parse-whole-start : tie.Need-part-parse-whole-start
+part-parse-whole-start c = search needs
+
+part-parse-whole-end : tie.Need-part-parse-whole-end
+part-parse-whole-end c = search needs
+
+parse-whole-requires : tie.Need-parse-whole-requires
+parse-whole-requires c κs = search needs
+
+returns-2 : tie.Need-returns-2
+unfolding wholeAt part
+returns-2 c =
+    let a = c .before .before .before .before .before .args in
+    let s = now (a .s) in
+    c .parse-whole .ensures ∙ sym (then-yes (a .mark) (wholeAt s) (c .before .before .if1 .left))
+
+pub gsn-of-spec : {M : Type 1} → statement M
+gsn-of-spec =
+    tie.close
+    (tie.spec
+    returns
+    sub-parse-whole
+    part-parse-whole-start
+    part-parse-whole-end
+    parse-whole-requires
+    returns-2)

@@ -1,0 +1,168 @@
+-- What one walk over a message of dialect M collects, member by member, and what is told of the message in the end.
+-- Assumes nothing: these are definitions.
+use Prim.Native.Nat.{ℕ, _≤_}
+use mathlib.Core.Bool.{Bool, true, false, _&&_, _||_, cond}
+use mathlib.Core.List.{List}
+use lib.Dec.{eqb}
+use lib.ListN.{length}
+use Rattle.decimal.specs.Ascii.{ascii}
+use Rattle.decimal.specs.Digits.{Reading, reads, refused}
+use Rattle.json_tokens.specs.Tokens.{endOf}
+use Rattle.json.specs.Json.{Span, Pair, value}
+use Rattle.json.specs.Names.{means, hasBackslash}
+use Rattle.entries.specs.Places.{andThen, isString, objectAt, valuesOf, wholeAt, checksumAt}
+use Rattle.entries.specs.Rows.{entryM}
+use Rattle.layout.specs.Layout.{listedAt}
+use Rattle.layout.specs.Marks.{unmarked, more, emptySlot, moreListed, slotsOf}
+use Rattle.layout.specs.Told.{notListed, listingOf, noOutline, outlineFrom}
+use Rattle.layout.specs.declared.Listing.{Listing}
+use Rattle.layout.specs.declared.Mark.{Mark}
+use Rattle.layout.specs.declared.Slot.{Slot}
+use Rattle.layout.specs.declared.Outline.{Outline}
+use Rattle.layout.specs.declared.Told.{Told}
+use Rattle.message_m.specs.LayoutM.{isSnapshotAt}
+use Rattle.message_m.specs.declared.Place.{Place}
+use Rattle.message_m.specs.declared.Data.{Data}
+use Rattle.message_m.specs.declared.Label.{Label}
+use Rattle.message_m.specs.declared.Body.{Body}
+use Rattle.message_m.specs.declared.Members.{Members}
+
+-- What follows the members of one name: `add` takes the value of one more.
+unfoldable pub onMember : {A : Type 0} → List ℕ → List ℕ → (A → Span → A) → A → Pair → A
+onMember s name add x m = cond (means s (m .name) name) (add x (m .value)) x
+
+abbrev pub pairOf : Place → Pair
+pairOf p = record { name = record { from = p .«name_from»; to = p .«name_to» }; value = record { from = p .from; to = p .to } }
+
+-- The member whose name lies from `first` to `past`, and whose value begins at `from`; it ends at 0 where it is not JSON.
+abbrev pub memberAt : ℕ → List ℕ → ℕ → ℕ → ℕ → Pair
+memberAt depth s first past from = record { name = record { from = first; to = past }; value = record { from = from; to = endOf (value depth s from) } }
+
+-- ---- the value of a member `data`
+
+abbrev pub sideM : List ℕ → Span → Listing
+sideM s a = listingOf s (listedAt entryM s a)
+
+-- A value that is no object.
+unfoldable pub noData : ℕ → Data
+noData end = record { end = end; «is_object» = false; bids = emptySlot; asks = emptySlot }
+
+-- An object that ends at `end`, with the sides that were met in it.
+abbrev pub dataEnd : ℕ → Data → Data
+dataEnd end d = record { end = end; «is_object» = true; bids = d .bids; asks = d .asks }
+
+abbrev pub emptyData : Data
+emptyData = dataEnd 0 (noData 0)
+
+-- One member more.
+unfoldable pub moreData : List ℕ → Data → Pair → Data
+moreData s d m =
+    record {
+      end = m .value .to;
+      «is_object» = true;
+      bids = onMember s (ascii "bids") (moreListed (sideM s)) (d .bids) m;
+      asks = onMember s (ascii "asks") (moreListed (sideM s)) (d .asks) m;
+    }
+
+unfoldable pub dataFrom : List ℕ → ℕ → Reading (List Pair) → Data
+dataFrom s end (reads ms) =
+    record {
+      end = end;
+      «is_object» = true;
+      bids = slotsOf (sideM s) (valuesOf s (ascii "bids") ms);
+      asks = slotsOf (sideM s) (valuesOf s (ascii "asks") ms);
+    }
+dataFrom s end refused = noData end
+
+unfoldable pub dataOf : List ℕ → Span → Data
+dataOf s a = dataFrom s (a .to) (objectAt 15 s a)
+
+-- ---- the members of the message
+
+abbrev pub noLabel : Label
+noLabel = record { mark = unmarked; escaped = false; matches = false }
+
+-- One member more of a name, whose value is compared with a text.
+unfoldable pub moreLabel : List ℕ → List ℕ → Label → Span → Label
+moreLabel s text l a =
+    record { mark = more (l .mark) a; escaped = l .escaped || (isString s a && hasBackslash s a); matches = l .matches || means s a text }
+
+unfoldable pub moreBody : List ℕ → Body → Pair → Body
+moreBody s b m =
+    record {
+      end = m .value .to;
+      mark = onMember s (ascii "data") more (b .mark) m;
+      last = onMember s (ascii "data") (λ d a. dataOf s a) (b .last) m;
+    }
+
+abbrev pub noMembers : Members
+noMembers =
+    record {
+      body = record { end = 0; mark = unmarked; last = noData 0 };
+      escaped = false;
+      channel = noLabel;
+      product = noLabel;
+      kind = unmarked;
+      checksum = unmarked;
+      gsn = unmarked;
+    }
+
+-- One member more of a message to a book of that name.
+unfoldable pub moreMembers : List ℕ → List ℕ → Members → Pair → Members
+moreMembers name s met m =
+    record {
+      body = moreBody s (met .body) m;
+      escaped = met .escaped || hasBackslash s (m .name);
+      channel = onMember s (ascii "channel") (moreLabel s (ascii "book")) (met .channel) m;
+      product = onMember s (ascii "product") (moreLabel s name) (met .product) m;
+      kind = onMember s (ascii "type") more (met .kind) m;
+      checksum = onMember s (ascii "checksum") more (met .checksum) m;
+      gsn = onMember s (ascii "gsn") more (met .gsn) m;
+    }
+
+-- ---- the layout, once all members were met
+
+-- The value of a name that was met once.
+unfoldable pub onceAt : Mark → Reading Span
+onceAt m = cond (eqb (m .times) 1) (reads (record { from = m .from; to = m .to })) refused
+
+unfoldable pub onceListed : Slot → Listing
+onceListed t = cond (eqb (t .times) 1) (t .listing) notListed
+
+unfoldable pub outlineWhere : {A : Type 0} → Reading A → (A → Outline) → Outline
+outlineWhere (reads a) outline = outline a
+outlineWhere refused outline = noOutline
+
+unfoldable pub numbersIn : List ℕ → Bool → Listing → Listing → Mark → Mark → Outline
+numbersIn s snapshot bids asks checksum gsn =
+    outlineWhere (andThen (onceAt checksum) (checksumAt s)) (λ sum.
+    outlineWhere (andThen (onceAt gsn) (wholeAt s)) (λ number.
+    outlineFrom snapshot bids asks true sum number))
+
+unfoldable pub bodyIn : List ℕ → Bool → Members → Outline
+bodyIn s snapshot met =
+    outlineWhere (onceAt (met .body .mark)) (λ d.
+    cond (met .body .last .«is_object»)
+    (numbersIn s snapshot (onceListed (met .body .last .bids)) (onceListed (met .body .last .asks)) (met .checksum) (met .gsn))
+    noOutline)
+
+unfoldable pub outlineIn : List ℕ → Members → Outline
+outlineIn s met =
+    outlineWhere (onceAt (met .channel .mark)) (λ c.
+    outlineWhere (onceAt (met .product .mark)) (λ p.
+    outlineWhere (andThen (onceAt (met .kind)) (isSnapshotAt s)) (λ snapshot.
+    bodyIn s snapshot met)))
+
+unfoldable pub toldIn : List ℕ → ℕ → Members → Told
+toldIn s end met =
+    record {
+      end = end;
+      framed = true;
+      escaped = met .escaped || (met .channel .escaped || met .product .escaped);
+      ours = met .channel .matches && met .product .matches;
+      outline = outlineIn s met;
+    }
+
+-- A mark's place lies in the text.
+abbrev pub Placed : List ℕ → Mark → Type 0
+Placed s m = (m .from ≤ m .to) × (m .to ≤ length s)

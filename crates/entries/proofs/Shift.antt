@@ -3,7 +3,7 @@
 use Prim.Native.Nat.{ℕ, zero, suc, _+_, _-_}
 use mathlib.Core.Path.{_≡_, refl, sym, ap, ap₂, _∙_}
 use mathlib.Core.Bool.{Bool, true, false, _&&_, cond}
-use mathlib.Core.List.{List, [], _∷_, map}
+use mathlib.Core.List.{List, [], _∷_, _++_, map}
 use native.Mathlib.Omega.{arith}
 use lib.Dec.{eqb}
 use lib.ListN.{take, drop}
@@ -15,7 +15,7 @@ use Rattle.json_tokens.proofs.Shift.{past-one, byte-shift}
 use Rattle.json.specs.Json.{Span, Items, elements, value}
 use Rattle.json.proofs.Shift.{shiftedSpan, ItemsShifts, both-items, no-items, elements-shift}
 use Rattle.entries.specs.Places.{andThen, all, isString, contents, arrayAt, inner}
-use Rattle.entries.specs.Rows.{Row, rowK, entryK, rowM, entryM, entriesAt, badPrice, badSize, numberAt}
+use Rattle.entries.specs.Rows.{Row, rowK, entryK, rowM, entryM, entriesAt, badPrice, badSize, badTexts, numberAt}
 use Rattle.entries.specs.Summary.{zeroSize, anyBroken, anyZero}
 
 -- an entry, k bytes later
@@ -78,6 +78,20 @@ module _ (k : ℕ) (s : List ℕ) where
   unfolding anyZero shiftedRow
   zeros-shift [] = refl
   zeros-shift (r ∷ l) = rw (zero-shift k s (r .size), zeros-shift l)
+
+  pub texts-shift : (snapshot : Bool) (rows : List Row) → badTexts snapshot s (map (shiftedRow k) rows) ≡ map (shiftedSpan k) (badTexts snapshot (drop k s) rows)
+  unfolding badTexts shiftedRow
+  texts-shift snapshot [] = refl
+  texts-shift snapshot (r ∷ l) =
+      rw (price-shift k s (r .price), size-shift k s (r .size) snapshot, texts-shift snapshot l)
+      (go (badPrice (drop k s) (r .price)) (badSize snapshot (drop k s) (r .size)))
+    where
+      go : (b c : Bool) → cond b (shiftedSpan k (r .price) ∷ []) [] ++ (cond c (shiftedSpan k (r .size) ∷ []) [] ++ map (shiftedSpan k) (badTexts snapshot (drop k s) l))
+          ≡ map (shiftedSpan k) (cond b (r .price ∷ []) [] ++ (cond c (r .size ∷ []) [] ++ badTexts snapshot (drop k s) l))
+      go true true = refl
+      go true false = refl
+      go false true = refl
+      go false false = refl
 
   -- ---- entries
   contents-shift : {x y : Items Span} → ItemsShifts k (shiftedSpan k) x y → contents x ≡ changed (map (shiftedSpan k)) (contents y)

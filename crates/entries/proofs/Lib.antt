@@ -5,3 +5,4 @@ pub mod Strings
 pub mod Counting
 pub mod Summary
 pub mod Claims
+pub mod Shift

@@ -21,10 +21,10 @@ use Rattle.entries.proofs.Summary.{each}
 use Rattle.loader.specs.Loaded.{rowsOf, rowsAt, Loadable}
 use Rattle.loader.specs.Reading.{firstAt}
 
-no-rows : {A B : Type 0} {r : B} → refused ≡ reads r → A
+pub no-rows : {A B : Type 0} {r : B} → refused ≡ reads r → A
 no-rows h = let z : _≡_ {A = ℕ} 0 1 = cc in absurd (omega arith)
 
-same-rows : {A : Type 0} {x y : A} → _≡_ {A = Reading A} (reads x) (reads y) → y ≡ x
+pub same-rows : {A : Type 0} {x y : A} → _≡_ {A = Reading A} (reads x) (reads y) → y ≡ x
 same-rows h = cc
 
 -- ---- where the first entry begins

@@ -1,4 +1,22 @@
 // An order book: opened, handed messages, asked questions, written out.
+//
+//     let mut book = book::open(Dialect::K, 10, name);
+//     let step = book.take(message);
+//     book = step.book;
+//     let best = book.level(Scope::Current, Side::Bids, 0);
+//
+// A method takes the book by value and hands it back with its answer.
+use decimal::Decimal;
+use message::Answer;
+use settings::Dialect;
+use settings::Settings;
+use side::Found;
+use side::Levels;
+use side::Side;
+ghost use mathlib.Core.Path.{_≡_};
+ghost use Rattle.book.specs.Reference.{hear, whichNumber, howManyUpdates};
+ghost use Rattle.book.specs.Shown.{statusOf, shows, Good, Opened, Told, AnswersCounts, AnswersLevel, AnswersAmount};
+ghost use Rattle.book.specs.Asking.{firstState, answers, refusalOf, levelIn};
 
 // What a question is about.
 pub enum Scope {
@@ -6,4 +24,232 @@ pub enum Scope {
     Current,
     // The book as it last was good, also while it waits for a snapshot.
     LastGood,
+}
+
+pub enum State {
+    // Opened with bad settings.
+    Shut,
+    // Until a snapshot is taken.
+    Waiting,
+    Live,
+}
+
+pub struct Book {
+    settings: Settings,
+    state: State,
+    // Whether a snapshot was ever taken.
+    ever: bool,
+    bids: Levels,
+    asks: Levels,
+    // The sequence number.
+    number: u64,
+    // How many updates were taken since the last snapshot.
+    updates: u64,
+}
+
+// The answer to a message.
+pub struct Step {
+    pub book: Book,
+    pub answer: Answer,
+}
+
+// How many bids and asks there are.
+pub struct Counted {
+    pub book: Book,
+    pub answer: Answer,
+    pub bids: usize,
+    pub asks: usize,
+}
+
+// A level of a side.
+pub struct Levelled {
+    pub book: Book,
+    pub answer: Answer,
+    pub price: Decimal,
+    pub size: Decimal,
+}
+
+// A sequence number, a count of updates, or a length.
+pub struct Amounted {
+    pub book: Book,
+    pub answer: Answer,
+    pub amount: u64,
+}
+
+// A book with these settings: waiting, or shut where they are bad.
+pub fn open(dialect: Dialect, depth: usize, name: &[u8]) -> Book
+    ensures { λ r. ⌜ Opened (record { dialect = dialect; depth = depth; name = now (name .entry) }) r ⌝ }
+{
+    let settings = settings::choose(dialect, depth, name);
+    Book {
+        settings,
+        state: first_state(settings.dialect),
+        ever: false,
+        bids: side::empty(),
+        asks: side::empty(),
+        number: 0,
+        updates: 0,
+    }
+}
+
+fn first_state(dialect: Dialect) -> State
+    ensures { λ r. ⌜ r ≡ firstState dialect ⌝ }
+{
+    match dialect {
+        Dialect::K => State::Waiting,
+        Dialect::M => State::Waiting,
+        Dialect::Unknown => State::Shut,
+    }
+}
+
+impl Book {
+    // The book after a message.
+    pub fn take(self, s: &[u8]) -> Step
+        requires { ⌜ Good self ⌝ }
+        ensures { λ r. ⌜ Told (hear (shows self) (now (s .entry))) r ⌝ }
+    {
+        match self.state {
+            State::Shut => Step {
+                book: self,
+                answer: Answer::Shut,
+            },
+            State::Waiting => taking::hear(self, s),
+            State::Live => taking::hear(self, s),
+        }
+    }
+
+    // How many bids and asks there are.
+    pub fn counts(self, scope: Scope) -> Counted
+        requires { ⌜ Good self ⌝ }
+        ensures { λ r. ⌜ AnswersCounts self scope r ⌝ }
+    {
+        if stands(self.state, self.ever, scope) {
+            return Counted {
+                book: self,
+                answer: Answer::Taken,
+                bids: self.bids.count,
+                asks: self.asks.count,
+            };
+        }
+        Counted {
+            book: self,
+            answer: refusal(self.state),
+            bids: 0,
+            asks: 0,
+        }
+    }
+
+    // Level i of a side, counted from 0 as best.
+    pub fn level(self, scope: Scope, side: Side, i: usize) -> Levelled
+        requires { ⌜ Good self ⌝ }
+        ensures { λ r. ⌜ AnswersLevel self scope side i r ⌝ }
+    {
+        if stands(self.state, self.ever, scope) {
+            return match level_in(self, side, i) {
+                Found::At(level) => Levelled {
+                    book: self,
+                    answer: Answer::Taken,
+                    price: side::price_of(level),
+                    size: side::size_of(level),
+                },
+                Found::Nothing => no_level(self, Answer::NoLevel),
+            };
+        }
+        no_level(self, refusal(self.state))
+    }
+
+    // The sequence number.
+    pub fn number(self, scope: Scope) -> Amounted
+        requires { ⌜ Good self ⌝ }
+        ensures { λ r. ⌜ AnswersAmount self (whichNumber scope) r ⌝ }
+    {
+        if stands(self.state, self.ever, scope) {
+            return Amounted {
+                book: self,
+                answer: Answer::Taken,
+                amount: self.number,
+            };
+        }
+        no_amount(self, refusal(self.state))
+    }
+
+    // How many updates were taken since the last snapshot.
+    pub fn updates(self, scope: Scope) -> Amounted
+        requires { ⌜ Good self ⌝ }
+        ensures { λ r. ⌜ AnswersAmount self (howManyUpdates scope) r ⌝ }
+    {
+        if stands(self.state, self.ever, scope) {
+            return Amounted {
+                book: self,
+                answer: Answer::Taken,
+                amount: self.updates,
+            };
+        }
+        no_amount(self, refusal(self.state))
+    }
+}
+
+// Whether a question of that scope is answered.
+fn stands(state: State, ever: bool, scope: Scope) -> bool
+    ensures { λ r. ⌜ r ≡ answers (statusOf state) ever scope ⌝ }
+{
+    match state {
+        State::Shut => false,
+        State::Waiting => match scope {
+            Scope::Current => false,
+            Scope::LastGood => ever,
+        },
+        State::Live => match scope {
+            Scope::Current => true,
+            Scope::LastGood => ever,
+        },
+    }
+}
+
+// The answer to a question that is refused.
+fn refusal(state: State) -> Answer
+    ensures { λ r. ⌜ r ≡ refusalOf (statusOf state) ⌝ }
+{
+    match state {
+        State::Shut => Answer::Shut,
+        State::Waiting => Answer::NoSnapshot,
+        State::Live => Answer::NoSnapshot,
+    }
+}
+
+fn level_in(book: Book, side: Side, i: usize) -> Found
+    requires { ⌜ Good book ⌝ }
+    ensures { λ r. ⌜ r ≡ levelIn book side i ⌝ }
+{
+    match side {
+        Side::Bids => side::level_at(book.bids, i),
+        Side::Asks => side::level_at(book.asks, i),
+    }
+}
+
+fn no_level(book: Book, answer: Answer) -> Levelled
+    ensures { λ r. ⌜ r ≡ record { book = book; answer = answer; price = record { digits = 0; decimals = 0 }; size = record { digits = 0; decimals = 0 } } ⌝ }
+{
+    Levelled {
+        book,
+        answer,
+        price: Decimal {
+            digits: 0,
+            decimals: 0,
+        },
+        size: Decimal {
+            digits: 0,
+            decimals: 0,
+        },
+    }
+}
+
+fn no_amount(book: Book, answer: Answer) -> Amounted
+    ensures { λ r. ⌜ r ≡ record { book = book; answer = answer; amount = 0 } ⌝ }
+{
+    Amounted {
+        book,
+        answer,
+        amount: 0,
+    }
 }

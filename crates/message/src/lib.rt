@@ -1,8 +1,21 @@
 // What a message says, from the settings and the text alone: the first refusal of checks 1 to 8 that fits, or where its entries
 // lie, its checksum and its sequence number. One walk over the message finds out all of it.
+use json::MAX_DEPTH;
+use json::value_end;
+use json_tokens::is_ended;
+use json_tokens::skip_blanks;
 use layout::Outline;
 use layout::Told;
+use layout::untold;
+use message_k::k_message;
+use message_m::m_message;
+use settings::Dialect;
 ghost use mathlib.Core.Path.{_≡_};
+ghost use mathlib.Core.Bool.{true};
+ghost use Rattle.settings.specs.Settings.{good};
+ghost use Rattle.layout.specs.Told.{toldAt};
+ghost use Rattle.message.specs.Meaning.{heardIn, framed, checked, judged};
+ghost use Rattle.message.specs.Verdict.{verdictOf};
 ghost use Rattle.message.specs.Deciding.{decided, addressedTold, laidOutline};
 
 // The longest message.
@@ -50,6 +63,57 @@ pub enum Answer {
 pub enum Verdict {
     Fails(Answer),
     Passes(Outline),
+}
+
+// Checks 1 to 8.
+pub fn read(dialect: Dialect, depth: usize, name: &[u8], s: &[u8]) -> Verdict
+    ensures { λ r. ⌜ r ≡ verdictOf (now (s .entry)) (judged (record { dialect = dialect; depth = depth; name = now (name .entry) }) (now (s .entry))) ⌝ }
+{
+    if settings::is_good(dialect, depth, name) {
+        return read_open(dialect, depth, name, s);
+    }
+    Verdict::Fails(Answer::Shut)
+}
+
+// Checks 2 to 8, of a book that is not shut.
+pub fn read_open(dialect: Dialect, depth: usize, name: &[u8], s: &[u8]) -> Verdict
+    requires { ⌜ good (record { dialect = dialect; depth = depth; name = now name }) ≡ true ⌝ }
+    ensures { λ r. ⌜ r ≡ verdictOf (now (s .entry)) (checked (record { dialect = dialect; depth = depth; name = now (name .entry) }) (now (s .entry))) ⌝ }
+{
+    match read_frame(dialect, depth, name, s) {
+        Verdict::Fails(answer) => Verdict::Fails(answer),
+        Verdict::Passes(outline) => {
+            if outline.bad {
+                return Verdict::Fails(Answer::BadDecimal);
+            }
+            Verdict::Passes(outline)
+        }
+    }
+}
+
+// Checks 2 to 7, of a book that is not shut.
+fn read_frame(dialect: Dialect, depth: usize, name: &[u8], s: &[u8]) -> Verdict
+    requires { ⌜ good (record { dialect = dialect; depth = depth; name = now name }) ≡ true ⌝ }
+    ensures { λ r. ⌜ r ≡ verdictOf (now (s .entry)) (framed (record { dialect = dialect; depth = depth; name = now (name .entry) }) (now (s .entry))) ⌝ }
+{
+    if MAX_MESSAGE < s.len() {
+        return Verdict::Fails(Answer::TooLong);
+    }
+    let told = told_at(dialect, depth, name, s, skip_blanks(s, 0));
+    let ended = is_ended(s, told.end);
+    decide(told, ended)
+}
+
+// What one walk over the message tells.
+fn told_at(dialect: Dialect, depth: usize, name: &[u8], s: &[u8], at: usize) -> Told
+    requires { ⌜ good (record { dialect = dialect; depth = depth; name = now name }) ≡ true ⌝ }
+    ensures { λ r. ⌜ r ≡ toldAt (heardIn dialect (record { dialect = dialect; depth = depth; name = now (name .entry) })) (now (s .entry)) at ⌝ }
+{
+    match dialect {
+        Dialect::K => k_message(s, at, depth, name),
+        Dialect::M => m_message(s, at, name),
+        Dialect::Unknown => untold(value_end(s, at, MAX_DEPTH)),
+    }
 }
 
 // The first of checks 3 to 7 that fails, by what was told of the message; `ended` says that nothing stands past its value.

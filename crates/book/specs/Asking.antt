@@ -1,0 +1,41 @@
+-- What the methods of a book ask on their way. Assumes nothing: these are definitions.
+use Prim.Native.Nat.{ℕ}
+use mathlib.Core.Bool.{Bool, true, false}
+use Rattle.settings.specs.declared.Dialect.{Dialect}
+use Rattle.settings.specs.declared.Dialect.the-variants.{K, M, Unknown}
+use Rattle.side.specs.Kept.{held} 
+use Rattle.side.specs.Kept as kept·
+use Rattle.side.specs.declared.Side.{Side}
+use Rattle.side.specs.declared.Side.the-variants.{Bids, Asks}
+use Rattle.side.specs.declared.Found.{Found}
+use Rattle.message.specs.declared.Answer.{Answer}
+use Rattle.message.specs.declared.Answer.the-variants.{Taken, NoSnapshot} 
+use Rattle.message.specs.declared.Answer.the-variants as answer·
+use Rattle.book.specs.Reference.{Status, shut, waiting, live}
+use Rattle.book.specs.declared.Scope.{Scope}
+use Rattle.book.specs.declared.Scope.the-variants.{Current, LastGood}
+use Rattle.book.specs.declared.State.{State}
+use Rattle.book.specs.declared.State.the-variants.{Shut, Waiting, Live}
+use Rattle.book.specs.declared.Book.{Book}
+
+unfoldable pub firstState : Dialect → State
+firstState K = Waiting
+firstState M = Waiting
+firstState Unknown = Shut
+
+-- Whether a question is answered, of a book of that status, with or without a last good state.
+unfoldable pub answers : Status → Bool → Scope → Bool
+answers shut ever scope = false
+answers waiting ever Current = false
+answers waiting ever LastGood = ever
+answers live ever Current = true
+answers live ever LastGood = ever
+
+unfoldable pub refusalOf : Status → Answer
+refusalOf shut = answer·.Shut
+refusalOf waiting = NoSnapshot
+refusalOf live = NoSnapshot
+
+unfoldable pub levelIn : Book → Side → ℕ → Found
+levelIn b Bids i = kept·.levelAt i (held (b .bids))
+levelIn b Asks i = kept·.levelAt i (held (b .asks))

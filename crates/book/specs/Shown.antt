@@ -1,0 +1,87 @@
+-- The code's book: what it shows, what holds of it, and what each method ensures. Assumes nothing: these are definitions.
+use Prim.Native.Nat.{ℕ, _≤_, _<_, _^_}
+use mathlib.Core.Path.{_≡_}
+use mathlib.Core.Bool.{Bool, true, false}
+use mathlib.Core.List.{List, map}
+use lib.ListN.{length}
+use Rattle.decimal.specs.Decimal.{number}
+use Rattle.decimal.specs.declared.Decimal.{Decimal}
+use Rattle.settings.specs.Settings.{Terms, good, termsOf}
+use Rattle.side.specs.Level.{shown}
+use Rattle.side.specs.Kept.{held}
+use Rattle.side.specs.declared.Side.{Side}
+use Rattle.side.specs.declared.Side.the-variants.{Bids, Asks}
+use Rattle.sides.specs.Worked.{Sound}
+use Rattle.book.specs.Reference.{Status, shut, waiting, live, isShut, isM, Reference, opened, After, hear, Reply, Ask, message, howMany, levelAt, whichNumber, howManyUpdates, write, counts, level, amount, does}
+use Rattle.book.specs.declared.Scope.{Scope}
+use Rattle.book.specs.declared.State.{State}
+use Rattle.book.specs.declared.State.the-variants.{Shut, Waiting, Live}
+use Rattle.book.specs.declared.Book.{Book}
+use Rattle.book.specs.declared.Step.{Step}
+use Rattle.book.specs.declared.Counted.{Counted}
+use Rattle.book.specs.declared.Levelled.{Levelled}
+use Rattle.book.specs.declared.Amounted.{Amounted}
+
+unfoldable pub statusOf : State → Status
+statusOf Shut = shut
+statusOf Waiting = waiting
+statusOf Live = live
+
+unfoldable pub shows : Book → Reference
+shows b =
+    record {
+      terms = termsOf (b .settings);
+      status = statusOf (b .state);
+      bids = map shown (held (b .bids));
+      asks = map shown (held (b .asks));
+      number = b .number;
+      updates = b .updates;
+      ever = b .ever;
+    }
+
+-- What holds of every book that `open` or a method hands out.
+pub record Good (b : Book) : Type 0 where
+  pub room : length (b .settings .name) ≡ 16
+  pub short : b .settings .length ≤ 16
+  -- a book that is not shut has good settings
+  pub terms : isShut (statusOf (b .state)) ≡ false → good (termsOf (b .settings)) ≡ true
+  pub bids : Sound (isM (b .settings .dialect)) Bids (b .bids)
+  pub asks : Sound (isM (b .settings .dialect)) Asks (b .asks)
+  pub few-bids : length (held (b .bids)) ≤ b .settings .depth
+  pub few-asks : length (held (b .asks)) ≤ b .settings .depth
+  -- a sequence number has at most 19 digits
+  pub small : b .number < 10 ^ 19
+
+pub record Opened (t : Terms) (b : Book) : Type 0 where
+  pub good : Good b
+  pub same : shows b ≡ opened t
+
+-- A book after a message.
+pub record Told (a : After) (r : Step) : Type 0 where
+  pub good : Good (r .book)
+  pub same : shows (r .book) ≡ a .book
+  pub answer : r .answer ≡ a .answer
+
+-- ---- questions and the writer: the book is handed back as it was
+
+pub record AnswersCounts (b : Book) (scope : Scope) (r : Counted) : Type 0 where
+  pub book : r .book ≡ b
+  pub answer : (buffer : List ℕ) → r .answer ≡ does (shows b) (howMany scope) buffer .answer
+  pub value : (buffer : List ℕ) → counts (r .bids) (r .asks) ≡ does (shows b) (howMany scope) buffer .value
+
+pub record AnswersLevel (b : Book) (scope : Scope) (side : Side) (i : ℕ) (r : Levelled) : Type 0 where
+  pub book : r .book ≡ b
+  pub answer : (buffer : List ℕ) → r .answer ≡ does (shows b) (levelAt scope side i) buffer .answer
+  pub value : (buffer : List ℕ) → level (record { price = number (r .price); size = number (r .size) }) ≡ does (shows b) (levelAt scope side i) buffer .value
+
+pub record AnswersAmount (b : Book) (ask : Ask) (r : Amounted) : Type 0 where
+  pub book : r .book ≡ b
+  pub answer : (buffer : List ℕ) → r .answer ≡ does (shows b) ask buffer .answer
+  pub value : (buffer : List ℕ) → amount (r .amount) ≡ does (shows b) ask buffer .value
+
+-- The writer: the buffer afterwards too.
+pub record Wrote (b : Book) (before after : List ℕ) (r : Amounted) : Type 0 where
+  pub book : r .book ≡ b
+  pub answer : r .answer ≡ does (shows b) write before .answer
+  pub value : amount (r .amount) ≡ does (shows b) write before .value
+  pub buffer : after ≡ does (shows b) write before .buffer

@@ -494,6 +494,9 @@ fn is_update(each: bool, before: Members, all: Members) -> bool
     if 1 < all.bids.times {
         return false;
     }
+    if !each {
+        return false;
+    }
     if all.checksum.mark.times != 1 {
         return false;
     }
@@ -503,10 +506,11 @@ fn is_update(each: bool, before: Members, all: Members) -> bool
     if all.snapshot_asks.times != 0 {
         return false;
     }
-    if all.snapshot_bids.times != 0 {
-        return false;
+    if all.snapshot_bids.times == 0 {
+        true
+    } else {
+        false
     }
-    each
 }
 
 fn k_outline(snapshot: bool, update: bool, all: Members) -> Outline

@@ -1,54 +1,45 @@
+-- `one_object` meets its contract: by whether its parts are what they must be.
+-- Assumes nothing.
+use mathlib.Core.Path.{ap, _∙_}
+use Rattle.message_k.specs.MembersK.{hasMore, snapshotBy, updateBy, outlineBy}
+use Rattle.message_k.proofs.Outlines.{one-is, one-no-object, one-no-whole}
 use borrow.Author.Needs.{needs}
 use Rattle.message_k.proofs.one_object.Statement.{statement}
 use Rattle.message_k.proofs.one_object.Tie as tie
-use Rattle.message_k.proofs.one_object.Reads as reads
-use Rattle.message_k.proofs.one_object.Lts as lts
-use Rattle.layout.proofs.no_outline.Reads as no-outline-reads
-use Rattle.message_k.proofs.has_more.Reads as has-more-reads
-use Rattle.message_k.proofs.is_snapshot.Reads as is-snapshot-reads
-use Rattle.message_k.proofs.is_update.Reads as is-update-reads
-use Rattle.message_k.proofs.k_outline.Reads as k-outline-reads
-use Rattle.message_k.proofs.no_members.Reads as no-members-reads
 
--- src/lib.rt:426:17
 no-members-requires : tie.Need-no-members-requires
 no-members-requires c κs = search needs
 
--- src/lib.rt:427:36
 has-more-requires : tie.Need-has-more-requires
 has-more-requires c κs = search needs
 
--- src/lib.rt:427:17
 is-update-requires : tie.Need-is-update-requires
 is-update-requires c κs = search needs
 
--- src/lib.rt:428:30
 is-snapshot-requires : tie.Need-is-snapshot-requires
 is-snapshot-requires c κs = search needs
 
--- src/lib.rt:428:13
 k-outline-requires : tie.Need-k-outline-requires
 k-outline-requires c κs = search needs
 
--- src/lib.rt:428:13
 returns : tie.Need-returns
-returns c = ?
+returns c =
+    let a = c .before .before .before .before .before .before .before .args in
+    let n = c .before .before .before .before .no-members .ensures in
+    let u = c .before .before .is-update .ensures ∙ ap (λ h. updateBy h (c .before .before .before .before .no-members .result) (a .one)) (c .before .before .before .has-more .ensures) ∙ ap (λ t. updateBy (hasMore t (a .one)) t (a .one)) n in
+    c .k-outline .ensures ∙ ap (λ x. outlineBy x (c .before .before .is-update .result) (a .one)) (c .before .is-snapshot .ensures) ∙ ap (λ x. outlineBy (snapshotBy (a .one)) x (a .one)) u ∙ one-is (a .whole) (a .one) (c .before .before .before .before .before .before .if1 .taken) (c .before .before .before .before .before .if2 .taken)
 
--- src/lib.rt:430:9
 no-outline-requires : tie.Need-no-outline-requires
 no-outline-requires c κs = search needs
 
--- src/lib.rt:430:9
 returns-2 : tie.Need-returns-2
-returns-2 c = ?
+returns-2 c = c .no-outline .ensures ∙ one-no-object (c .before .before .before .args .whole) (c .before .before .before .args .one) (c .before .before .if1 .taken) (c .before .if2 .left)
 
--- src/lib.rt:432:5
 no-outline-requires-2 : tie.Need-no-outline-requires-2
 no-outline-requires-2 c κs = search needs
 
--- src/lib.rt:421:1
 returns-3 : tie.Need-returns-3
-returns-3 c = ?
+returns-3 c = c .no-outline2 .ensures ∙ one-no-whole (c .before .before .args .whole) (c .before .before .args .one) (c .before .if1 .left)
 
 pub one-object-spec : {M : Type 1} → statement M
 one-object-spec =

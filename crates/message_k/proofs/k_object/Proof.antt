@@ -1,135 +1,196 @@
+-- `k_object` meets its contract: wherever the loop stands, what was told with what the members left will add is the answer.
+-- Assumes nothing.
+use mathlib.Core.Path.{sym, ap, _∙_}
+use Prim.Native.Nat.{_+_, _-_}
+use borrow.Author.Needs.{needs}
+use denote.Ref.{now}
+use native.Mathlib.Omega.{arith}
+use lib.ListN.{length}
+use Rattle.json_tokens.proofs.Laws.{end-at, in-byte}
+use Rattle.json.specs.Json.{value}
+use Rattle.layout.proofs.Members.{Left, fold-empty, fold-start, fold-no-name, fold-no-colon, fold-no-value, member-places, fold-on, fold-last, fold-broken}
+use Rattle.message_k.specs.MembersK.{withMember, noMembers, closedAt, membersAt}
+use Rattle.message_k.proofs.Objects.{no-object, object-fold}
 use Rattle.message_k.proofs.k_object.Statement.{statement}
 use Rattle.message_k.proofs.k_object.Tie as tie
-use Rattle.message_k.proofs.k_object.Reads as reads
-use Rattle.message_k.proofs.k_object.Lts as lts
-use Rattle.json.proofs.value_end.Reads as value-end-reads
-use Rattle.json_tokens.proofs.byte_at.Reads as byte-at-reads
-use Rattle.json_tokens.proofs.colon_end.Reads as colon-end-reads
-use Rattle.json_tokens.proofs.comma_end.Reads as comma-end-reads
-use Rattle.json_tokens.proofs.object_close_end.Reads as object-close-end-reads
-use Rattle.json_tokens.proofs.skip_blanks.Reads as skip-blanks-reads
-use Rattle.json_tokens.proofs.string_end.Reads as string-end-reads
-use Rattle.message_k.proofs.closed.Reads as closed-reads
-use Rattle.message_k.proofs.k_member.Reads as k-member-reads
-use Rattle.message_k.proofs.no_members.Reads as no-members-reads
 
 abbrev Inv-loop : tie.InvT-loop
-Inv-loop s at none i₀ members₀ i members = ?
+Inv-loop s at none i₀ members₀ i members = Left (withMember s) closedAt (noMembers 0) 14 s members i (membersAt s members₀ at)
 
 abbrev μ-loop : tie.MeasureT-loop
-μ-loop s at none i₀ members₀ i members = ?
+μ-loop s at none i₀ members₀ i members = length s - i
 
--- src/lib.rt:268:8
 byte-at-requires : tie.Need-byte-at-requires Inv-loop μ-loop
-byte-at-requires c κs = ?
+byte-at-requires c κs = search needs
 
--- src/lib.rt:269:27
 value-end-requires : tie.Need-value-end-requires Inv-loop μ-loop
-value-end-requires c κs = ?
+value-end-requires c κs = search needs
 
--- src/lib.rt:269:9
 no-members-requires : tie.Need-no-members-requires Inv-loop μ-loop
-no-members-requires c κs = ?
+no-members-requires c κs = search needs
 
--- src/lib.rt:269:9
 returns : tie.Need-returns Inv-loop μ-loop
-returns c = ?
+returns c =
+    let a = c .before .before .before .before .before .args in
+    let s = now (a .s) in
+    c .no-members .ensures ∙ ap noMembers (c .before .value-end .ensures) ∙ no-object s (a .before) (a .at) (λ z. c .before .before .if1 .taken (c .before .before .before .byte-at .ensures ∙ z))
 
--- src/lib.rt:271:36
 add-object-close-end : tie.Need-add-object-close-end Inv-loop μ-loop
-add-object-close-end c = ?
+add-object-close-end c =
+    let a = c .before .before .before .args in
+    let s = now (a .s) in
+    let l = in-byte s (a .at) 123 (omega arith) (sym (c .before .byte-at .ensures) ∙ c .if1 .left) in omega arith
 
--- src/lib.rt:271:9
 object-close-end-requires : tie.Need-object-close-end-requires Inv-loop μ-loop
-object-close-end-requires c κs = ?
+object-close-end-requires c κs = search needs
 
--- src/lib.rt:273:9
 closed-requires : tie.Need-closed-requires Inv-loop μ-loop
-closed-requires c κs = ?
+closed-requires c κs = search needs
 
--- src/lib.rt:273:9
 returns-2 : tie.Need-returns-2 Inv-loop μ-loop
-returns-2 c = ?
+returns-2 c =
+    let a = c .before .before .before .before .before .before .args in
+    let s = now (a .s) in
+    c .closed .ensures ∙ fold-empty (withMember s) closedAt (noMembers 0) 14 s (a .before) (a .at + 1) (c .before .before .object-close-end .result) (c .before .before .object-close-end .ensures) (c .before .if2 .taken) ∙ object-fold s (a .before) (a .at) (sym (c .before .before .before .before .byte-at .ensures) ∙ c .before .before .before .if1 .left)
 
--- src/lib.rt:275:32
 add-skip-blanks : tie.Need-add-skip-blanks Inv-loop μ-loop
-add-skip-blanks c = ?
+add-skip-blanks c =
+    let a = c .before .before .before .before .before .args in
+    let s = now (a .s) in
+    let l = in-byte s (a .at) 123 (omega arith) (sym (c .before .before .before .byte-at .ensures) ∙ c .before .before .if1 .left) in omega arith
 
--- src/lib.rt:275:9
 skip-blanks-requires : tie.Need-skip-blanks-requires Inv-loop μ-loop
-skip-blanks-requires c κs = ?
+skip-blanks-requires c κs = search needs
 
--- src/lib.rt:277:5
 loop-holds : tie.Need-loop-holds Inv-loop μ-loop
-loop-holds c = ?
+loop-holds c =
+    let a = c .before .before .before .before .before .before .args in
+    let s = now (a .s) in
+    rw (object-fold s (a .before) (a .at) (sym (c .before .before .before .before .byte-at .ensures) ∙ c .before .before .before .if1 .left)) at (fold-start (withMember s) closedAt (noMembers 0) 14 s (a .before) (a .at + 1) (c .before .before .object-close-end .result) (c .before .before .object-close-end .ensures) (c .before .if2 .left) (c .skip-blanks .result) (c .skip-blanks .ensures))
 
--- src/lib.rt:278:13
 string-end-requires : tie.Need-string-end-requires Inv-loop μ-loop
-string-end-requires c κs = ?
+string-end-requires c κs = search needs
 
--- src/lib.rt:280:13
 no-members-requires-2 : tie.Need-no-members-requires-2 Inv-loop μ-loop
-no-members-requires-2 c κs = ?
+no-members-requires-2 c κs = search needs
 
--- src/lib.rt:280:13
 returns-3 : tie.Need-returns-3 Inv-loop μ-loop
-returns-3 c = ?
+returns-3 c =
+    let a = c .before .before .before .before .before .before .before .before .before .before .args in
+    let s = now (a .s) in
+    let w = c .before .before .before .loop .inv in
+    let t = c .before .before .before .loop .members in
+    let k = c .before .before .string-end .result in
+    let p = c .before .before .string-end .ensures in
+    c .no-members2 .ensures ∙ fold-no-name (withMember s) closedAt (noMembers 0) 14 s t w k p (c .before .if3 .taken)
 
--- src/lib.rt:282:13
 colon-end-requires : tie.Need-colon-end-requires Inv-loop μ-loop
-colon-end-requires c κs = ?
+colon-end-requires c κs = search needs
 
--- src/lib.rt:284:13
 no-members-requires-3 : tie.Need-no-members-requires-3 Inv-loop μ-loop
-no-members-requires-3 c κs = ?
+no-members-requires-3 c κs = search needs
 
--- src/lib.rt:284:13
 returns-4 : tie.Need-returns-4 Inv-loop μ-loop
-returns-4 c = ?
+returns-4 c =
+    let a = c .before .before .before .before .before .before .before .before .before .before .before .before .args in
+    let s = now (a .s) in
+    let w = c .before .before .before .before .before .loop .inv in
+    let t = c .before .before .before .before .before .loop .members in
+    let k = c .before .before .before .before .string-end .result in
+    let p = c .before .before .before .before .string-end .ensures in
+    let j = c .before .before .colon-end .result in
+    let q = c .before .before .colon-end .ensures in
+    c .no-members3 .ensures ∙ fold-no-colon (withMember s) closedAt (noMembers 0) 14 s t w k p (c .before .before .before .if3 .left) j q (c .before .if4 .taken)
 
--- src/lib.rt:286:13
 k-member-requires : tie.Need-k-member-requires Inv-loop μ-loop
-k-member-requires c κs = ?
+k-member-requires c κs = search needs
 
--- src/lib.rt:289:13
 no-members-requires-4 : tie.Need-no-members-requires-4 Inv-loop μ-loop
-no-members-requires-4 c κs = ?
+no-members-requires-4 c κs = search needs
 
--- src/lib.rt:289:13
 returns-5 : tie.Need-returns-5 Inv-loop μ-loop
-returns-5 c = ?
+returns-5 c =
+    let a = c .before .before .before .before .before .before .before .before .before .before .before .before .before .before .args in
+    let s = now (a .s) in
+    let w = c .before .before .before .before .before .before .before .loop .inv in
+    let t = c .before .before .before .before .before .before .before .loop .members in
+    let k = c .before .before .before .before .before .before .string-end .result in
+    let p = c .before .before .before .before .before .before .string-end .ensures in
+    let j = c .before .before .before .before .colon-end .result in
+    let q = c .before .before .before .before .colon-end .ensures in
+    let m = c .before .before .k-member .result in
+    let r = c .before .before .k-member .ensures in
+    c .no-members4 .ensures ∙ fold-no-value (withMember s) closedAt (noMembers 0) 14 s t w k p (c .before .before .before .before .before .if3 .left) j q (c .before .before .before .if4 .left) (m .end) (r .ends) (c .before .if5 .taken)
 
--- src/lib.rt:291:13
 comma-end-requires : tie.Need-comma-end-requires Inv-loop μ-loop
-comma-end-requires c κs = ?
+comma-end-requires c κs = search needs
 
--- src/lib.rt:293:17
 object-close-end-requires-2 : tie.Need-object-close-end-requires-2 Inv-loop μ-loop
-object-close-end-requires-2 c κs = ?
+object-close-end-requires-2 c κs = search needs
 
--- src/lib.rt:295:17
 no-members-requires-5 : tie.Need-no-members-requires-5 Inv-loop μ-loop
-no-members-requires-5 c κs = ?
+no-members-requires-5 c κs = search needs
 
--- src/lib.rt:295:17
 returns-6 : tie.Need-returns-6 Inv-loop μ-loop
-returns-6 c = ?
+returns-6 c =
+    let a = c .before .before .before .before .before .before .before .before .before .before .before .before .before .before .before .before .before .before .args in
+    let s = now (a .s) in
+    let w = c .before .before .before .before .before .before .before .before .before .before .before .loop .inv in
+    let t = c .before .before .before .before .before .before .before .before .before .before .before .loop .members in
+    let k = c .before .before .before .before .before .before .before .before .before .before .string-end .result in
+    let p = c .before .before .before .before .before .before .before .before .before .before .string-end .ensures in
+    let j = c .before .before .before .before .before .before .before .before .colon-end .result in
+    let q = c .before .before .before .before .before .before .before .before .colon-end .ensures in
+    let m = c .before .before .before .before .before .before .k-member .result in
+    let r = c .before .before .before .before .before .before .k-member .ensures in
+    c .no-members5 .ensures ∙ fold-broken (withMember s) closedAt (noMembers 0) 14 s t w k p (c .before .before .before .before .before .before .before .before .before .if3 .left) j q (c .before .before .before .before .before .before .before .if4 .left) (m .end) (r .ends) (c .before .before .before .before .before .if5 .left) (c .before .before .before .before .comma-end .result) (c .before .before .before .before .comma-end .ensures) (c .before .before .before .if6 .taken) (c .before .before .object-close-end2 .result) (c .before .before .object-close-end2 .ensures) (c .before .if7 .taken)
 
--- src/lib.rt:297:13
 closed-requires-2 : tie.Need-closed-requires-2 Inv-loop μ-loop
-closed-requires-2 c κs = ?
+closed-requires-2 c κs = search needs
 
--- src/lib.rt:297:13
 returns-7 : tie.Need-returns-7 Inv-loop μ-loop
-returns-7 c = ?
+returns-7 c =
+    let a = c .before .before .before .before .before .before .before .before .before .before .before .before .before .before .before .before .before .before .args in
+    let s = now (a .s) in
+    let w = c .before .before .before .before .before .before .before .before .before .before .before .loop .inv in
+    let t = c .before .before .before .before .before .before .before .before .before .before .before .loop .members in
+    let k = c .before .before .before .before .before .before .before .before .before .before .string-end .result in
+    let p = c .before .before .before .before .before .before .before .before .before .before .string-end .ensures in
+    let j = c .before .before .before .before .before .before .before .before .colon-end .result in
+    let q = c .before .before .before .before .before .before .before .before .colon-end .ensures in
+    let m = c .before .before .before .before .before .before .k-member .result in
+    let r = c .before .before .before .before .before .before .k-member .ensures in
+    c .closed2 .ensures ∙ fold-last (withMember s) closedAt (noMembers 0) 14 s t w k p (c .before .before .before .before .before .before .before .before .before .if3 .left) j q (c .before .before .before .before .before .before .before .if4 .left) (m .end) (r .ends) (c .before .before .before .before .before .if5 .left) (c .before .before .before .before .comma-end .result) (c .before .before .before .before .comma-end .ensures) (c .before .before .before .if6 .taken) (c .before .before .object-close-end2 .result) (c .before .before .object-close-end2 .ensures) (c .before .if7 .left) m (r .told (m .end) (end-at (value 14 s j) (m .end) (r .ends) (c .before .before .before .before .before .if5 .left)))
 
--- src/lib.rt:277:5
 loop-less : tie.Need-loop-less Inv-loop μ-loop
-loop-less c = ?
+loop-less c =
+    let a = c .before .before .before .before .before .before .before .before .before .before .before .before .before .before .before .args in
+    let s = now (a .s) in
+    let w = c .before .before .before .before .before .before .before .before .loop .inv in
+    let t = c .before .before .before .before .before .before .before .before .loop .members in
+    let k = c .before .before .before .before .before .before .before .string-end .result in
+    let p = c .before .before .before .before .before .before .before .string-end .ensures in
+    let j = c .before .before .before .before .before .colon-end .result in
+    let q = c .before .before .before .before .before .colon-end .ensures in
+    let m = c .before .before .before .k-member .result in
+    let r = c .before .before .before .k-member .ensures in
+    let x = member-places (withMember s) closedAt (noMembers 0) 14 s t w k p (c .before .before .before .before .before .before .if3 .left) j q (c .before .before .before .before .if4 .left) (m .end) (r .ends) (c .before .before .if5 .left) in
+    let y = fold-on (withMember s) closedAt (noMembers 0) 14 s t w k p (c .before .before .before .before .before .before .if3 .left) j q (c .before .before .before .before .if4 .left) (m .end) (r .ends) (c .before .before .if5 .left) (c .before .comma-end .result) (c .before .comma-end .ensures) (c .if6 .left) m (r .told (m .end) (end-at (value 14 s j) (m .end) (r .ends) (c .before .before .if5 .left))) in
+    omega arith
 
--- src/lib.rt:277:5
 loop-again : tie.Need-loop-again Inv-loop μ-loop
-loop-again c = ?
+loop-again c =
+    let a = c .before .before .before .before .before .before .before .before .before .before .before .before .before .before .before .args in
+    let s = now (a .s) in
+    let w = c .before .before .before .before .before .before .before .before .loop .inv in
+    let t = c .before .before .before .before .before .before .before .before .loop .members in
+    let k = c .before .before .before .before .before .before .before .string-end .result in
+    let p = c .before .before .before .before .before .before .before .string-end .ensures in
+    let j = c .before .before .before .before .before .colon-end .result in
+    let q = c .before .before .before .before .before .colon-end .ensures in
+    let m = c .before .before .before .k-member .result in
+    let r = c .before .before .before .k-member .ensures in
+    fold-on (withMember s) closedAt (noMembers 0) 14 s t w k p (c .before .before .before .before .before .before .if3 .left) j q (c .before .before .before .before .if4 .left) (m .end) (r .ends) (c .before .before .if5 .left) (c .before .comma-end .result) (c .before .comma-end .ensures) (c .if6 .left) m (r .told (m .end) (end-at (value 14 s j) (m .end) (r .ends) (c .before .before .if5 .left))) .1
 
 pub k-object-spec : {M : Type 1} → statement M
 k-object-spec =

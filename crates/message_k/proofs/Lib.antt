@@ -1,6 +1,9 @@
--- In reading order: the member `c` and the first element; the channel's name; one member; objects; check 6 by its tests.
+-- In reading order: the member `c` and the first element; the channel's name; one member; objects; loops over elements; one element; check 6 by
+-- its tests.
 pub mod Numbers
 pub mod Channel
 pub mod OneMember
 pub mod Objects
+pub mod Elements
+pub mod OnePart
 pub mod Outlines

@@ -1,65 +1,77 @@
+-- `k_part` meets its contract: by its place.
+-- Assumes nothing.
+use mathlib.Core.Path.{ap, _∙_}
+use denote.Ref.{now}
+use Rattle.json_tokens.proofs.Laws.{end-at}
+use Rattle.json.specs.Json.{value}
+use Rattle.message_k.specs.MembersK.{membersAt}
+use Rattle.message_k.proofs.OnePart.{part-one, part-two, part-none, part-first, part-other}
 use borrow.Author.Needs.{needs}
 use Rattle.message_k.proofs.k_part.Statement.{statement}
 use Rattle.message_k.proofs.k_part.Tie as tie
-use Rattle.message_k.proofs.k_part.Reads as reads
-use Rattle.message_k.proofs.k_part.Lts as lts
-use Rattle.json.proofs.value_end.Reads as value-end-reads
-use Rattle.message_k.proofs.is_whole.Reads as is-whole-reads
-use Rattle.message_k.proofs.k_object.Reads as k-object-reads
-use Rattle.message_k.proofs.no_members.Reads as no-members-reads
-use Rattle.message_k.proofs.pass.Reads as pass-reads
 
--- src/lib.rt:181:34
 no-members-requires : tie.Need-no-members-requires
 no-members-requires c κs = search needs
 
--- src/lib.rt:181:13
 k-object-requires : tie.Need-k-object-requires
 k-object-requires c κs = search needs
 
--- src/lib.rt:182:13
 pass-requires : tie.Need-pass-requires
 pass-requires c κs = search needs
 
--- src/lib.rt:184:9
 returns : tie.Need-returns
-returns c = ?
+returns c =
+    let a = c .before .before .before .before .before .args in
+    let s = now (a .s) in
+    let t = a .parts in
+    part-one s t (a .at) (c .before .k-object .result) (c .pass .result) (c .pass .ensures) (c .before .before .before .if1 .taken) (c .before .k-object .ensures ∙ ap (λ x. membersAt s x (a .at)) (c .before .before .no-members .ensures))
 
--- src/lib.rt:188:13
 k-object-requires-2 : tie.Need-k-object-requires-2
 k-object-requires-2 c κs = search needs
 
--- src/lib.rt:189:13
 pass-requires-2 : tie.Need-pass-requires-2
 pass-requires-2 c κs = search needs
 
--- src/lib.rt:191:9
 returns-2 : tie.Need-returns-2
-returns-2 c = ?
+returns-2 c =
+    let a = c .before .before .before .before .before .before .args in
+    let s = now (a .s) in
+    let t = a .parts in
+    part-two s t (a .at) (c .before .k-object2 .result) (c .pass2 .result) (c .pass2 .ensures) (c .before .before .before .if2 .taken) (c .before .k-object2 .ensures)
 
--- src/lib.rt:193:9
 value-end-requires : tie.Need-value-end-requires
 value-end-requires c κs = search needs
 
--- src/lib.rt:194:9
 pass-requires-3 : tie.Need-pass-requires-3
 pass-requires-3 c κs = search needs
 
--- src/lib.rt:196:9
 returns-3 : tie.Need-returns-3
-returns-3 c = ?
+returns-3 c =
+    let a = c .before .before .before .before .before .before .args in
+    let s = now (a .s) in
+    let t = a .parts in
+    part-none s t (a .at) (c .before .before .value-end .result) (c .before .before .value-end .ensures) (c .before .pass3 .result) (c .before .pass3 .ensures) (c .if3 .taken)
 
--- src/lib.rt:199:9
 is-whole-requires : tie.Need-is-whole-requires
-is-whole-requires c κs = ?
+is-whole-requires c κs =
+    let a = c .before .before .before .before .before .before .before .args in
+    let s = now (a .s) in
+    let t = a .parts in
+    end-at (value 15 s (a .at)) (c .before .before .before .value-end .result) (c .before .before .before .value-end .ensures) (c .before .if3 .left)
 
--- src/lib.rt:200:9
 returns-4 : tie.Need-returns-4
-returns-4 c = ?
+returns-4 c =
+    let a = c .before .before .before .before .before .before .before .before .args in
+    let s = now (a .s) in
+    let t = a .parts in
+    part-first s t (a .at) (c .before .before .before .before .value-end .result) (c .before .before .before .before .value-end .ensures) (c .before .before .before .pass3 .result) (c .before .before .before .pass3 .ensures) (c .before .if4 .taken) (c .is-whole .result) (c .is-whole .ensures)
 
--- src/lib.rt:176:1
 returns-5 : tie.Need-returns-5
-returns-5 c = ?
+returns-5 c =
+    let a = c .before .before .before .before .before .before .before .args in
+    let s = now (a .s) in
+    let t = a .parts in
+    part-other s t (a .at) (c .before .before .before .value-end .result) (c .before .before .before .value-end .ensures) (c .before .before .pass3 .result) (c .before .before .pass3 .ensures) (c .if4 .left) (c .before .before .before .before .before .if1 .left) (c .before .before .before .before .if2 .left)
 
 pub k-part-spec : {M : Type 1} → statement M
 k-part-spec =

@@ -1,1 +1,599 @@
-// Messages of a dialect.
+// Messages of dialect K: an array of a whole number, one or two objects, the channel and the pair.
+//
+// `k_message` passes over a message once. It finds out whether it is JSON, and collects what every check needs, so that the first
+// refusal that fits is chosen afterwards, by the crate above.
+//
+//     let told = message_k::k_message(s, json_tokens::skip_blanks(s, 0), 10, b"XBT/USD");
+//     if told.end == 0 { .. }
+use decimal::ParsedChecksum;
+use decimal::ParsedWhole;
+use decimal::parse_checksum;
+use decimal::parse_whole;
+use entries::Entries;
+use entries::k_entries;
+use json::MAX_DEPTH;
+use json::has_backslash;
+use json::is_name;
+use json::is_short_name;
+use json::value_end;
+use json_tokens::OPEN_ARRAY;
+use json_tokens::OPEN_OBJECT;
+use json_tokens::QUOTE;
+use json_tokens::array_close_end;
+use json_tokens::byte_at;
+use json_tokens::colon_end;
+use json_tokens::comma_end;
+use json_tokens::object_close_end;
+use json_tokens::skip_blanks;
+use json_tokens::string_end;
+use layout::Listing;
+use layout::Mark;
+use layout::Outline;
+use layout::Slot;
+use layout::Told;
+use layout::listing_at;
+use layout::marked;
+use layout::no_listing;
+use layout::no_mark;
+use layout::no_outline;
+use layout::no_slot;
+use layout::outline_of;
+use layout::slotted;
+use layout::untold;
+ghost use mathlib.Core.Path.{_≡_};
+ghost use mathlib.Core.Bool.{true, _&&_};
+ghost use mathlib.Core.List.{_++_};
+ghost use Prim.Native.Nat.{_≤_, _<_};
+ghost use Rattle.decimal.specs.Ascii.{ascii};
+ghost use Rattle.decimal.specs.Digits.{written};
+ghost use Rattle.json_tokens.specs.Tokens.{At};
+ghost use Rattle.json.specs.Json.{elements, value};
+ghost use Rattle.json.specs.Names.{means, spelled};
+ghost use Rattle.entries.specs.Places.{wholeAt};
+ghost use Rattle.layout.specs.Marks.{fewMore};
+ghost use Rattle.layout.specs.Told.{listingFrom, toldAt};
+ghost use Rattle.message_k.specs.LayoutK.{heardK};
+ghost use Rattle.message_k.specs.MembersK.{isRead, moreSummed, MemberRead, SumRead, noMembers, closedAt, membersAt, hasMore, snapshotBy, updateBy, sideOf, outlineBy};
+ghost use Rattle.message_k.specs.PartsK.{upToSix, noParts, passed, PartRead, endedAt, partsIn, escapedAt, framedAs, oneObject, twoObjects};
+
+// How deep arrays and objects may nest in an element of the message, and in a member of an object.
+const ELEMENT_DEPTH: usize = 15;
+
+const MEMBER_DEPTH: usize = 14;
+
+// The names of members as numbers: `as`, `bs`, `a`, `b` and `c`.
+const SNAPSHOT_ASKS: u64 = 29537;
+
+const SNAPSHOT_BIDS: u64 = 29538;
+
+const ASKS: u64 = 97;
+
+const BIDS: u64 = 98;
+
+const CHECKSUM: u64 = 99;
+
+// `book-`, and what a byte after it counts; `book-100`.
+const BOOK: u64 = 195075993442;
+
+const FIRST_DIGIT: u64 = 1099511627776;
+
+const SECOND_DIGIT: u64 = 281474976710656;
+
+const BOOK_100: u64 = 3472329383848406882;
+
+// The member `c`.
+struct Sum {
+    mark: Mark,
+    // Whether the last one is a string that holds a checksum, and this checksum.
+    fair: bool,
+    sum: u32,
+}
+
+// What is told of one object, or of two together.
+struct Members {
+    // Past the value, or 0 where it is not JSON.
+    end: usize,
+    // Whether the value is an object. If not, what is below says nothing.
+    is_object: bool,
+    // `as`, `bs`, `a`, `b` and `c`.
+    snapshot_asks: Slot,
+    snapshot_bids: Slot,
+    asks: Slot,
+    bids: Slot,
+    checksum: Sum,
+}
+
+// What is told of the elements of the message.
+struct Parts {
+    // Past the last of them, and in the end past the array; 0 where it is not JSON.
+    end: usize,
+    // How many there are, up to six.
+    count: usize,
+    // Whether the first is a whole number.
+    whole: bool,
+    // The second, and the second and the third together.
+    one: Members,
+    two: Members,
+    // The last two.
+    channel_from: usize,
+    channel_to: usize,
+    pair_from: usize,
+    pair_to: usize,
+}
+
+// The message at `at`, to a K book of that depth and name.
+pub fn k_message(s: &[u8], at: usize, depth: usize, name: &[u8]) -> Told
+    requires { ⌜ (10 ≤ depth) × (depth ≤ 100) ⌝ }
+    ensures { λ r. ⌜ r ≡ toldAt (heardK depth (now (name .entry))) (now (s .entry)) at ⌝ }
+{
+    if byte_at(s, at) != OPEN_ARRAY {
+        return untold(value_end(s, at, MAX_DEPTH));
+    }
+    let parts = k_parts(s, at + 1);
+    let count = parts.count;
+    if count == 4 {
+        let one = parts.one;
+        return framed(s, parts, depth, name, one_object(parts.whole, one));
+    }
+    if count == 5 {
+        let one = parts.one;
+        let two = parts.two;
+        return framed(s, parts, depth, name, two_objects(parts.whole, one, two));
+    }
+    untold(parts.end)
+}
+
+// The elements of the array whose bracket ends at `at`.
+fn k_parts(s: &[u8], at: usize) -> Parts
+    ensures { λ r. ⌜ r ≡ partsIn (now (s .entry)) (elements (value 15 (now (s .entry))) (now (s .entry)) at) ⌝ }
+{
+    let none = array_close_end(s, at);
+    if 0 < none {
+        return ended(no_parts(), none);
+    }
+    let mut i = skip_blanks(s, at);
+    let mut parts = no_parts();
+    loop {
+        let more = k_part(s, parts, i);
+        let past = more.end;
+        if past == 0 {
+            return no_parts();
+        }
+        let j = comma_end(s, past);
+        if j == 0 {
+            let end = array_close_end(s, past);
+            if end == 0 {
+                return no_parts();
+            }
+            return ended(more, end);
+        }
+        parts = more;
+        i = j;
+    }
+}
+
+// What was told of the elements, and the one at `at`. The second and the third may be objects.
+fn k_part(s: &[u8], parts: Parts, at: usize) -> Parts
+    ensures { λ r. ⌜ PartRead (now (s .entry)) parts at r ⌝ }
+{
+    let count = parts.count;
+    if count == 1 {
+        let object = k_object(s, no_members(0), at);
+        let mut next = pass(parts, at, object.end);
+        next.one = object;
+        return next;
+    }
+    if count == 2 {
+        let one = parts.one;
+        let object = k_object(s, one, at);
+        let mut next = pass(parts, at, object.end);
+        next.two = object;
+        return next;
+    }
+    let end = value_end(s, at, ELEMENT_DEPTH);
+    let mut next = pass(parts, at, end);
+    if end == 0 {
+        return next;
+    }
+    if count == 0 {
+        next.whole = is_whole(s, at, end);
+        return next;
+    }
+    next
+}
+
+fn pass(parts: Parts, from: usize, to: usize) -> Parts
+    ensures { λ r. ⌜ r ≡ passed parts from to ⌝ }
+{
+    let one = parts.one;
+    let two = parts.two;
+    Parts {
+        end: to,
+        count: up_to_six(parts.count),
+        whole: parts.whole,
+        one,
+        two,
+        channel_from: parts.pair_from,
+        channel_to: parts.pair_to,
+        pair_from: from,
+        pair_to: to,
+    }
+}
+
+fn up_to_six(n: usize) -> usize
+    ensures { λ r. ⌜ r ≡ upToSix n ⌝ }
+{
+    if 6 <= n { 6 } else { n + 1 }
+}
+
+fn no_parts() -> Parts
+    ensures { λ r. ⌜ r ≡ noParts ⌝ }
+{
+    Parts {
+        end: 0,
+        count: 0,
+        whole: false,
+        one: no_members(0),
+        two: no_members(0),
+        channel_from: 0,
+        channel_to: 0,
+        pair_from: 0,
+        pair_to: 0,
+    }
+}
+
+// The elements of an array that ends at `end`.
+fn ended(parts: Parts, end: usize) -> Parts
+    ensures { λ r. ⌜ r ≡ endedAt end parts ⌝ }
+{
+    let mut next = parts;
+    next.end = end;
+    next
+}
+
+fn is_whole(s: &[u8], from: usize, to: usize) -> bool
+    requires { ⌜ value 15 (now s) from ≡ At to ⌝ }
+    ensures { λ r. ⌜ r ≡ isRead (wholeAt (now (s .entry)) (record { from = from; to = to })) ⌝ }
+{
+    match parse_whole(&s[from..to]) {
+        ParsedWhole::Number(_) => true,
+        ParsedWhole::Refused => false,
+    }
+}
+
+// The value at `at` as an object, with `before` told of the objects before it.
+fn k_object(s: &[u8], before: Members, at: usize) -> Members
+    ensures { λ r. ⌜ r ≡ membersAt (now (s .entry)) before at ⌝ }
+{
+    if byte_at(s, at) != OPEN_OBJECT {
+        return no_members(value_end(s, at, ELEMENT_DEPTH));
+    }
+    let none = object_close_end(s, at + 1);
+    if none != 0 {
+        return closed(before, none);
+    }
+    let mut i = skip_blanks(s, at + 1);
+    let mut members = before;
+    loop {
+        let name_to = string_end(s, i);
+        if name_to == 0 {
+            return no_members(0);
+        }
+        let from = colon_end(s, name_to);
+        if from == 0 {
+            return no_members(0);
+        }
+        let more = k_member(s, members, i, name_to, from);
+        let to = more.end;
+        if to == 0 {
+            return no_members(0);
+        }
+        let j = comma_end(s, to);
+        if j == 0 {
+            let end = object_close_end(s, to);
+            if end == 0 {
+                return no_members(0);
+            }
+            return closed(more, end);
+        }
+        members = more;
+        i = j;
+    }
+}
+
+// What was told of the members, and the one whose name lies from `name_from` to `name_to` and whose value begins at `from`.
+fn k_member(s: &[u8], members: Members, name_from: usize, name_to: usize, from: usize) -> Members
+    ensures { λ r. ⌜ MemberRead (now (s .entry)) members (record { from = «name_from»; to = «name_to» }) from r ⌝ }
+{
+    let mut next = members;
+    next.is_object = true;
+    if is_short_name(s, name_from, name_to, CHECKSUM, 1) {
+        return with_checksum(s, next, from);
+    }
+    if is_short_name(s, name_from, name_to, ASKS, 1) {
+        let entries = k_entries(s, from);
+        next.end = entries.end;
+        next.asks = with_entries(next.asks, from, entries);
+        return next;
+    }
+    if is_short_name(s, name_from, name_to, BIDS, 1) {
+        let entries = k_entries(s, from);
+        next.end = entries.end;
+        next.bids = with_entries(next.bids, from, entries);
+        return next;
+    }
+    if is_short_name(s, name_from, name_to, SNAPSHOT_ASKS, 2) {
+        let entries = k_entries(s, from);
+        next.end = entries.end;
+        next.snapshot_asks = with_entries(next.snapshot_asks, from, entries);
+        return next;
+    }
+    if is_short_name(s, name_from, name_to, SNAPSHOT_BIDS, 2) {
+        let entries = k_entries(s, from);
+        next.end = entries.end;
+        next.snapshot_bids = with_entries(next.snapshot_bids, from, entries);
+        return next;
+    }
+    next.end = value_end(s, from, MEMBER_DEPTH);
+    next
+}
+
+// One more member, which holds the entries of the array at `at`.
+fn with_entries(slot: Slot, at: usize, entries: Entries) -> Slot
+    ensures { λ r. ⌜ r ≡ record { times = fewMore (slot .times); listing = listingFrom at entries } ⌝ }
+{
+    slotted(slot, listing_at(at, entries))
+}
+
+// One more member `c`, whose value begins at `from`.
+fn with_checksum(s: &[u8], members: Members, from: usize) -> Members
+    ensures { λ r. ⌜ SumRead (now (s .entry)) members from r ⌝ }
+{
+    let mut next = members;
+    let end = value_end(s, from, MEMBER_DEPTH);
+    next.end = end;
+    if end == 0 {
+        return next;
+    }
+    next.checksum = summed(s, next.checksum, from, end);
+    next
+}
+
+fn summed(s: &[u8], sum: Sum, from: usize, to: usize) -> Sum
+    requires { ⌜ value 14 (now s) from ≡ At to ⌝ }
+    ensures { λ r. ⌜ r ≡ moreSummed (now (s .entry)) sum (record { from = from; to = to }) ⌝ }
+{
+    let before = sum.mark;
+    let mark = marked(before, from, to);
+    if byte_at(s, from) != QUOTE {
+        return Sum {
+            mark,
+            fair: false,
+            sum: 0,
+        };
+    }
+    let first = from + 1;
+    let last = to - 1;
+    match parse_checksum(&s[first..last]) {
+        ParsedChecksum::Number(n) => Sum {
+            mark,
+            fair: true,
+            sum: n,
+        },
+        ParsedChecksum::Refused => Sum {
+            mark,
+            fair: false,
+            sum: 0,
+        },
+    }
+}
+
+// A value that ends at `end` and is no object.
+fn no_members(end: usize) -> Members
+    ensures { λ r. ⌜ r ≡ noMembers end ⌝ }
+{
+    Members {
+        end,
+        is_object: false,
+        snapshot_asks: no_slot(),
+        snapshot_bids: no_slot(),
+        asks: no_slot(),
+        bids: no_slot(),
+        checksum: Sum {
+            mark: no_mark(),
+            fair: false,
+            sum: 0,
+        },
+    }
+}
+
+// An object that ends at `end`.
+fn closed(members: Members, end: usize) -> Members
+    ensures { λ r. ⌜ r ≡ closedAt end members ⌝ }
+{
+    let mut next = members;
+    next.end = end;
+    next.is_object = true;
+    next
+}
+
+// The layout of a message of one object; `whole` is whether its first element is a whole number.
+fn one_object(whole: bool, one: Members) -> Outline
+    ensures { λ r. ⌜ r ≡ oneObject whole one ⌝ }
+{
+    if whole {
+        if one.is_object {
+            let none = no_members(0);
+            let update = is_update(has_more(none, one), none, one);
+            return k_outline(is_snapshot(one), update, one);
+        }
+        return no_outline();
+    }
+    no_outline()
+}
+
+// The layout of a message of two objects.
+fn two_objects(whole: bool, one: Members, two: Members) -> Outline
+    ensures { λ r. ⌜ r ≡ twoObjects whole one two ⌝ }
+{
+    if both(whole, both(one.is_object, two.is_object)) {
+        let each = both(has_more(no_members(0), one), has_more(one, two));
+        return k_outline(false, is_update(each, one, two), two);
+    }
+    no_outline()
+}
+
+fn both(a: bool, b: bool) -> bool
+    ensures { λ r. ⌜ r ≡ (a && b) ⌝ }
+{
+    if a { b } else { false }
+}
+
+// Whether an object has `a` or `b`, where `before` is told before it and `after` with it.
+fn has_more(before: Members, after: Members) -> bool
+    ensures { λ r. ⌜ r ≡ hasMore before after ⌝ }
+{
+    if before.asks.times < after.asks.times {
+        true
+    } else if before.bids.times < after.bids.times {
+        true
+    } else {
+        false
+    }
+}
+
+fn is_snapshot(one: Members) -> bool
+    ensures { λ r. ⌜ r ≡ snapshotBy one ⌝ }
+{
+    if one.snapshot_asks.times != 1 {
+        return false;
+    }
+    if one.snapshot_bids.times != 1 {
+        return false;
+    }
+    if one.asks.times != 0 {
+        return false;
+    }
+    if one.bids.times != 0 {
+        return false;
+    }
+    if one.checksum.mark.times == 0 {
+        true
+    } else {
+        false
+    }
+}
+
+// Whether the objects are an update's: `each` says that each has `a` or `b`, and `before` is told before the last object.
+fn is_update(each: bool, before: Members, all: Members) -> bool
+    ensures { λ r. ⌜ r ≡ updateBy each before all ⌝ }
+{
+    if 1 < all.asks.times {
+        return false;
+    }
+    if 1 < all.bids.times {
+        return false;
+    }
+    if !each {
+        return false;
+    }
+    if all.checksum.mark.times != 1 {
+        return false;
+    }
+    if before.checksum.mark.times != 0 {
+        return false;
+    }
+    if all.snapshot_asks.times != 0 {
+        return false;
+    }
+    if all.snapshot_bids.times == 0 {
+        true
+    } else {
+        false
+    }
+}
+
+fn k_outline(snapshot: bool, update: bool, all: Members) -> Outline
+    ensures { λ r. ⌜ r ≡ outlineBy snapshot update all ⌝ }
+{
+    if snapshot {
+        let bids = side_of(all.snapshot_bids);
+        let asks = side_of(all.snapshot_asks);
+        return outline_of(true, bids, asks, false, 0, 0);
+    }
+    if both(update, all.checksum.fair) {
+        let bids = side_of(all.bids);
+        let asks = side_of(all.asks);
+        return outline_of(false, bids, asks, true, all.checksum.sum, 0);
+    }
+    no_outline()
+}
+
+// The entries of a side that may be missing.
+fn side_of(slot: Slot) -> Listing
+    ensures { λ r. ⌜ r ≡ sideOf slot ⌝ }
+{
+    if slot.times == 0 {
+        return no_listing();
+    }
+    slot.listing
+}
+
+// A message of four or five elements.
+fn framed(s: &[u8], parts: Parts, depth: usize, name: &[u8], outline: Outline) -> Told
+    requires { ⌜ (10 ≤ depth) × (depth ≤ 100) ⌝ }
+    ensures { λ r. ⌜ r ≡ framedAs depth (now (name .entry)) (now (s .entry)) parts outline ⌝ }
+{
+    let channel_from = parts.channel_from;
+    let channel_to = parts.channel_to;
+    let pair_from = parts.pair_from;
+    let pair_to = parts.pair_to;
+    let escaped = if is_escaped(s, channel_from, channel_to) {
+        true
+    } else {
+        is_escaped(s, pair_from, pair_to)
+    };
+    let ours = both(
+        is_channel(s, channel_from, channel_to, depth),
+        is_name(s, pair_from, pair_to, name),
+    );
+    Told {
+        end: parts.end,
+        framed: true,
+        escaped,
+        ours,
+        outline,
+    }
+}
+
+// Whether the value from `from` to `to` is a string with a backslash.
+fn is_escaped(s: &[u8], from: usize, to: usize) -> bool
+    ensures { λ r. ⌜ r ≡ escapedAt (now (s .entry)) (record { from = from; to = to }) ⌝ }
+{
+    if byte_at(s, from) == QUOTE {
+        has_backslash(s, from, to)
+    } else {
+        false
+    }
+}
+
+// Whether the string from `from` to `to` means `book-` and the depth.
+fn is_channel(s: &[u8], from: usize, to: usize, depth: usize) -> bool
+    requires { ⌜ (10 ≤ depth) × (depth ≤ 100) ⌝ }
+    ensures { λ r. ⌜ r ≡ means (now (s .entry)) (record { from = from; to = to }) (ascii "book-" ++ written depth) ⌝ }
+{
+    if depth < 100 {
+        is_short_name(s, from, to, two_digits(depth), 7)
+    } else {
+        is_short_name(s, from, to, BOOK_100, 8)
+    }
+}
+
+// `book-` and a depth of two digits, as a number.
+fn two_digits(depth: usize) -> u64
+    requires { ⌜ (10 ≤ depth) × (depth < 100) ⌝ }
+    ensures { λ r. ⌜ spelled 7 r ≡ ascii "book-" ++ written depth ⌝ }
+{
+    let d = depth as u64;
+    BOOK + (48 + d / 10) * FIRST_DIGIT + (48 + d % 10) * SECOND_DIGIT
+}

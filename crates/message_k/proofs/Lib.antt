@@ -1,0 +1,13 @@
+-- In reading order: the member `c` and the first element; the channel's name; one member; objects; loops over elements; one element; check 6 by
+-- its tests; tests on counts; what is told of objects.
+pub mod Numbers
+pub mod Channel
+pub mod OneMember
+pub mod Objects
+pub mod Elements
+pub mod OnePart
+pub mod Outlines
+pub mod Counts
+pub mod Tells
+pub mod Layouts
+pub mod Messages

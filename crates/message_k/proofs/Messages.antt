@@ -1,0 +1,130 @@
+-- What is told of the elements is what the message is.
+-- Assumes nothing.
+use mathlib.Core.Path.{_≡_, refl, sym, ap, _∙_}
+use mathlib.Core.List.{List, [], _∷_, _++_}
+use mathlib.Core.Bool.{Bool, true, false, _&&_, cond}
+use Prim.Native.Nat.{ℕ, _+_}
+use native.Mathlib.Omega.{arith}
+use lib.Dec.{eqb}
+use borrow.Author.Tests.{eq-eqb, ne-eqb}
+use Rattle.decimal.specs.Digits.{Reading, reads, refused}
+use Rattle.json_tokens.specs.Bytes.{byteAt}
+use Rattle.json_tokens.specs.Tokens.{End, At, Broken, endOf}
+use Rattle.json.specs.Json.{Span, Pair, Items, items, noItems, itemsEnd, elements, value}
+use Rattle.json.proofs.Laws.{value-array}
+use Rattle.entries.specs.Places.{andThen, all, contents, arrayAt, objectAt, wholeAt}
+use Rattle.layout.specs.Layout.{Heard}
+use Rattle.layout.specs.Told.{noOutline, outlineOf, noFrame, toldOf, toldAt}
+use Rattle.layout.specs.Fold.{foldFrom, foldedIn}
+use Rattle.layout.specs.declared.Outline.{Outline}
+use Rattle.layout.specs.declared.Told.{Told}
+use Rattle.message_k.specs.LayoutK.{Frame, frameOf, escapedK, oursK, objectsLayout, layoutK, heardK}
+use Rattle.message_k.specs.MembersK.{isRead, withMember, noMembers, closedAt, membersOf, hasMore}
+use Rattle.message_k.specs.PartsK.{upToSix, noParts, withPart, endedAt, partsIn, escapedAt, oursBy, framedAs, oneObject, twoObjects}
+use Rattle.message_k.specs.declared.Members.{Members}
+use Rattle.message_k.specs.declared.Parts.{Parts}
+use Rattle.message_k.proofs.Tells.{Tells, tells-none, tells-on}
+use Rattle.message_k.proofs.Outlines.{one-is, one-no-object, one-no-whole, two-is, two-not}
+use Rattle.message_k.proofs.Layouts.{objects-laid, tells-alone, one-snapshot, one-update, tells-both, two-snapshot, two-update}
+
+-- ---- check 6, with one object and with two
+module _ (s : List ℕ) where
+  told-of : (e : ℕ) (ms : List Pair) → Tells s (closedAt e (foldFrom (withMember s) (noMembers 0) ms)) ms
+  told-of e ms = tells-on s (noMembers 0) [] ms e (tells-none s 0)
+
+  one-laid : (w : Reading ℕ) (e : ℕ) (x : Reading (List Pair))
+      → oneObject (isRead w) (membersOf s (noMembers 0) e x) ≡ outlineOf s (andThen w (λ n. andThen (andThen x (λ b. reads (b ∷ []))) (objectsLayout s)))
+  unfolding andThen isRead membersOf outlineOf
+  one-laid refused e x = sym (one-no-whole false (membersOf s (noMembers 0) e x) refl)
+  one-laid (reads n) e refused = sym (one-no-object true (noMembers e) refl refl)
+  one-laid (reads n) e (reads ms) =
+      let t = closedAt e (foldFrom (withMember s) (noMembers 0) ms) in
+      let h = told-of e ms in
+      sym (one-is true t refl refl)
+      ∙ objects-laid s (ms ∷ []) t (tells-alone s ms t h) _ _ (one-snapshot s ms t h) (one-update s ms t h)
+
+  two-laid : (w : Reading ℕ) (e k : ℕ) (x y : Reading (List Pair))
+      → twoObjects (isRead w) (membersOf s (noMembers 0) e x) (membersOf s (membersOf s (noMembers 0) e x) k y)
+      ≡ outlineOf s (andThen w (λ n. andThen (andThen x (λ b. andThen (andThen y (λ c. reads (c ∷ []))) (λ bs. reads (b ∷ bs)))) (objectsLayout s)))
+  unfolding andThen isRead membersOf outlineOf
+  two-laid refused e k x y = sym (two-not false (membersOf s (noMembers 0) e x) (membersOf s (membersOf s (noMembers 0) e x) k y) refl)
+  two-laid (reads n) e k refused y = sym (two-not true (noMembers e) (membersOf s (noMembers e) k y) refl)
+  two-laid (reads n) e k (reads ms) refused = sym (two-not true (closedAt e (foldFrom (withMember s) (noMembers 0) ms)) (noMembers k) refl)
+  two-laid (reads n) e k (reads ms) (reads ns) =
+      let t = closedAt e (foldFrom (withMember s) (noMembers 0) ms) in
+      let u = closedAt k (foldFrom (withMember s) t ns) in
+      let h = told-of e ms in
+      let g = tells-on s t ms ns k h in
+      sym (two-is true t u refl)
+      ∙ objects-laid s (ms ∷ (ns ∷ [])) u (tells-both s ms ns t u h g) _ _ (two-snapshot s ms ns t u h g) (two-update s ms ns t u h g)
+
+-- ---- the elements
+module _ (depth : ℕ) (name s : List ℕ) where
+  -- what the code makes of them
+  pub toldBy : Parts → Told
+  toldBy p =
+      cond (eqb (p .count) 4) (framedAs depth name s p (oneObject (p .whole) (p .one)))
+      (cond (eqb (p .count) 5) (framedAs depth name s p (twoObjects (p .whole) (p .one) (p .two)))
+      (noFrame (p .end)))
+
+  module _ (p : Parts) where
+    pub told-four : p .count ≡ 4 → framedAs depth name s p (oneObject (p .whole) (p .one)) ≡ toldBy p
+    unfolding toldBy
+    told-four h = sym (rw (eq-eqb (p .count) 4 h, toldBy))
+
+    pub told-five : p .count ≡ 5 → framedAs depth name s p (twoObjects (p .whole) (p .one) (p .two)) ≡ toldBy p
+    unfolding toldBy
+    told-five h = let n : (p .count ≡ 4 → ⊥) = λ z. omega arith in sym (rw (ne-eqb (p .count) 4 n, eq-eqb (p .count) 5 h, toldBy))
+
+    pub told-other : (p .count ≡ 4 → ⊥) → (p .count ≡ 5 → ⊥) → noFrame (p .end) ≡ toldBy p
+    unfolding toldBy
+    told-other n m = sym (rw (ne-eqb (p .count) 4 n, ne-eqb (p .count) 5 m, toldBy))
+
+  -- six stay six
+  six : (p : Parts) → p .count ≡ 6 → (l : List Span) → foldFrom (withPart s) p l .count ≡ 6
+  unfolding foldFrom withPart upToSix
+  six p h [] = h
+  six p h (a ∷ l) = six (withPart s p a) (ap upToSix h) l
+
+  six-told : (p : Parts) → p .count ≡ 6 → (l : List Span) (e : ℕ) → toldBy (endedAt e (foldFrom (withPart s) p l)) ≡ noFrame e
+  six-told p h l e = let n = six p h l in sym (told-other (endedAt e (foldFrom (withPart s) p l)) (λ z. omega arith) (λ z. omega arith))
+
+  abbrev hear : Frame → Reading Heard
+  hear f = reads (record { escaped = escapedK s f; ours = oursK depth name s f; layout = layoutK s f })
+
+  told-list : (l : List Span) (e : ℕ) → toldBy (endedAt e (foldFrom (withPart s) noParts l)) ≡ toldOf s e (andThen (frameOf l) hear)
+  unfolding toldBy foldFrom withPart upToSix frameOf andThen toldOf escapedK escapedAt oursK oursBy layoutK all
+  told-list [] e = refl
+  told-list (n ∷ []) e = refl
+  told-list (n ∷ (o ∷ [])) e = refl
+  told-list (n ∷ (o ∷ (c ∷ []))) e = refl
+  told-list (n ∷ (o ∷ (c ∷ (p ∷ [])))) e = rw (one-laid s (wholeAt s n) (o .to) (objectAt 15 s o))
+  told-list (n ∷ (o ∷ (q ∷ (c ∷ (p ∷ []))))) e = rw (two-laid s (wholeAt s n) (o .to) (q .to) (objectAt 15 s o) (objectAt 15 s q))
+  told-list (n ∷ (o ∷ (q ∷ (c ∷ (p ∷ (x ∷ l)))))) e =
+      six-told (withPart s (withPart s (withPart s (withPart s (withPart s (withPart s noParts n) o) q) c) p) x) refl l e
+
+  module _ (at : ℕ) where
+    pub told-none : (byteAt s at ≡ 91 → ⊥) → noFrame (endOf (value 16 s at)) ≡ toldAt (heardK depth name) s at
+    unfolding toldAt toldOf endOf heardK arrayAt andThen
+    told-none h = go (value 16 s at)
+      where
+        none : (e : ℕ) → toldOf s e (heardK depth name s (record { from = at; to = e })) ≡ noFrame e
+        none e = rw (ne-eqb (byteAt s at) 91 h)
+
+        go : (x : End) → noFrame (endOf x) ≡ elim x [ At e ↦ toldOf s e (heardK depth name s (record { from = at; to = e })) | Broken ↦ toldOf s 0 refused ]
+        go (At e) = sym (none e)
+        go Broken = refl
+
+    pub told-array : byteAt s at ≡ 91 → toldBy (partsIn s (elements (value 15 s) s (at + 1))) ≡ toldAt (heardK depth name) s at
+    unfolding toldAt toldOf itemsEnd heardK arrayAt contents andThen partsIn foldedIn toldBy
+    told-array h =
+        sym (ap (λ (y : End). elim y [ At e ↦ toldOf s e (heardK depth name s (record { from = at; to = e })) | Broken ↦ toldOf s 0 refused ]) (value-array s at 15 h)
+        ∙ go (elements (value 15 s) s (at + 1)) refl)
+      where
+        held : (e : ℕ) → heardK depth name s (record { from = at; to = e }) ≡ andThen (andThen (contents (elements (value 15 s) s (at + 1))) frameOf) hear
+        held e = rw (eq-eqb (byteAt s at) 91 h)
+
+        go : (x : Items Span) → elements (value 15 s) s (at + 1) ≡ x
+            → elim (itemsEnd x) [ At e ↦ toldOf s e (heardK depth name s (record { from = at; to = e })) | Broken ↦ toldOf s 0 refused ] ≡ toldBy (partsIn s x)
+        go (items l e) q = ap (toldOf s e) (held e ∙ ap (λ y. andThen (andThen (contents y) frameOf) hear) q) ∙ sym (told-list l e)
+        go noItems q = refl

@@ -1,0 +1,133 @@
+-- One more member, by its name.
+-- Assumes nothing.
+use mathlib.Core.Path.{_≡_, refl, sym, ap, _∙_}
+use mathlib.Core.List.{List, [], _∷_}
+use mathlib.Core.Bool.{Bool, true, false, cond}
+use Prim.Native.Nat.{ℕ, _+_, _*_}
+use lib.Dec.{eqb}
+use borrow.Author.Tests.{eqb-false}
+use Rattle.decimal.specs.Ascii.{ascii}
+use Rattle.json_tokens.specs.Tokens.{At, endOf}
+use Rattle.json.specs.Json.{Span, Pair, value}
+use Rattle.json.specs.Names.{means}
+use Rattle.entries.specs.Rows.{entryK, entriesAt}
+use Rattle.entries.specs.Summary.{summaryOf, summaryAt}
+use Rattle.entries.specs.declared.Entries.{Entries}
+use Rattle.entries.proofs.Summary.{summary-end, summary-is}
+use Rattle.layout.specs.Told.{listingFrom}
+use Rattle.layout.specs.Marks.{fewMore, moreListed}
+use Rattle.layout.specs.declared.Slot.{Slot}
+use Rattle.layout.proofs.Laws.{listing-of}
+use Rattle.layout.proofs.Marks.{one-name}
+use Rattle.message_k.specs.MembersK.{listingK, slotWith, moreSummed, sumWith, withMember, withSum, SumRead, MemberRead, closedAt}
+use Rattle.message_k.specs.declared.Sum.{Sum}
+use Rattle.message_k.specs.declared.Members.{Members}
+
+-- names differ if these numbers do
+abbrev mix : List ℕ → ℕ
+mix [] = 0
+mix (c ∷ l) = c + 256 * mix l
+
+-- ---- what a slot has, once the entries at `from` are read
+module _ (s : List ℕ) (from : ℕ) (g : Entries) (h : g ≡ summaryAt entryK s from) where
+  pub entries-end : g .end ≡ endOf (value 14 s from)
+  entries-end = ap (λ (x : Entries). x .end) h ∙ summary-end entryK s from
+
+  slot-is : (t w : Slot) → w ≡ record { times = fewMore (t .times); listing = listingFrom from g } → (e : ℕ) → value 14 s from ≡ At e
+      → w ≡ moreListed (listingK s) t (record { from = from; to = e })
+  unfolding moreListed listingK
+  slot-is t w q e v =
+      q ∙ ap (λ l. record { times = fewMore (t .times); listing = l })
+      (ap (listingFrom from) (h ∙ summary-is entryK s from e v) ∙ listing-of entryK s (record { from = from; to = e }) e)
+
+  end-is : (e : ℕ) → value 14 s from ≡ At e → g .end ≡ e
+  unfolding endOf
+  end-is e v = entries-end ∙ ap endOf v
+
+abbrev pub asObject : Members → Members
+asObject t = closedAt (t .end) t
+
+module _ (s : List ℕ) (t : Members) (name : Span) (from : ℕ) where
+  abbrev pairTo : ℕ → Pair
+  pairTo e = record { name = name; value = record { from = from; to = e } }
+
+  -- by which of our names it has
+  by-name : (e : ℕ) (p q x y z : Bool)
+      → means s name (ascii "as") ≡ p → means s name (ascii "bs") ≡ q → means s name (ascii "a") ≡ x → means s name (ascii "b") ≡ y → means s name (ascii "c") ≡ z
+      → record {
+        end = e;
+        «is_object» = true;
+        «snapshot_asks» = cond p (moreListed (listingK s) (t .«snapshot_asks») (record { from = from; to = e })) (t .«snapshot_asks»);
+        «snapshot_bids» = cond q (moreListed (listingK s) (t .«snapshot_bids») (record { from = from; to = e })) (t .«snapshot_bids»);
+        asks = cond x (moreListed (listingK s) (t .asks) (record { from = from; to = e })) (t .asks);
+        bids = cond y (moreListed (listingK s) (t .bids) (record { from = from; to = e })) (t .bids);
+        checksum = cond z (moreSummed s (t .checksum) (record { from = from; to = e })) (t .checksum);
+      }
+      ≡ withMember s t (pairTo e)
+  unfolding withMember slotWith sumWith
+  by-name e p q x y z hp hq hx hy hz = sym (rw (hp, hq, hx, hy, hz))
+
+  -- a name is none of the others
+  other : (n m : List ℕ) → eqb (mix m) (mix n) ≡ false → means s name n ≡ true → means s name m ≡ false
+  other n m d h = at (means s name m) refl
+    where
+      at : (b : Bool) → means s name m ≡ b → b ≡ false
+      at true g = absurd (eqb-false (mix m) (mix n) d (ap mix (one-name s name m n g h)))
+      at false g = refl
+
+  -- ---- members that hold entries: g is what is told of the entries, and w the slot with them
+  module _ (g : Entries) (h : g ≡ summaryAt entryK s from) (w : Slot) where
+    abbrev Put : Slot → Type 0
+    Put old = w ≡ record { times = fewMore (old .times); listing = listingFrom from g }
+
+    abbrev with-as : Members
+    with-as = record { end = g .end; «is_object» = true; «snapshot_asks» = w; «snapshot_bids» = t .«snapshot_bids»; asks = t .asks; bids = t .bids; checksum = t .checksum }
+
+    abbrev with-bs : Members
+    with-bs = record { end = g .end; «is_object» = true; «snapshot_asks» = t .«snapshot_asks»; «snapshot_bids» = w; asks = t .asks; bids = t .bids; checksum = t .checksum }
+
+    abbrev with-a : Members
+    with-a = record { end = g .end; «is_object» = true; «snapshot_asks» = t .«snapshot_asks»; «snapshot_bids» = t .«snapshot_bids»; asks = w; bids = t .bids; checksum = t .checksum }
+
+    abbrev with-b : Members
+    with-b = record { end = g .end; «is_object» = true; «snapshot_asks» = t .«snapshot_asks»; «snapshot_bids» = t .«snapshot_bids»; asks = t .asks; bids = w; checksum = t .checksum }
+
+    reads-so : (r : Members) → r .end ≡ g .end → ((e : ℕ) → value 14 s from ≡ At e → g .end ≡ e → r ≡ withMember s t (pairTo e)) → MemberRead s t name from r
+    reads-so r q f = record { ends = q ∙ entries-end s from g h; told = λ e v. f e v (end-is s from g h e v) }
+
+    pub read-as : means s name (ascii "as") ≡ true → Put (t .«snapshot_asks») → MemberRead s t name from with-as
+    read-as m q = reads-so with-as refl (λ e v z. rw (z, slot-is s from g h (t .«snapshot_asks») w q e v)
+        (by-name e true false false false false
+        m (other (ascii "as") (ascii "bs") refl m) (other (ascii "as") (ascii "a") refl m) (other (ascii "as") (ascii "b") refl m) (other (ascii "as") (ascii "c") refl m)))
+
+    pub read-bs : means s name (ascii "bs") ≡ true → Put (t .«snapshot_bids») → MemberRead s t name from with-bs
+    read-bs m q = reads-so with-bs refl (λ e v z. rw (z, slot-is s from g h (t .«snapshot_bids») w q e v)
+        (by-name e false true false false false
+        (other (ascii "bs") (ascii "as") refl m) m (other (ascii "bs") (ascii "a") refl m) (other (ascii "bs") (ascii "b") refl m) (other (ascii "bs") (ascii "c") refl m)))
+
+    pub read-a : means s name (ascii "a") ≡ true → Put (t .asks) → MemberRead s t name from with-a
+    read-a m q = reads-so with-a refl (λ e v z. rw (z, slot-is s from g h (t .asks) w q e v)
+        (by-name e false false true false false
+        (other (ascii "a") (ascii "as") refl m) (other (ascii "a") (ascii "bs") refl m) m (other (ascii "a") (ascii "b") refl m) (other (ascii "a") (ascii "c") refl m)))
+
+    pub read-b : means s name (ascii "b") ≡ true → Put (t .bids) → MemberRead s t name from with-b
+    read-b m q = reads-so with-b refl (λ e v z. rw (z, slot-is s from g h (t .bids) w q e v)
+        (by-name e false false false true false
+        (other (ascii "b") (ascii "as") refl m) (other (ascii "b") (ascii "bs") refl m) (other (ascii "b") (ascii "a") refl m) m (other (ascii "b") (ascii "c") refl m)))
+
+  -- ---- the member `c`
+  pub read-c : means s name (ascii "c") ≡ true → (u r : Members) → u ≡ asObject t → SumRead s u from r → MemberRead s t name from r
+  read-c m u r k q = record { ends = q .ends; told = told }
+    where
+      told : (e : ℕ) → value 14 s from ≡ At e → r ≡ withMember s t (pairTo e)
+      told e v =
+          q .told e v ∙ ap (λ x. withSum e (moreSummed s (x .checksum) (record { from = from; to = e })) x) k
+          ∙ by-name e false false false false true
+          (other (ascii "c") (ascii "as") refl m) (other (ascii "c") (ascii "bs") refl m) (other (ascii "c") (ascii "a") refl m) (other (ascii "c") (ascii "b") refl m) m
+
+  -- ---- any other member
+  module _ (end : ℕ) (h : end ≡ endOf (value 14 s from)) where
+    pub read-other : means s name (ascii "c") ≡ false → means s name (ascii "a") ≡ false → means s name (ascii "b") ≡ false
+        → means s name (ascii "as") ≡ false → means s name (ascii "bs") ≡ false → MemberRead s t name from (closedAt end t)
+    unfolding endOf
+    read-other z x y p q = record { ends = h; told = λ e v. rw (h ∙ ap endOf v) (by-name e false false false false false p q x y z) }

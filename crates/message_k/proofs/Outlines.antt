@@ -1,0 +1,56 @@
+-- The definitions of check 6, by what the tests say.
+-- Assumes nothing.
+use mathlib.Core.Path.{_≡_, refl, sym, ap, _∙_}
+use mathlib.Core.Bool.{Bool, true, false, _&&_, _||_}
+use Prim.Native.Nat.{ℕ}
+use Rattle.layout.specs.Told.{outlineFrom, noOutline}
+use Rattle.layout.specs.declared.Listing.{Listing}
+use Rattle.layout.specs.declared.Outline.{Outline}
+use Rattle.message_k.specs.MembersK.{noMembers, hasMore, snapshotBy, updateBy, sideOf, outlineBy}
+use Rattle.message_k.specs.PartsK.{oneObject, twoObjects}
+use Rattle.message_k.specs.declared.Members.{Members}
+
+pub or-yes : (x y : Bool) → x ≡ true → true ≡ (x || y)
+or-yes x y h = sym (rw h)
+
+pub or-no : (x y : Bool) → x ≡ false → y ≡ (x || y)
+or-no x y h = sym (rw h)
+
+module _ (t : Members) (update : Bool) {snapshot : Bool} where
+  module _ {b a : Listing} where
+    pub outline-snapshot : snapshot ≡ true → b ≡ sideOf (t .«snapshot_bids») → a ≡ sideOf (t .«snapshot_asks»)
+        → outlineFrom true b a false 0 0 ≡ outlineBy snapshot update t
+    unfolding outlineBy
+    outline-snapshot h p q = sym (rw (h, outlineBy, p, q))
+
+    pub outline-update : snapshot ≡ false → (update && t .checksum .fair) ≡ true → b ≡ sideOf (t .bids) → a ≡ sideOf (t .asks)
+        → outlineFrom false b a true (t .checksum .sum) 0 ≡ outlineBy snapshot update t
+    unfolding outlineBy
+    outline-update h g p q = sym (rw (h, g, outlineBy, p, q))
+
+  pub outline-neither : snapshot ≡ false → (update && t .checksum .fair) ≡ false → noOutline ≡ outlineBy snapshot update t
+  unfolding outlineBy
+  outline-neither h g = sym (rw (h, g, outlineBy))
+
+module _ (whole : Bool) (t : Members) where
+  pub one-is : whole ≡ true → t .«is_object» ≡ true → outlineBy (snapshotBy t) (updateBy (hasMore (noMembers 0) t) (noMembers 0) t) t ≡ oneObject whole t
+  unfolding oneObject
+  one-is h g = sym (rw (h, g, oneObject))
+
+  pub one-no-object : whole ≡ true → t .«is_object» ≡ false → noOutline ≡ oneObject whole t
+  unfolding oneObject
+  one-no-object h g = sym (rw (h, g, oneObject))
+
+  pub one-no-whole : whole ≡ false → noOutline ≡ oneObject whole t
+  unfolding oneObject
+  one-no-whole h = sym (rw (h, oneObject))
+
+  module _ (u : Members) where
+    pub two-is : (whole && (t .«is_object» && u .«is_object»)) ≡ true
+        → outlineBy false (updateBy (hasMore (noMembers 0) t && hasMore t u) t u) u ≡ twoObjects whole t u
+    unfolding twoObjects
+    two-is h = sym (rw (h, twoObjects))
+
+    pub two-not : (whole && (t .«is_object» && u .«is_object»)) ≡ false → noOutline ≡ twoObjects whole t u
+    unfolding twoObjects
+    two-not h = sym (rw (h, twoObjects))

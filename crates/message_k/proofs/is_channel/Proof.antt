@@ -1,0 +1,35 @@
+-- `is_channel` meets its contract: the number spells the name.
+-- Assumes nothing.
+use mathlib.Core.Path.{_≡_, ap, _∙_}
+use denote.Ref.{now}
+use native.Mathlib.Omega.{arith}
+use Rattle.json.specs.Names.{means}
+use Rattle.message_k.proofs.Channel.{channel-three}
+use borrow.Author.Needs.{needs}
+use Rattle.message_k.proofs.is_channel.Statement.{statement}
+use Rattle.message_k.proofs.is_channel.Tie as tie
+
+two-digits-requires : tie.Need-two-digits-requires
+two-digits-requires c κs = search needs
+
+is-short-name-requires : tie.Need-is-short-name-requires
+is-short-name-requires c κs = search needs
+
+is-short-name-requires-2 : tie.Need-is-short-name-requires-2
+is-short-name-requires-2 c κs = search needs
+
+returns : tie.Need-returns
+returns c = let a = c .before .before .before .before .args in c .is-short-name .ensures ∙ ap (means (now (a .s)) (record { from = a .from; to = a .to })) (c .before .two-digits .ensures)
+
+returns-2 : tie.Need-returns-2
+returns-2 c = let a = c .before .before .before .args in let h : a .depth ≡ 100 = omega arith in c .is-short-name2 .ensures ∙ ap (means (now (a .s)) (record { from = a .from; to = a .to })) (channel-three (a .depth) h)
+
+pub is-channel-spec : {M : Type 1} → statement M
+is-channel-spec =
+    tie.close
+    (tie.spec
+    two-digits-requires
+    is-short-name-requires
+    is-short-name-requires-2
+    returns
+    returns-2)

@@ -1,0 +1,101 @@
+-- `k_message` meets its contract: by how many elements the array has.
+-- Assumes nothing.
+use mathlib.Core.Path.{sym, ap, _∙_}
+use denote.Ref.{now}
+use native.Mathlib.Omega.{arith}
+use Rattle.json_tokens.proofs.Laws.{in-byte}
+use Rattle.layout.specs.Told.{noFrame}
+use Rattle.message_k.specs.PartsK.{framedAs}
+use Rattle.message_k.proofs.Messages.{toldBy, told-four, told-five, told-other, told-none, told-array}
+use borrow.Author.Needs.{needs}
+use Rattle.message_k.proofs.k_message.Statement.{statement}
+use Rattle.message_k.proofs.k_message.Tie as tie
+
+byte-at-requires : tie.Need-byte-at-requires
+byte-at-requires c κs = search needs
+
+value-end-requires : tie.Need-value-end-requires
+value-end-requires c κs = search needs
+
+untold-requires : tie.Need-untold-requires
+untold-requires c κs = search needs
+
+returns : tie.Need-returns
+returns c =
+    let a = c .before .before .before .before .before .before .args in
+    let s = now (a .s) in
+    let d = a .depth in
+    let n = now (a .name) in
+    c .untold .ensures ∙ ap noFrame (c .before .value-end .ensures) ∙ told-none d n s (a .at) (λ z. c .before .before .if1 .taken (c .before .before .before .byte-at .ensures ∙ z))
+
+add-k-parts : tie.Need-add-k-parts
+add-k-parts c =
+    let a = c .before .before .before .before .args in
+    let s = now (a .s) in
+    let d = a .depth in
+    let n = now (a .name) in
+    let l = in-byte s (a .at) 91 (omega arith) (sym (c .before .byte-at .ensures) ∙ c .if1 .left) in omega arith
+
+k-parts-requires : tie.Need-k-parts-requires
+k-parts-requires c κs = search needs
+
+one-object-requires : tie.Need-one-object-requires
+one-object-requires c κs = search needs
+
+framed-requires : tie.Need-framed-requires
+framed-requires c κs = search needs
+
+returns-2 : tie.Need-returns-2
+returns-2 c =
+    let a = c .before .before .before .before .before .before .before .before .before .args in
+    let s = now (a .s) in
+    let d = a .depth in
+    let n = now (a .name) in
+    let p = c .before .before .before .before .k-parts .result in
+    c .framed .ensures ∙ ap (framedAs d n s p) (c .before .one-object .ensures) ∙ told-four d n s p (c .before .before .before .if2 .taken) ∙ ap (toldBy d n s) (c .before .before .before .before .k-parts .ensures) ∙ told-array d n s (a .at) (sym (c .before .before .before .before .before .before .byte-at .ensures) ∙ c .before .before .before .before .before .if1 .left)
+
+two-objects-requires : tie.Need-two-objects-requires
+two-objects-requires c κs = search needs
+
+framed-requires-2 : tie.Need-framed-requires-2
+framed-requires-2 c κs = search needs
+
+returns-3 : tie.Need-returns-3
+returns-3 c =
+    let a = c .before .before .before .before .before .before .before .before .before .before .before .args in
+    let s = now (a .s) in
+    let d = a .depth in
+    let n = now (a .name) in
+    let p = c .before .before .before .before .before .before .k-parts .result in
+    c .framed2 .ensures ∙ ap (framedAs d n s p) (c .before .two-objects .ensures) ∙ told-five d n s p (c .before .before .before .before .if3 .taken) ∙ ap (toldBy d n s) (c .before .before .before .before .before .before .k-parts .ensures) ∙ told-array d n s (a .at) (sym (c .before .before .before .before .before .before .before .before .byte-at .ensures) ∙ c .before .before .before .before .before .before .before .if1 .left)
+
+untold-requires-2 : tie.Need-untold-requires-2
+untold-requires-2 c κs = search needs
+
+returns-4 : tie.Need-returns-4
+returns-4 c =
+    let a = c .before .before .before .before .before .before .before .before .args in
+    let s = now (a .s) in
+    let d = a .depth in
+    let n = now (a .name) in
+    let p = c .before .before .before .k-parts .result in
+    c .untold2 .ensures ∙ told-other d n s p (c .before .before .if2 .left) (c .before .if3 .left) ∙ ap (toldBy d n s) (c .before .before .before .k-parts .ensures) ∙ told-array d n s (a .at) (sym (c .before .before .before .before .before .byte-at .ensures) ∙ c .before .before .before .before .if1 .left)
+
+pub k-message-spec : {M : Type 1} → statement M
+k-message-spec =
+    tie.close
+    (tie.spec
+    byte-at-requires
+    value-end-requires
+    untold-requires
+    returns
+    add-k-parts
+    k-parts-requires
+    one-object-requires
+    framed-requires
+    returns-2
+    two-objects-requires
+    framed-requires-2
+    returns-3
+    untold-requires-2
+    returns-4)

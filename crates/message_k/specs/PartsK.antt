@@ -1,0 +1,118 @@
+-- What is told of the elements of a message of dialect K. Assumes nothing: these are definitions.
+use Prim.Native.Nat.{ℕ, _+_}
+use mathlib.Core.Path.{_≡_}
+use mathlib.Core.Bool.{Bool, true, false, _&&_, _||_, cond}
+use mathlib.Core.List.{List, _++_}
+use lib.Dec.{leb, eqb}
+use Rattle.decimal.specs.Ascii.{ascii}
+use Rattle.decimal.specs.Digits.{Reading, written}
+use Rattle.json_tokens.specs.Tokens.{At, endOf}
+use Rattle.json.specs.Json.{Span, Items, value}
+use Rattle.json.specs.Names.{means, hasBackslash}
+use Rattle.entries.specs.Places.{isString, objectAt, wholeAt}
+use Rattle.layout.specs.Told.{noOutline}
+use Rattle.layout.specs.Fold.{foldedIn}
+use Rattle.layout.specs.declared.Outline.{Outline}
+use Rattle.layout.specs.declared.Told.{Told}
+use Rattle.message_k.specs.MembersK.{isRead, noMembers, membersOf, hasMore, snapshotBy, updateBy, outlineBy}
+use Rattle.message_k.specs.declared.Members.{Members}
+use Rattle.message_k.specs.declared.Parts.{Parts}
+
+-- One more element, told up to six.
+unfoldable pub upToSix : ℕ → ℕ
+upToSix n = cond (leb 6 n) 6 (n + 1)
+
+abbrev pub noParts : Parts
+noParts =
+    record {
+      end = 0;
+      count = 0;
+      whole = false;
+      one = noMembers 0;
+      two = noMembers 0;
+      «channel_from» = 0;
+      «channel_to» = 0;
+      «pair_from» = 0;
+      «pair_to» = 0;
+    }
+
+-- One more element, which lies from `from` to `to`; the last two are the channel and the pair.
+abbrev pub passed : Parts → ℕ → ℕ → Parts
+passed t from to =
+    record {
+      end = to;
+      count = upToSix (t .count);
+      whole = t .whole;
+      one = t .one;
+      two = t .two;
+      «channel_from» = t .«pair_from»;
+      «channel_to» = t .«pair_to»;
+      «pair_from» = from;
+      «pair_to» = to;
+    }
+
+unfoldable pub withPart : List ℕ → Parts → Span → Parts
+withPart s t a =
+    record {
+      end = a .to;
+      count = upToSix (t .count);
+      whole = cond (eqb (t .count) 0) (isRead (wholeAt s a)) (t .whole);
+      one = cond (eqb (t .count) 1) (membersOf s (noMembers 0) (a .to) (objectAt 15 s a)) (t .one);
+      two = cond (eqb (t .count) 2) (membersOf s (t .one) (a .to) (objectAt 15 s a)) (t .two);
+      «channel_from» = t .«pair_from»;
+      «channel_to» = t .«pair_to»;
+      «pair_from» = a .from;
+      «pair_to» = a .to;
+    }
+
+-- r tells of the element at a position, with t told before.
+pub record PartRead (s : List ℕ) (t : Parts) (at : ℕ) (r : Parts) : Type 0 where
+  pub ends : r .end ≡ endOf (value 15 s at)
+  pub told : (e : ℕ) → value 15 s at ≡ At e → r ≡ withPart s t (record { from = at; to = e })
+
+abbrev pub endedAt : ℕ → Parts → Parts
+endedAt e t =
+    record {
+      end = e;
+      count = t .count;
+      whole = t .whole;
+      one = t .one;
+      two = t .two;
+      «channel_from» = t .«channel_from»;
+      «channel_to» = t .«channel_to»;
+      «pair_from» = t .«pair_from»;
+      «pair_to» = t .«pair_to»;
+    }
+
+unfoldable pub partsIn : List ℕ → Items Span → Parts
+partsIn s x = foldedIn (withPart s) endedAt noParts noParts x
+
+-- ---- checks 4 and 5, of the last two elements
+
+unfoldable pub escapedAt : List ℕ → Span → Bool
+escapedAt s a = isString s a && hasBackslash s a
+
+unfoldable pub oursBy : ℕ → List ℕ → List ℕ → Span → Span → Bool
+oursBy depth name s channel pair = means s channel (ascii "book-" ++ written depth) && means s pair name
+
+abbrev pub framedAs : ℕ → List ℕ → List ℕ → Parts → Outline → Told
+framedAs depth name s t outline =
+    record {
+      end = t .end;
+      framed = true;
+      escaped = escapedAt s (record { from = t .«channel_from»; to = t .«channel_to» }) || escapedAt s (record { from = t .«pair_from»; to = t .«pair_to» });
+      ours =
+          oursBy depth name s (record { from = t .«channel_from»; to = t .«channel_to» }) (record { from = t .«pair_from»; to = t .«pair_to» });
+      outline = outline;
+    }
+
+-- ---- check 6: `whole` is whether the first element is a whole number
+
+unfoldable pub oneObject : Bool → Members → Outline
+oneObject whole t =
+    cond (whole && t .«is_object») (outlineBy (snapshotBy t) (updateBy (hasMore (noMembers 0) t) (noMembers 0) t) t) noOutline
+
+-- t is told of the first object, and u of both.
+unfoldable pub twoObjects : Bool → Members → Members → Outline
+twoObjects whole t u =
+    cond (whole && (t .«is_object» && u .«is_object»)) (outlineBy false (updateBy (hasMore (noMembers 0) t && hasMore t u) t u) u) noOutline

@@ -3,13 +3,13 @@ use Prim.Native.Nat.{ℕ}
 use mathlib.Core.Bool.{Bool, true, false}
 use Rattle.settings.specs.declared.Dialect.{Dialect}
 use Rattle.settings.specs.declared.Dialect.the-variants.{K, M, Unknown}
-use Rattle.side.specs.Kept.{held} 
+use Rattle.side.specs.Kept.{held}
 use Rattle.side.specs.Kept as kept·
 use Rattle.side.specs.declared.Side.{Side}
 use Rattle.side.specs.declared.Side.the-variants.{Bids, Asks}
 use Rattle.side.specs.declared.Found.{Found}
 use Rattle.message.specs.declared.Answer.{Answer}
-use Rattle.message.specs.declared.Answer.the-variants.{Taken, NoSnapshot} 
+use Rattle.message.specs.declared.Answer.the-variants.{Taken, NoSnapshot}
 use Rattle.message.specs.declared.Answer.the-variants as answer·
 use Rattle.book.specs.Reference.{Status, shut, waiting, live}
 use Rattle.book.specs.declared.Scope.{Scope}

@@ -1,0 +1,111 @@
+-- The reader's answers, step by step.
+-- Assumes nothing.
+use mathlib.Core.Path.{_≡_, refl, sym, ap, _∙_}
+use mathlib.Core.List.{List}
+use mathlib.Core.Bool.{Bool, true, false, true≢false, _&&_, _||_, cond}
+use Prim.Native.Nat.{ℕ, _<_, _≤_}
+use native.Mathlib.Omega.{arith}
+use borrow.Author.Tests.{lt-ltb, le-ltb, leb-true}
+use lib.Dec.{leb, ltb}
+use lib.ListN.{length}
+use Rattle.decimal.specs.Digits.{Reading, reads, refused}
+use Rattle.json_tokens.specs.Tokens.{End, At, Broken, endOf, blanks, ended}
+use Rattle.json.specs.Json.{value, text}
+use Rattle.settings.specs.Settings.{Terms, goodDepth, goodName, good}
+use Rattle.settings.specs.declared.Dialect.{Dialect}
+use Rattle.settings.specs.declared.Dialect.the-variants.{K, M, Unknown}
+use Rattle.entries.specs.Places.{top}
+use Rattle.layout.specs.Layout.{Layout}
+use Rattle.layout.specs.Told.{noFrame, anyBad, outlineOf, toldOf, toldAt}
+use Rattle.layout.specs.declared.Outline.{Outline}
+use Rattle.layout.specs.declared.Told.{Told}
+use Rattle.message.specs.Meaning.{Checked, fails, passes, decimals, alsoDecimals, addressed, heardIn, framed, checked, judged}
+use Rattle.message.specs.Verdict.{verdictOf}
+use Rattle.message.specs.Deciding.{decided}
+use Rattle.message.specs.declared.Answer.{Answer}
+use Rattle.message.specs.declared.Answer.the-variants.{Shut, TooLong, NotJson, BadDecimal}
+use Rattle.message.specs.declared.Verdict.{Verdict}
+use Rattle.message.specs.declared.Verdict.the-variants.{Fails, Passes}
+use Rattle.message.proofs.Deciding.{decided-is, none-bad, some-bad}
+
+and-first : (a b : Bool) → (a && b) ≡ true → a ≡ true
+and-first true b h = refl
+and-first false b h = h
+
+and-second : (a b : Bool) → (a && b) ≡ true → b ≡ true
+and-second true b h = h
+and-second false b h = absurd (true≢false (sym h))
+
+-- ---- check 1
+
+pub k-depth : (depth : ℕ) (name : List ℕ) → good (record { dialect = K; depth = depth; name = name }) ≡ true → (10 ≤ depth) × (depth ≤ 100)
+unfolding good goodDepth
+k-depth depth name h =
+    let d = and-first (leb 10 depth && leb depth 100) (goodName name) h in
+    (leb-true 10 depth (and-first (leb 10 depth) (leb depth 100) d), leb-true depth 100 (and-second (leb 10 depth) (leb depth 100) d))
+
+module _ (t : Terms) (s : List ℕ) where
+  pub judged-good : good t ≡ true → verdictOf s (checked t s) ≡ verdictOf s (judged t s)
+  unfolding judged
+  judged-good h = sym (ap (verdictOf s) (rw (h, judged)))
+
+  pub judged-shut : good t ≡ false → Fails Shut ≡ verdictOf s (judged t s)
+  unfolding judged verdictOf
+  judged-shut h = sym (rw (h, judged, verdictOf))
+
+  -- ---- checks 2 to 7
+
+  pub frame-long : 32768 < length s → Fails TooLong ≡ verdictOf s (framed t s)
+  unfolding framed verdictOf
+  frame-long h = let e = lt-ltb 32768 (length s) h in sym (rw (e, framed, verdictOf))
+
+  abbrev here : Told
+  here = toldAt (heardIn (t .dialect) t) s (blanks s 0)
+
+  pub frame-rest : length s ≤ 32768 → (told : Told) → told ≡ here → (over : Bool) → over ≡ ended s (told .end) → decided told over ≡ verdictOf s (framed t s)
+  unfolding framed
+  frame-rest h told p over q =
+      let e = le-ltb 32768 (length s) h in
+      let o : over ≡ ended s (here .end) = q ∙ ap (λ (x : Told). ended s (x .end)) p in
+      ap (λ (x : Told). decided x over) p ∙ ap (decided here) o ∙ decided-is (heardIn (t .dialect) t) s ∙ sym (ap (verdictOf s) (rw (e, framed)))
+
+  -- ---- check 8
+
+  module _ (v : Verdict) (h : v ≡ verdictOf s (framed t s)) where
+    pub open-fails : (a : Answer) → v ≡ Fails a → Fails a ≡ verdictOf s (checked t s)
+    unfolding checked alsoDecimals verdictOf
+    open-fails a g = go (framed t s) (sym h ∙ g)
+      where
+        go : (x : Checked) → verdictOf s x ≡ Fails a → Fails a ≡ verdictOf s (alsoDecimals s x)
+        go (fails b) k = sym k
+        go (passes l) k = let z : _≡_ {A = ℕ} 0 1 = cc in absurd (omega arith)
+
+    pub open-bad : (o : Outline) → v ≡ Passes o → o .bad ≡ true → Fails BadDecimal ≡ verdictOf s (checked t s)
+    unfolding checked alsoDecimals verdictOf outlineOf
+    open-bad o g b = go (framed t s) (sym h ∙ g)
+      where
+        go : (x : Checked) → verdictOf s x ≡ Passes o → Fails BadDecimal ≡ verdictOf s (alsoDecimals s x)
+        go (fails a) k = let z : _≡_ {A = ℕ} 0 1 = cc in absurd (omega arith)
+        go (passes l) k =
+            let e : outlineOf s (reads l) ≡ o = cc in
+            sym (ap (verdictOf s) (some-bad s l (ap (λ (x : Outline). x .bad) e ∙ b)))
+
+    pub open-passes : (o : Outline) → v ≡ Passes o → o .bad ≡ false → Passes o ≡ verdictOf s (checked t s)
+    unfolding checked alsoDecimals verdictOf outlineOf
+    open-passes o g b = go (framed t s) (sym h ∙ g)
+      where
+        go : (x : Checked) → verdictOf s x ≡ Passes o → Passes o ≡ verdictOf s (alsoDecimals s x)
+        go (fails a) k = let z : _≡_ {A = ℕ} 0 1 = cc in absurd (omega arith)
+        go (passes l) k =
+            let e : outlineOf s (reads l) ≡ o = cc in
+            sym k ∙ sym (ap (verdictOf s) (none-bad s l (ap (λ (x : Outline). x .bad) e ∙ b)))
+
+-- ---- what no dialect reads
+
+pub told-unknown : (t : Terms) (s : List ℕ) (at e : ℕ) → e ≡ endOf (value 16 s at) → noFrame e ≡ toldAt (heardIn Unknown t) s at
+unfolding toldAt heardIn toldOf endOf
+told-unknown t s at e h = go (value 16 s at) h
+  where
+    go : (x : End) → e ≡ endOf x → noFrame e ≡ elim x [ At i ↦ toldOf s i refused | Broken ↦ toldOf s 0 refused ]
+    go (At i) g = ap noFrame g
+    go Broken g = ap noFrame g

@@ -1,0 +1,43 @@
+-- `read_frame` meets its contract: a message that is too long, or the checks by what one walk tells.
+use Rattle.message.proofs.Reading.{frame-long, frame-rest}
+use mathlib.Core.Path.{ap, _∙_}
+use denote.Ref.{now}
+use Rattle.layout.specs.Told.{toldAt}
+use Rattle.message.specs.Meaning.{heardIn}
+use borrow.Author.Needs.{needs}
+use Rattle.message.proofs.read_frame.Statement.{statement}
+use Rattle.message.proofs.read_frame.Tie as tie
+
+returns : tie.Need-returns
+returns c =
+    let a = c .before .before .before .args in
+    frame-long (record { dialect = a .dialect; depth = a .depth; name = now (a .name) }) (now (a .s)) (c .if1 .taken)
+
+skip-blanks-requires : tie.Need-skip-blanks-requires
+skip-blanks-requires c κs = search needs
+
+told-at-requires : tie.Need-told-at-requires
+told-at-requires c κs = search needs
+
+is-ended-requires : tie.Need-is-ended-requires
+is-ended-requires c κs = search needs
+
+decide-requires : tie.Need-decide-requires
+decide-requires c κs = search needs
+
+returns-2 : tie.Need-returns-2
+returns-2 c =
+    let a = c .before .before .before .before .before .before .before .args in
+    let k = c .before .before .before .skip-blanks .ensures in
+    c .decide .ensures ∙ frame-rest (record { dialect = a .dialect; depth = a .depth; name = now (a .name) }) (now (a .s)) (c .before .before .before .before .if1 .left) (c .before .before .told-at .result) (c .before .before .told-at .ensures ∙ ap (toldAt (heardIn (a .dialect) (record { dialect = a .dialect; depth = a .depth; name = now (a .name) })) (now (a .s))) k) (c .before .is-ended .result) (c .before .is-ended .ensures)
+
+pub read-frame-spec : {M : Type 1} → statement M
+read-frame-spec =
+    tie.close
+    (tie.spec
+    returns
+    skip-blanks-requires
+    told-at-requires
+    is-ended-requires
+    decide-requires
+    returns-2)

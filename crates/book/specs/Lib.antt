@@ -1,4 +1,5 @@
--- In reading order: the reference book; what the code's book shows and ensures; what its methods ask on their way.
+-- In reading order: the reference book; what the code's book shows and ensures; what its methods ask and give on their way.
 pub mod Reference
 pub mod Shown
 pub mod Asking
+pub mod Taking

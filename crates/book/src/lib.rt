@@ -6,6 +6,8 @@
 //     let best = book.level(Scope::Current, Side::Bids, 0);
 //
 // A method takes the book by value and hands it back with its answer.
+mod taking;
+
 use decimal::Decimal;
 use message::Answer;
 use settings::Dialect;

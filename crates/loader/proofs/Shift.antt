@@ -1,9 +1,10 @@
 -- Entries that lie in the middle of a message: what the loader makes of the text from their array on, it makes of the message. Assumes nothing.
-use Prim.Native.Nat.{ℕ, _≤_}
+use Prim.Native.Nat.{ℕ, _-_, _≤_}
 use mathlib.Core.Path.{_≡_, refl, sym, ap, ap₂, _∙_}
 use mathlib.Core.List.{List, [], _∷_, map}
 use native.Mathlib.Omega.{arith}
-use lib.ListN.{length, drop, length-map}
+use lib.ListN.{length, take, drop, length-drop, length-map}
+use lib.Seq.{take-all}
 use Rattle.decimal.specs.Digits.{Reading, reads, refused}
 use Rattle.decimal.specs.Decimal.{Number}
 use Rattle.json.specs.Json.{Span}
@@ -23,36 +24,45 @@ module _ (k : ℕ) (s : List ℕ) where
   edits-shift [] = refl
   edits-shift (r ∷ l) = ap₂ (λ (x : Edit PriceLevel) (y : List (Edit PriceLevel)). x ∷ y) (edit-shift r) (edits-shift l)
 
-  -- the array of entries at k of the message has these rows
-  module _ (entry : List ℕ → Span → Reading Row) (even : Even k s entry) (e : ℕ) (rows : List Row) (h : entriesAt entry s (record { from = k; to = e }) ≡ reads rows) where
-    later : (rest : List Row) × (entriesAt entry (drop k s) (record { from = 0; to = e }) ≡ reads rest) × (rows ≡ map (shiftedRow k) rest)
-    unfolding changed
-    later = go (entriesAt entry (drop k s) (record { from = 0; to = e })) refl (sym (rows-shift k s entry even e e) ∙ h)
-      where
-        go : (x : Reading (List Row)) → entriesAt entry (drop k s) (record { from = 0; to = e }) ≡ x → changed (map (shiftedRow k)) x ≡ reads rows
-            → (rest : List Row) × (entriesAt entry (drop k s) (record { from = 0; to = e }) ≡ reads rest) × (rows ≡ map (shiftedRow k) rest)
-        go (reads rest) q g = (rest, q, same-rows g)
-        go refused q g = no-rows g
+-- the part of a text from k on, as the code has it
+pub part-is : (k : ℕ) (s : List ℕ) → take (length s - k) (drop k s) ≡ drop k s
+part-is k s = let n = length-drop k s in take-all (length s - k) (drop k s) (omega arith)
 
-    pub shifted-rows : rows ≡ map (shiftedRow k) (rowsAt entry (drop k s))
-    shifted-rows = let l = later in l .2 ∙ ap (map (shiftedRow k)) (sym (rows-are entry (drop k s) e (l .1)))
+-- ---- the array of entries at k of the message has these rows; u is the text from there on
+module _ (k : ℕ) (s u : List ℕ) (from : u ≡ drop k s) (entry : List ℕ → Span → Reading Row) (even : Even k s entry) (e : ℕ) (rows : List Row)
+    (h : entriesAt entry s (record { from = k; to = e }) ≡ reads rows) where
+  record Later : Type 0 where
+    rest : List Row
+    listed : entriesAt entry u (record { from = 0; to = e }) ≡ reads rest
+    same : rows ≡ map (shiftedRow k) rest
 
-    shifted-count : length rows ≡ length (rowsAt entry (drop k s))
-    shifted-count = ap length shifted-rows ∙ length-map (rowsAt entry (drop k s)) (shiftedRow k)
+  later : Later
+  unfolding changed
+  later = go (entriesAt entry (drop k s) (record { from = 0; to = e })) refl (sym (rows-shift k s entry even e e) ∙ h)
+    where
+      go : (x : Reading (List Row)) → entriesAt entry (drop k s) (record { from = 0; to = e }) ≡ x → changed (map (shiftedRow k)) x ≡ reads rows → Later
+      go (reads rest) q g = record { rest = rest; listed = rw from q; same = same-rows g }
+      go refused q g = no-rows g
 
-    -- the text from there on can be loaded
-    pub shifted-loadable : length rows ≤ 100 → Loadable entry (drop k s)
-    shifted-loadable few = let l = later in let n = ap length (l .2) ∙ length-map (l .0) (shiftedRow k) in loadable entry (drop k s) e (l .1) (omega arith)
+  pub shifted-rows : rows ≡ map (shiftedRow k) (rowsAt entry u)
+  shifted-rows = later .same ∙ ap (map (shiftedRow k)) (sym (rows-are entry u e (later .listed)))
 
-    -- and its words are those of the message's rows
-    pub shifted-loaded : {piece : Number → Number → List ℕ} {prices sizes rests : List ℕ} {n : ℕ}
-        → Loaded piece (drop k s) (rowsAt entry (drop k s)) prices sizes rests n → Loaded piece s rows prices sizes rests n
-    shifted-loaded l =
-        record {
-          room = l .room;
-          count = l .count ∙ sym shifted-count;
-          few = l .few;
-          given = l .given;
-          edits = l .edits ∙ sym (edits-shift (rowsAt entry (drop k s))) ∙ sym (ap (map (editAt s)) shifted-rows);
-          carried = l .carried;
-        }
+  -- u can be loaded
+  pub shifted-loadable : length rows ≤ 100 → Loadable entry u
+  shifted-loadable few = let n = ap length (later .same) ∙ length-map (later .rest) (shiftedRow k) in loadable entry u e (later .listed) (omega arith)
+
+  -- and its words are those of the message's rows
+  pub shifted-loaded : {piece : Number → Number → List ℕ} {prices sizes rests : List ℕ} {n : ℕ}
+      → Loaded piece u (rowsAt entry u) prices sizes rests n → Loaded piece s rows prices sizes rests n
+  shifted-loaded l =
+      record {
+        room = l .room;
+        count = l .count ∙ sym (ap length shifted-rows ∙ length-map (rowsAt entry u) (shiftedRow k));
+        few = l .few;
+        prices-count = l .prices-count;
+        sizes-count = l .sizes-count;
+        rests-count = l .rests-count;
+        given = l .given;
+        edits = l .edits ∙ ap (λ (x : List ℕ). map (editAt x) (rowsAt entry u)) from ∙ sym (ap (map (editAt s)) shifted-rows ∙ edits-shift k s (rowsAt entry u));
+        carried = l .carried;
+      }

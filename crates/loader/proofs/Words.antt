@@ -93,7 +93,7 @@ map-snoc {A} {B} g (y ∷ l) x = ap (λ (t : List B). g y ∷ t) (map-snoc g l x
 
 pub loaded-none : {piece : Number → Number → List ℕ} {s prices sizes rests : List ℕ} → Room prices sizes rests → Loaded piece s [] prices sizes rests 0
 unfolding All entriesOf
-loaded-none r = record { room = r; count = refl; few = omega arith; given = record { few = omega arith; sizes-long = refl; rests-long = refl; within = tt }; edits = refl; carried = tt }
+loaded-none r = record { room = r; count = refl; few = omega arith; prices-count = refl; sizes-count = refl; rests-count = refl; given = record { few = omega arith; sizes-long = refl; rests-long = refl; within = tt }; edits = refl; carried = tt }
 
 module _ {piece : Number → Number → List ℕ} {s : List ℕ} {rows : List Row} {prices sizes rests : List ℕ} {k : ℕ} (h : Loaded piece s rows prices sizes rests k)
     (below : k < 100) (f : Found) (level : Level) (rest : ℕ) (p : Packed level rest) (l : LevelAt piece s f level) where
@@ -106,8 +106,8 @@ module _ {piece : Number → Number → List ℕ} {s : List ℕ} {rows : List Ro
   long : (xs : List ℕ) → length xs ≡ 100 → length (take k xs) ≡ k
   long xs n = length-take-le k xs (omega arith)
 
-  grown : (xs : List ℕ) (x : ℕ) → length xs ≡ 100 → length (take (k + 1) (set xs k x)) ≡ k + 1
-  grown xs x n = let e : length (set xs k x) ≡ length xs = length-set xs k x in length-take-le (k + 1) (set xs k x) (omega arith)
+  grown : (xs : List ℕ) (x : ℕ) → length xs ≡ 100 → k + 1 ≡ length (take (k + 1) (set xs k x))
+  grown xs x n = let e : length (set xs k x) ≡ length xs = length-set xs k x in sym (length-take-le (k + 1) (set xs k x) (omega arith))
 
   front : (xs : List ℕ) (x : ℕ) → length xs ≡ 100 → take (k + 1) (set xs k x) ≡ take k xs ++ (x ∷ [])
   front xs x n = ap (λ (n : ℕ). take n (set xs k x)) (add-one k) ∙ take-suc-set xs k x (omega arith)
@@ -133,14 +133,20 @@ module _ {piece : Number → Number → List ℕ} {s : List ℕ} {rows : List Ro
       let lp = h .room .prices-long in
       let lz = h .room .sizes-long in
       let lr = h .room .rests-long in
+      let gp = grown prices (level .price) lp in
+      let gz = grown sizes (level .size) lz in
+      let gr = grown rests rest lr in
       record {
         room = record { prices-long = length-set prices k (level .price) ∙ lp; sizes-long = length-set sizes k (level .size) ∙ lz; rests-long = length-set rests k rest ∙ lr };
         count = let n = h .count in let m = length-append rows (rowOf f ∷ []) in omega arith;
         few = omega arith;
+        prices-count = gp;
+        sizes-count = gz;
+        rests-count = gr;
         given = record {
-          few = let n = grown prices (level .price) lp in omega arith;
-          sizes-long = grown sizes (level .size) lz ∙ sym (grown prices (level .price) lp);
-          rests-long = grown rests rest lr ∙ sym (grown prices (level .price) lp);
+          few = omega arith;
+          sizes-long = sym gz ∙ gp;
+          rests-long = sym gr ∙ gp;
           within = each-edit (λ x. Within (named levelPrice x)) (b .within) (h .given .within);
         };
         edits =

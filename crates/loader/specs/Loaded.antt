@@ -51,6 +51,9 @@ pub record Loaded (piece : Number → Number → List ℕ) (s : List ℕ) (rows 
   pub room : Room prices sizes rests
   pub count : n ≡ length rows
   pub few : n ≤ maxEntries
+  pub prices-count : n ≡ length (take n prices)
+  pub sizes-count : n ≡ length (take n sizes)
+  pub rests-count : n ≡ length (take n rests)
   pub given : Given (take n prices) (take n sizes) (take n rests)
   pub edits : map (mapEdit shown) (entriesOf (take n prices) (take n sizes) (take n rests)) ≡ map (editAt s) rows
   pub carried : All (IfSet (Carries piece)) (entriesOf (take n prices) (take n sizes) (take n rests))

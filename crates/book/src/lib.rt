@@ -83,12 +83,14 @@ pub fn open(dialect: Dialect, depth: usize, name: &[u8]) -> Book
     ensures { λ r. ⌜ Opened (record { dialect = dialect; depth = depth; name = now (name .entry) }) r ⌝ }
 {
     let settings = settings::choose(dialect, depth, name);
+    let dialect = settings.dialect;
+    let none = side::empty();
     Book {
         settings,
-        state: first_state(settings.dialect),
+        state: first_state(dialect),
         ever: false,
-        bids: side::empty(),
-        asks: side::empty(),
+        bids: none,
+        asks: none,
         number: 0,
         updates: 0,
     }
@@ -110,7 +112,8 @@ impl Book {
         requires { ⌜ Good self ⌝ }
         ensures { λ r. ⌜ Told (hear (shows self) (now (s .entry))) r ⌝ }
     {
-        match self.state {
+        let state = self.state;
+        match state {
             State::Shut => Step {
                 book: self,
                 answer: Answer::Shut,
@@ -125,17 +128,20 @@ impl Book {
         requires { ⌜ Good self ⌝ }
         ensures { λ r. ⌜ AnswersCounts self scope r ⌝ }
     {
-        if stands(self.state, self.ever, scope) {
+        let state = self.state;
+        if stands(state, self.ever, scope) {
+            let bids = self.bids;
+            let asks = self.asks;
             return Counted {
                 book: self,
                 answer: Answer::Taken,
-                bids: self.bids.count,
-                asks: self.asks.count,
+                bids: bids.count,
+                asks: asks.count,
             };
         }
         Counted {
             book: self,
-            answer: refusal(self.state),
+            answer: refusal(state),
             bids: 0,
             asks: 0,
         }
@@ -146,7 +152,8 @@ impl Book {
         requires { ⌜ Good self ⌝ }
         ensures { λ r. ⌜ AnswersLevel self scope side i r ⌝ }
     {
-        if stands(self.state, self.ever, scope) {
+        let state = self.state;
+        if stands(state, self.ever, scope) {
             return match level_in(self, side, i) {
                 Found::At(level) => Levelled {
                     book: self,
@@ -157,7 +164,7 @@ impl Book {
                 Found::Nothing => no_level(self, Answer::NoLevel),
             };
         }
-        no_level(self, refusal(self.state))
+        no_level(self, refusal(state))
     }
 
     // The sequence number.
@@ -165,14 +172,15 @@ impl Book {
         requires { ⌜ Good self ⌝ }
         ensures { λ r. ⌜ AnswersAmount self (whichNumber scope) r ⌝ }
     {
-        if stands(self.state, self.ever, scope) {
+        let state = self.state;
+        if stands(state, self.ever, scope) {
             return Amounted {
                 book: self,
                 answer: Answer::Taken,
                 amount: self.number,
             };
         }
-        no_amount(self, refusal(self.state))
+        no_amount(self, refusal(state))
     }
 
     // How many updates were taken since the last snapshot.
@@ -180,14 +188,15 @@ impl Book {
         requires { ⌜ Good self ⌝ }
         ensures { λ r. ⌜ AnswersAmount self (howManyUpdates scope) r ⌝ }
     {
-        if stands(self.state, self.ever, scope) {
+        let state = self.state;
+        if stands(state, self.ever, scope) {
             return Amounted {
                 book: self,
                 answer: Answer::Taken,
                 amount: self.updates,
             };
         }
-        no_amount(self, refusal(self.state))
+        no_amount(self, refusal(state))
     }
 }
 
@@ -223,9 +232,11 @@ fn level_in(book: Book, side: Side, i: usize) -> Found
     requires { ⌜ Good book ⌝ }
     ensures { λ r. ⌜ r ≡ levelIn book side i ⌝ }
 {
+    let bids = book.bids;
+    let asks = book.asks;
     match side {
-        Side::Bids => side::level_at(book.bids, i),
-        Side::Asks => side::level_at(book.asks, i),
+        Side::Bids => side::level_at(bids, i),
+        Side::Asks => side::level_at(asks, i),
     }
 }
 

@@ -31,9 +31,11 @@ pub fn hear(book: Book, s: &[u8]) -> Step
     ensures { λ r. ⌜ Told (hear (shows book) (now (s .entry))) r ⌝ }
 {
     let settings = book.settings;
+    let dialect = settings.dialect;
+    let depth = settings.depth;
     let name = settings.name;
     let n = settings.length;
-    match message::read_open(settings.dialect, settings.depth, &name[..n], s) {
+    match message::read_open(dialect, depth, &name[..n], s) {
         Verdict::Fails(answer) => refuse(book, answer),
         Verdict::Passes(outline) => weigh(book, s, outline),
     }
@@ -47,7 +49,8 @@ fn weigh(book: Book, s: &[u8], outline: Outline) -> Step
     if outline.snapshot {
         return take_snapshot(book, s, outline);
     }
-    match book.state {
+    let state = book.state;
+    match state {
         State::Shut => refuse(book, Answer::NoSnapshot),
         State::Waiting => refuse(book, Answer::NoSnapshot),
         State::Live => take_update(book, s, outline),
@@ -58,10 +61,13 @@ fn take_snapshot(book: Book, s: &[u8], outline: Outline) -> Step
     requires { ⌜ Passed book (now s) outline × (outline .snapshot ≡ true) ⌝ }
     ensures { λ r. ⌜ Told (hear (shows book) (now (s .entry))) r ⌝ }
 {
-    let depth = book.settings.depth;
-    let m = is_m(book.settings.dialect);
+    let settings = book.settings;
+    let depth = settings.depth;
+    let dialect = settings.dialect;
+    let m = is_m(dialect);
+    let none = side::empty();
     let bids = sides::apply_entries(
-        side::empty(),
+        none,
         Side::Bids,
         depth,
         m,
@@ -70,7 +76,7 @@ fn take_snapshot(book: Book, s: &[u8], outline: Outline) -> Step
         outline.bids,
     );
     let asks = sides::apply_entries(
-        side::empty(),
+        none,
         Side::Asks,
         depth,
         m,
@@ -84,7 +90,9 @@ fn take_snapshot(book: Book, s: &[u8], outline: Outline) -> Step
     if asks.met {
         return refuse(book, Answer::PriceTwice);
     }
-    settle(book, outline, bids.levels, asks.levels, 0, true)
+    let new_bids = bids.levels;
+    let new_asks = asks.levels;
+    settle(book, outline, new_bids, new_asks, 0, true)
 }
 
 // An update to a live book.
@@ -92,13 +100,16 @@ fn take_update(book: Book, s: &[u8], outline: Outline) -> Step
     requires { ⌜ Passed book (now s) outline × (outline .snapshot ≡ false) × (book .state ≡ Live) ⌝ }
     ensures { λ r. ⌜ Told (hear (shows book) (now (s .entry))) r ⌝ }
 {
-    let depth = book.settings.depth;
-    let m = is_m(book.settings.dialect);
+    let settings = book.settings;
+    let depth = settings.depth;
+    let dialect = settings.dialect;
+    let m = is_m(dialect);
     if is_old(m, outline.number, book.number) {
         return refuse(book, Answer::OldNumber);
     }
+    let old_bids = book.bids;
     let bids = sides::apply_entries(
-        book.bids,
+        old_bids,
         Side::Bids,
         depth,
         m,
@@ -106,8 +117,9 @@ fn take_update(book: Book, s: &[u8], outline: Outline) -> Step
         outline.bids_at,
         outline.bids,
     );
+    let old_asks = book.asks;
     let asks = sides::apply_entries(
-        book.asks,
+        old_asks,
         Side::Asks,
         depth,
         m,
@@ -118,11 +130,13 @@ fn take_update(book: Book, s: &[u8], outline: Outline) -> Step
     if is_over(m, bids.count, asks.count) {
         return refuse(book, Answer::TooManyLevels);
     }
+    let new_bids = bids.levels;
+    let new_asks = asks.levels;
     settle(
         book,
         outline,
-        bids.levels,
-        asks.levels,
+        new_bids,
+        new_asks,
         one_more(book.updates),
         book.ever,
     )
@@ -141,7 +155,10 @@ fn settle(
     ensures { λ r. ⌜ r ≡ settledStep book outline bids asks updates ever ⌝ }
 {
     if outline.printed {
-        if outline.checksum != checksum_of(book.settings.dialect, bids, asks) {
+        let settings = book.settings;
+        let dialect = settings.dialect;
+        let sum = checksum_of(dialect, bids, asks);
+        if outline.checksum != sum {
             return refuse(book, Answer::WrongChecksum);
         }
         return kept(book, outline.number, bids, asks, updates, ever);
@@ -152,16 +169,18 @@ fn settle(
 fn kept(book: Book, number: u64, bids: Levels, asks: Levels, updates: u64, ever: bool) -> Step
     ensures { λ r. ⌜ r ≡ keptStep book number bids asks updates ever ⌝ }
 {
+    let settings = book.settings;
+    let after = Book {
+        settings,
+        state: State::Live,
+        ever,
+        bids,
+        asks,
+        number,
+        updates,
+    };
     Step {
-        book: Book {
-            settings: book.settings,
-            state: State::Live,
-            ever,
-            bids,
-            asks,
-            number,
-            updates,
-        },
+        book: after,
         answer: Answer::Taken,
     }
 }
@@ -187,16 +206,20 @@ fn refuse(book: Book, answer: Answer) -> Step
             answer,
         };
     }
+    let settings = book.settings;
+    let bids = book.bids;
+    let asks = book.asks;
+    let after = Book {
+        settings,
+        state: State::Waiting,
+        ever: book.ever,
+        bids,
+        asks,
+        number: book.number,
+        updates: book.updates,
+    };
     Step {
-        book: Book {
-            settings: book.settings,
-            state: State::Waiting,
-            ever: book.ever,
-            bids: book.bids,
-            asks: book.asks,
-            number: book.number,
-            updates: book.updates,
-        },
+        book: after,
         answer,
     }
 }

@@ -4,27 +4,27 @@ use Rattle.book.proofs.first_state.Tie as tie
 use Rattle.book.proofs.first_state.Reads as reads
 use Rattle.book.proofs.first_state.Lts as lts
 
--- src/lib.rt:101:23
+-- src/lib.rt:103:23
 enum-told : tie.Need-enum-told
 enum-told c = search needs
 
--- src/lib.rt:102:23
+-- src/lib.rt:104:23
 enum-told-2 : tie.Need-enum-told-2
 enum-told-2 c = search needs
 
--- src/lib.rt:103:29
+-- src/lib.rt:105:29
 enum-told-3 : tie.Need-enum-told-3
 enum-told-3 c = search needs
 
--- src/lib.rt:97:1
+-- src/lib.rt:99:1
 returns : tie.Need-returns
 returns c = ?
 
--- src/lib.rt:97:1
+-- src/lib.rt:99:1
 returns-2 : tie.Need-returns-2
 returns-2 c = ?
 
--- src/lib.rt:97:1
+-- src/lib.rt:99:1
 returns-3 : tie.Need-returns-3
 returns-3 c = ?
 

@@ -6,35 +6,35 @@ use Rattle.book.proofs.taking.checksum_of.Lts as lts
 use Rattle.checksum.proofs.k_checksum.Reads as k-checksum-reads
 use Rattle.checksum.proofs.m_checksum.Reads as m-checksum-reads
 
--- src/taking.rt:174:23
+-- src/taking.rt:191:23
 enum-told : tie.Need-enum-told
 enum-told c = search needs
 
--- src/taking.rt:174:23
+-- src/taking.rt:191:23
 k-checksum-requires : tie.Need-k-checksum-requires
 k-checksum-requires c κs = ?
 
--- src/taking.rt:175:23
+-- src/taking.rt:192:23
 enum-told-2 : tie.Need-enum-told-2
 enum-told-2 c = search needs
 
--- src/taking.rt:175:23
+-- src/taking.rt:192:23
 m-checksum-requires : tie.Need-m-checksum-requires
 m-checksum-requires c κs = ?
 
--- src/taking.rt:176:29
+-- src/taking.rt:193:29
 enum-told-3 : tie.Need-enum-told-3
 enum-told-3 c = search needs
 
--- src/taking.rt:169:1
+-- src/taking.rt:186:1
 returns : tie.Need-returns
 returns c = ?
 
--- src/taking.rt:169:1
+-- src/taking.rt:186:1
 returns-2 : tie.Need-returns-2
 returns-2 c = ?
 
--- src/taking.rt:169:1
+-- src/taking.rt:186:1
 returns-3 : tie.Need-returns-3
 returns-3 c = ?
 

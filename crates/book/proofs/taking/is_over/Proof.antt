@@ -4,15 +4,15 @@ use Rattle.book.proofs.taking.is_over.Tie as tie
 use Rattle.book.proofs.taking.is_over.Reads as reads
 use Rattle.book.proofs.taking.is_over.Lts as lts
 
--- src/taking.rt:249:13
+-- src/taking.rt:261:13
 returns : tie.Need-returns
 returns c = ?
 
--- src/taking.rt:251:9
+-- src/taking.rt:263:9
 returns-2 : tie.Need-returns-2
 returns-2 c = ?
 
--- src/taking.rt:244:1
+-- src/taking.rt:256:1
 returns-3 : tie.Need-returns-3
 returns-3 c = search needs
 

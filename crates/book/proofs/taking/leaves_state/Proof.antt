@@ -4,131 +4,131 @@ use Rattle.book.proofs.taking.leaves_state.Tie as tie
 use Rattle.book.proofs.taking.leaves_state.Reads as reads
 use Rattle.book.proofs.taking.leaves_state.Lts as lts
 
--- src/taking.rt:209:26
+-- src/taking.rt:221:26
 enum-told : tie.Need-enum-told
 enum-told c = search needs
 
--- src/taking.rt:210:25
+-- src/taking.rt:222:25
 enum-told-2 : tie.Need-enum-told-2
 enum-told-2 c = search needs
 
--- src/taking.rt:211:28
+-- src/taking.rt:223:28
 enum-told-3 : tie.Need-enum-told-3
 enum-told-3 c = search needs
 
--- src/taking.rt:212:28
+-- src/taking.rt:224:28
 enum-told-4 : tie.Need-enum-told-4
 enum-told-4 c = search needs
 
--- src/taking.rt:213:28
+-- src/taking.rt:225:28
 enum-told-5 : tie.Need-enum-told-5
 enum-told-5 c = search needs
 
--- src/taking.rt:214:28
+-- src/taking.rt:226:28
 enum-told-6 : tie.Need-enum-told-6
 enum-told-6 c = search needs
 
--- src/taking.rt:215:30
+-- src/taking.rt:227:30
 enum-told-7 : tie.Need-enum-told-7
 enum-told-7 c = search needs
 
--- src/taking.rt:216:35
+-- src/taking.rt:228:35
 enum-told-8 : tie.Need-enum-told-8
 enum-told-8 c = search needs
 
--- src/taking.rt:217:31
+-- src/taking.rt:229:31
 enum-told-9 : tie.Need-enum-told-9
 enum-told-9 c = search needs
 
--- src/taking.rt:218:31
+-- src/taking.rt:230:31
 enum-told-10 : tie.Need-enum-told-10
 enum-told-10 c = search needs
 
--- src/taking.rt:219:31
+-- src/taking.rt:231:31
 enum-told-11 : tie.Need-enum-told-11
 enum-told-11 c = search needs
 
--- src/taking.rt:220:30
+-- src/taking.rt:232:30
 enum-told-12 : tie.Need-enum-told-12
 enum-told-12 c = search needs
 
--- src/taking.rt:221:34
+-- src/taking.rt:233:34
 enum-told-13 : tie.Need-enum-told-13
 enum-told-13 c = search needs
 
--- src/taking.rt:222:34
+-- src/taking.rt:234:34
 enum-told-14 : tie.Need-enum-told-14
 enum-told-14 c = search needs
 
--- src/taking.rt:223:28
+-- src/taking.rt:235:28
 enum-told-15 : tie.Need-enum-told-15
 enum-told-15 c = search needs
 
--- src/taking.rt:224:27
+-- src/taking.rt:236:27
 enum-told-16 : tie.Need-enum-told-16
 enum-told-16 c = search needs
 
--- src/taking.rt:205:1
+-- src/taking.rt:217:1
 returns : tie.Need-returns
 returns c = ?
 
--- src/taking.rt:205:1
+-- src/taking.rt:217:1
 returns-2 : tie.Need-returns-2
 returns-2 c = ?
 
--- src/taking.rt:205:1
+-- src/taking.rt:217:1
 returns-3 : tie.Need-returns-3
 returns-3 c = ?
 
--- src/taking.rt:205:1
+-- src/taking.rt:217:1
 returns-4 : tie.Need-returns-4
 returns-4 c = ?
 
--- src/taking.rt:205:1
+-- src/taking.rt:217:1
 returns-5 : tie.Need-returns-5
 returns-5 c = ?
 
--- src/taking.rt:205:1
+-- src/taking.rt:217:1
 returns-6 : tie.Need-returns-6
 returns-6 c = ?
 
--- src/taking.rt:205:1
+-- src/taking.rt:217:1
 returns-7 : tie.Need-returns-7
 returns-7 c = ?
 
--- src/taking.rt:205:1
+-- src/taking.rt:217:1
 returns-8 : tie.Need-returns-8
 returns-8 c = ?
 
--- src/taking.rt:205:1
+-- src/taking.rt:217:1
 returns-9 : tie.Need-returns-9
 returns-9 c = ?
 
--- src/taking.rt:205:1
+-- src/taking.rt:217:1
 returns-10 : tie.Need-returns-10
 returns-10 c = ?
 
--- src/taking.rt:205:1
+-- src/taking.rt:217:1
 returns-11 : tie.Need-returns-11
 returns-11 c = ?
 
--- src/taking.rt:205:1
+-- src/taking.rt:217:1
 returns-12 : tie.Need-returns-12
 returns-12 c = ?
 
--- src/taking.rt:205:1
+-- src/taking.rt:217:1
 returns-13 : tie.Need-returns-13
 returns-13 c = ?
 
--- src/taking.rt:205:1
+-- src/taking.rt:217:1
 returns-14 : tie.Need-returns-14
 returns-14 c = ?
 
--- src/taking.rt:205:1
+-- src/taking.rt:217:1
 returns-15 : tie.Need-returns-15
 returns-15 c = ?
 
--- src/taking.rt:205:1
+-- src/taking.rt:217:1
 returns-16 : tie.Need-returns-16
 returns-16 c = ?
 

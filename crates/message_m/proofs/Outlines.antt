@@ -1,15 +1,14 @@
 -- The layout out of what was met, one test at a time.
 -- Assumes nothing.
-use mathlib.Core.Path.{_≡_, refl, sym, ap, _∙_}
+use mathlib.Core.Path.{_≡_, sym, ap, _∙_}
 use mathlib.Core.List.{List}
 use mathlib.Core.Bool.{Bool, true, false, _&&_, _||_, cond}
-use Prim.Native.Nat.{ℕ, _≤_}
+use Prim.Native.Nat.{ℕ}
 use borrow.Author.Tests.{eq-eqb, ne-eqb}
-use lib.Dec.{eqb}
 use Rattle.decimal.specs.Ascii.{ascii}
 use Rattle.decimal.specs.Digits.{Reading, reads, refused}
 use Rattle.json.specs.Json.{Span}
-use Rattle.json.specs.Names.{part, means}
+use Rattle.json.specs.Names.{means}
 use Rattle.entries.specs.Places.{andThen, wholeAt, checksumAt}
 use Rattle.layout.specs.Told.{notListed, noOutline, outlineFrom}
 use Rattle.layout.specs.declared.Listing.{Listing}

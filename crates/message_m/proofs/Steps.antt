@@ -15,14 +15,13 @@ use Rattle.json_tokens.specs.Tokens.{End, At, Broken, endOf}
 use Rattle.json.specs.Json.{Span, Pair, Items, items, noItems, itemsEnd, elements, value}
 use Rattle.json.specs.Names.{means, spelled, hasBackslash}
 use Rattle.json.proofs.Laws.{value-array}
-use Rattle.entries.specs.Places.{andThen, all, contents, isString, arrayAt, objectAt}
+use Rattle.entries.specs.Places.{andThen, contents, isString, arrayAt, objectAt}
 use Rattle.entries.specs.Rows.{entriesAt, entryM}
 use Rattle.entries.specs.Summary.{noEntries, summaryOf, summaryAt}
 use Rattle.entries.specs.declared.Entries.{Entries}
-use Rattle.entries.proofs.Summary.{summary-is, summary-end}
-use Rattle.layout.specs.Layout.{listedAt}
+use Rattle.entries.proofs.Summary.{summary-is}
 use Rattle.layout.specs.Marks.{fewMore, more, moreListed}
-use Rattle.layout.specs.Told.{listingOf, listingFrom}
+use Rattle.layout.specs.Told.{listingFrom}
 use Rattle.layout.specs.declared.Listing.{Listing}
 use Rattle.layout.specs.declared.Mark.{Mark}
 use Rattle.layout.specs.declared.Slot.{Slot}

@@ -2,7 +2,7 @@
 -- Assumes nothing.
 use mathlib.Core.Path.{_≡_, refl, sym, ap, ap₂, _∙_}
 use mathlib.Core.List.{List, [], _∷_}
-use mathlib.Core.Bool.{Bool, true, false, _&&_, _||_, cond}
+use mathlib.Core.Bool.{Bool, true, false, _&&_, _||_, cond, or-assoc, or-false}
 use Prim.Native.Nat.{ℕ, _+_, _≤_, _<_}
 use native.Mathlib.Omega.{arith}
 use borrow.Author.Tests.{eqb-true, eqb-false}
@@ -18,7 +18,7 @@ use Rattle.entries.specs.Places.{andThen, isString, objectAt, valuesOf, only, w
 use Rattle.entries.specs.Rows.{entryM}
 use Rattle.layout.specs.Fold.{foldFrom}
 use Rattle.layout.specs.Layout.{printed, Listed, Layout, Heard, listedAt, laid}
-use Rattle.layout.specs.Marks.{few, fewMore, unmarked, more, marksOf, moreListed, slotsOf}
+use Rattle.layout.specs.Marks.{few, fewMore, more, marksOf, moreListed, slotsOf}
 use Rattle.layout.specs.Told.{listingOf, noOutline, noFrame, outlineOf, outlineFrom, isPrinted, sumOf, toldOf, toldAt}
 use Rattle.layout.specs.declared.Listing.{Listing}
 use Rattle.layout.specs.declared.Mark.{Mark}
@@ -33,7 +33,7 @@ use Rattle.message_m.specs.declared.Data.{Data}
 use Rattle.message_m.specs.declared.Label.{Label}
 use Rattle.message_m.specs.declared.Members.{Members}
 use Rattle.message_m.proofs.Steps.{on-yes, on-no, placed-more}
-use Rattle.message_m.proofs.Outlines.{placeOf, once-yes, once-no, listed-yes, listed-no}
+use Rattle.message_m.proofs.Outlines.{once-yes, once-no, listed-no}
 use Rattle.message_m.proofs.Objects.{object-broken, made-other, made-empty, made-start, Loop, Rest}
 
 -- a component that follows the members of one name
@@ -80,14 +80,6 @@ module _ (s : List ℕ) (at : ℕ) where
     data-start z k b = made-start (dataFrom s) 14 s at opens (moreData s) dataEnd emptyData (data-folds s) e h z k b
 
 -- ---- names and labels
-or-assoc : (a b c : Bool) → ((a || b) || c) ≡ (a || (b || c))
-or-assoc true b c = refl
-or-assoc false b c = refl
-
-or-false : (a : Bool) → (a || false) ≡ a
-or-false true = refl
-or-false false = refl
-
 names-from : (name s : List ℕ) (st : Members) (ms : List Pair) → foldFrom (moreMembers name s) st ms .escaped ≡ (st .escaped || someName s ms)
 unfolding foldFrom someName moreMembers
 names-from name s st [] = sym (or-false (st .escaped))

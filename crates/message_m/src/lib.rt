@@ -157,7 +157,8 @@ pub fn m_message(s: &[u8], at: usize, name: &[u8]) -> Told
             if end == 0 {
                 return untold(0);
             }
-            return told(s, next, end);
+            let last = next;
+            return told(s, last, end);
         }
         met = next;
         i = j;

@@ -2,7 +2,7 @@
 -- Assumes nothing.
 use mathlib.Core.Path.{_≡_, refl, sym, ap, _∙_}
 use mathlib.Core.List.{List}
-use mathlib.Core.Bool.{Bool, true, false, _&&_, _||_, cond}
+use mathlib.Core.Bool.{Bool, true, false, true≢false, _&&_, _||_, or-false, cond}
 use Prim.Native.Nat.{ℕ, suc, _+_, _≤_}
 use native.Mathlib.Omega.{arith}
 use borrow.Author.Tests.{eq-eqb, ne-eqb, eqb-true}
@@ -13,8 +13,9 @@ use Rattle.decimal.specs.Digits.{Reading, reads, refused}
 use Rattle.json_tokens.specs.Bytes.{byteAt}
 use Rattle.json_tokens.specs.Tokens.{End, At, Broken, endOf}
 use Rattle.json.specs.Json.{Span, Pair, Items, items, noItems, itemsEnd, elements, value}
-use Rattle.json.specs.Names.{means, spelled, hasBackslash}
+use Rattle.json.specs.Names.{means, spelled, holds, hasBackslash}
 use Rattle.json.proofs.Laws.{value-array}
+use Rattle.json.proofs.Claims.{backslash-no-name}
 use Rattle.entries.specs.Places.{andThen, contents, isString, arrayAt, objectAt}
 use Rattle.entries.specs.Rows.{entriesAt, entryM}
 use Rattle.entries.specs.Summary.{noEntries, summaryOf, summaryAt}
@@ -224,20 +225,60 @@ module _ (s : List ℕ) (a : Span) where
   unfolding isString
   escaped-other h = sym (rw (ne-eqb (byteAt s (a .from)) 34 h))
 
--- n: the name has a backslash; x: the value is a string with one; k: the name's number
-module _ {n : Bool} (x : Bool) (k : ℕ) where
-  pub escaped-name : n ≡ true → true ≡ (n || ((eqb k 1 || eqb k 2) && x))
-  escaped-name h = sym (rw h)
+-- our names have none
+plain-name : (s : List ℕ) (a : Span) (n : List ℕ) → holds 92 n ≡ false → means s a n ≡ true → hasBackslash s a ≡ false
+plain-name s a n p h = go (hasBackslash s a) refl
+  where
+    go : (b : Bool) → hasBackslash s a ≡ b → b ≡ false
+    go true q = absurd (true≢false (sym h ∙ backslash-no-name s a n q p))
+    go false q = refl
 
-  module _ (h : n ≡ false) where
-    pub escaped-channel : k ≡ 1 → x ≡ (n || ((eqb k 1 || eqb k 2) && x))
-    escaped-channel y = sym (rw (h, eq-eqb k 1 y))
+plain-key : (s : List ℕ) (a : Span) → (keyOf s a ≡ 0 → ⊥) → hasBackslash s a ≡ false
+unfolding holds
+plain-key s a some = at-channel (means s a (ascii "channel")) refl
+  where
+    at-gsn : (b : Bool) → means s a (ascii "gsn") ≡ b → means s a (ascii "channel") ≡ false → means s a (ascii "product") ≡ false → means s a (ascii "type") ≡ false
+        → means s a (ascii "data") ≡ false → means s a (ascii "checksum") ≡ false → hasBackslash s a ≡ false
+    at-gsn true q c p t d k = plain-name s a (ascii "gsn") refl q
+    at-gsn false q c p t d k = absurd (some (sym (key-other s a c p t d k q)))
 
-    pub escaped-product : (k ≡ 1 → ⊥) → k ≡ 2 → x ≡ (n || ((eqb k 1 || eqb k 2) && x))
-    escaped-product c y = sym (rw (h, ne-eqb k 1 c, eq-eqb k 2 y))
+    at-checksum : (b : Bool) → means s a (ascii "checksum") ≡ b → means s a (ascii "channel") ≡ false → means s a (ascii "product") ≡ false → means s a (ascii "type") ≡ false
+        → means s a (ascii "data") ≡ false → hasBackslash s a ≡ false
+    at-checksum true q c p t d = plain-name s a (ascii "checksum") refl q
+    at-checksum false q c p t d = at-gsn (means s a (ascii "gsn")) refl c p t d q
 
-    pub escaped-neither : (k ≡ 1 → ⊥) → (k ≡ 2 → ⊥) → false ≡ (n || ((eqb k 1 || eqb k 2) && x))
-    escaped-neither c p = sym (rw (h, ne-eqb k 1 c, ne-eqb k 2 p))
+    at-data : (b : Bool) → means s a (ascii "data") ≡ b → means s a (ascii "channel") ≡ false → means s a (ascii "product") ≡ false → means s a (ascii "type") ≡ false
+        → hasBackslash s a ≡ false
+    at-data true q c p t = plain-name s a (ascii "data") refl q
+    at-data false q c p t = at-checksum (means s a (ascii "checksum")) refl c p t q
+
+    at-type : (b : Bool) → means s a (ascii "type") ≡ b → means s a (ascii "channel") ≡ false → means s a (ascii "product") ≡ false → hasBackslash s a ≡ false
+    at-type true q c p = plain-name s a (ascii "type") refl q
+    at-type false q c p = at-data (means s a (ascii "data")) refl c p q
+
+    at-product : (b : Bool) → means s a (ascii "product") ≡ b → means s a (ascii "channel") ≡ false → hasBackslash s a ≡ false
+    at-product true q c = plain-name s a (ascii "product") refl q
+    at-product false q c = at-type (means s a (ascii "type")) refl c q
+
+    at-channel : (b : Bool) → means s a (ascii "channel") ≡ b → hasBackslash s a ≡ false
+    at-channel true q = plain-name s a (ascii "channel") refl q
+    at-channel false q = at-product (means s a (ascii "product")) refl q
+
+-- x: the value is a string with a backslash; k: the name's number
+module _ (s : List ℕ) (a : Span) (x : Bool) (k : ℕ) (is : k ≡ keyOf s a) where
+  pub escaped-channel : k ≡ 1 → x ≡ (hasBackslash s a || ((eqb k 1 || eqb k 2) && x))
+  escaped-channel y = sym (rw (plain-key s a (λ z. omega arith), eq-eqb k 1 y))
+
+  module _ (c : k ≡ 1 → ⊥) where
+    pub escaped-product : k ≡ 2 → x ≡ (hasBackslash s a || ((eqb k 1 || eqb k 2) && x))
+    escaped-product y = sym (rw (plain-key s a (λ z. omega arith), ne-eqb k 1 c, eq-eqb k 2 y))
+
+    module _ (p : k ≡ 2 → ⊥) where
+      pub escaped-unknown : hasBackslash s a ≡ (hasBackslash s a || ((eqb k 1 || eqb k 2) && x))
+      escaped-unknown = sym (rw (ne-eqb k 1 c, ne-eqb k 2 p) (or-false (hasBackslash s a)))
+
+      pub escaped-known : (k ≡ 0 → ⊥) → false ≡ (hasBackslash s a || ((eqb k 1 || eqb k 2) && x))
+      escaped-known n = sym (rw (plain-key s a (λ z. n (is ∙ z)), ne-eqb k 1 c, ne-eqb k 2 p))
 
 pub and-yes : (x : Bool) (k n : ℕ) → k ≡ n → x ≡ (eqb k n && x)
 and-yes x k n h = sym (rw (eq-eqb k n h))

@@ -248,18 +248,19 @@ fn more_marked(mark: Mark, key: usize, name: usize, from: usize, to: usize) -> M
     mark
 }
 
-// Whether a backslash stands in a member's name, or in its value, if that is a string and is compared.
+// Whether a backslash stands in a member's name, or in its value, if that is a string and is compared. Our own names have none.
 fn is_escaped(s: &[u8], key: usize, first: usize, past: usize, from: usize, to: usize) -> bool
+    requires { ⌜ key ≡ keyOf (now s) (record { from = first; to = past }) ⌝ }
     ensures { λ r. ⌜ r ≡ (hasBackslash (now (s .entry)) (record { from = first; to = past }) || ((eqb key 1 || eqb key 2) && isEscaped (now (s .entry)) (record { from = from; to = to }))) ⌝ }
 {
-    if has_backslash(s, first, past) {
-        return true;
-    }
     if key == CHANNEL {
         return string_escaped(s, from, to);
     }
     if key == PRODUCT {
         return string_escaped(s, from, to);
+    }
+    if key == OTHER {
+        return has_backslash(s, first, past);
     }
     false
 }

@@ -108,8 +108,8 @@ moreMembers name s met m =
     record {
       body = moreBody s (means s (m .name) (ascii "data")) (met .body) (m .value);
       escaped =
-        met .escaped
-        || (hasBackslash s (m .name) || ((means s (m .name) (ascii "channel") || means s (m .name) (ascii "product")) && isEscaped s (m .value)));
+          met .escaped
+          || (hasBackslash s (m .name) || ((means s (m .name) (ascii "channel") || means s (m .name) (ascii "product")) && isEscaped s (m .value)));
       «is_book» = met .«is_book» || (means s (m .name) (ascii "channel") && means s (m .value) (ascii "book"));
       «is_product» = met .«is_product» || (means s (m .name) (ascii "product") && means s (m .value) name);
       channel = onMember s (ascii "channel") more (met .channel) m;

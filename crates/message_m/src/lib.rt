@@ -158,6 +158,7 @@ pub fn m_message(s: &[u8], at: usize, name: &[u8]) -> Told
             if end == 0 {
                 return untold(0);
             }
+            // A copy is handed on, so that what the loop carries can stay in registers.
             let last = next;
             return told(s, last, end);
         }
@@ -166,6 +167,7 @@ pub fn m_message(s: &[u8], at: usize, name: &[u8]) -> Told
     }
 }
 
+// No member was met yet.
 fn no_members() -> Members
     ensures { λ r. ⌜ r ≡ noMembers ⌝ }
 {
@@ -403,11 +405,7 @@ fn data_end(met: Data, end: usize) -> Data
 {
     let bids = met.bids;
     let asks = met.asks;
-    Data {
-        end,
-        bids,
-        asks,
-    }
+    Data { end, bids, asks }
 }
 
 // A value that ends at `end` and has no sides.
@@ -435,6 +433,7 @@ fn told(s: &[u8], met: Members, end: usize) -> Told
     }
 }
 
+// The layout, out of the members that were met.
 fn m_outline(s: &[u8], met: Members) -> Outline
     requires { ⌜ Placed (now s) (met .checksum) × Placed (now s) (met .gsn) ⌝ }
     ensures { λ r. ⌜ r ≡ outlineIn (now (s .entry)) met ⌝ }

@@ -1,15 +1,14 @@
 -- The layout out of what was met, one test at a time.
 -- Assumes nothing.
-use mathlib.Core.Path.{_≡_, refl, sym, ap, _∙_}
+use mathlib.Core.Path.{_≡_, sym, _∙_}
 use mathlib.Core.List.{List}
-use mathlib.Core.Bool.{Bool, true, false, _&&_, _||_, cond}
-use Prim.Native.Nat.{ℕ, _≤_}
+use mathlib.Core.Bool.{Bool, true, false, _&&_}
+use Prim.Native.Nat.{ℕ}
 use borrow.Author.Tests.{eq-eqb, ne-eqb}
-use lib.Dec.{eqb}
 use Rattle.decimal.specs.Ascii.{ascii}
 use Rattle.decimal.specs.Digits.{Reading, reads, refused}
 use Rattle.json.specs.Json.{Span}
-use Rattle.json.specs.Names.{part, means}
+use Rattle.json.specs.Names.{means}
 use Rattle.entries.specs.Places.{andThen, wholeAt, checksumAt}
 use Rattle.layout.specs.Told.{notListed, noOutline, outlineFrom}
 use Rattle.layout.specs.declared.Listing.{Listing}
@@ -90,21 +89,13 @@ module _ (s : List ℕ) (snapshot : Bool) (met : Members) where
   abbrev numbers : Outline
   numbers = numbersIn s snapshot (onceListed (met .body .last .bids)) (onceListed (met .body .last .asks)) (met .checksum) (met .gsn)
 
-  abbrev of-data : Span → Outline
-  of-data d = cond (met .body .last .«is_object») numbers noOutline
-
   pub body-not-once : (met .body .mark .times ≡ 1 → ⊥) → noOutline ≡ bodyIn s snapshot met
   unfolding bodyIn
-  body-not-once h = where-refused of-data (once-no (met .body .mark) h)
+  body-not-once h = where-refused (λ d. numbers) (once-no (met .body .mark) h)
 
-  module _ (once : met .body .mark .times ≡ 1) where
-    pub body-object : met .body .last .«is_object» ≡ true → numbers ≡ bodyIn s snapshot met
-    unfolding bodyIn
-    body-object h = ap (λ (b : Bool). cond b numbers noOutline) (sym h) ∙ where-reads of-data (once-yes (met .body .mark) once)
-
-    pub body-no-object : met .body .last .«is_object» ≡ false → noOutline ≡ bodyIn s snapshot met
-    unfolding bodyIn
-    body-no-object h = ap (λ (b : Bool). cond b numbers noOutline) (sym h) ∙ where-reads of-data (once-yes (met .body .mark) once)
+  pub body-once : met .body .mark .times ≡ 1 → numbers ≡ bodyIn s snapshot met
+  unfolding bodyIn
+  body-once h = where-reads (λ d. numbers) (once-yes (met .body .mark) h)
 
 -- ---- whole
 module _ (s : List ℕ) (met : Members) where
@@ -115,23 +106,23 @@ module _ (s : List ℕ) (met : Members) where
   of-product p = outlineWhere (andThen (onceAt (met .kind)) (isSnapshotAt s)) of-type
 
   abbrev of-channel : Span → Outline
-  of-channel c = outlineWhere (onceAt (met .product .mark)) of-product
+  of-channel c = outlineWhere (onceAt (met .product)) of-product
 
-  pub outline-no-channel : (met .channel .mark .times ≡ 1 → ⊥) → noOutline ≡ outlineIn s met
+  pub outline-no-channel : (met .channel .times ≡ 1 → ⊥) → noOutline ≡ outlineIn s met
   unfolding outlineIn
-  outline-no-channel h = where-refused of-channel (once-no (met .channel .mark) h)
+  outline-no-channel h = where-refused of-channel (once-no (met .channel) h)
 
-  module _ (c : met .channel .mark .times ≡ 1) where
-    past-channel : of-channel (placeOf (met .channel .mark)) ≡ outlineIn s met
+  module _ (c : met .channel .times ≡ 1) where
+    past-channel : of-channel (placeOf (met .channel)) ≡ outlineIn s met
     unfolding outlineIn
-    past-channel = where-reads of-channel (once-yes (met .channel .mark) c)
+    past-channel = where-reads of-channel (once-yes (met .channel) c)
 
-    pub outline-no-product : (met .product .mark .times ≡ 1 → ⊥) → noOutline ≡ outlineIn s met
-    outline-no-product h = where-refused of-product (once-no (met .product .mark) h) ∙ past-channel
+    pub outline-no-product : (met .product .times ≡ 1 → ⊥) → noOutline ≡ outlineIn s met
+    outline-no-product h = where-refused of-product (once-no (met .product) h) ∙ past-channel
 
-    module _ (p : met .product .mark .times ≡ 1) where
-      past-product : of-product (placeOf (met .product .mark)) ≡ outlineIn s met
-      past-product = where-reads of-product (once-yes (met .product .mark) p) ∙ past-channel
+    module _ (p : met .product .times ≡ 1) where
+      past-product : of-product (placeOf (met .product)) ≡ outlineIn s met
+      past-product = where-reads of-product (once-yes (met .product) p) ∙ past-channel
 
       pub outline-no-type : (met .kind .times ≡ 1 → ⊥) → noOutline ≡ outlineIn s met
       outline-no-type h = where-refused of-type (then-no (met .kind) (isSnapshotAt s) h) ∙ past-product
@@ -157,8 +148,7 @@ module _ (s : List ℕ) (met : Members) where
               where-refused of-type (then-yes (met .kind) (isSnapshotAt s) t ∙ k) ∙ past-product
 
 -- part by part
-pub told-made : (s : List ℕ) (met : Members) (end : ℕ) {e o : Bool} {x : Outline} → e ≡ (met .escaped || (met .channel .escaped || met .product .escaped))
-    → o ≡ (met .channel .matches && met .product .matches) → x ≡ outlineIn s met
-    → _≡_ {A = Told} (record { end = end; framed = true; escaped = e; ours = o; outline = x }) (toldIn s end met)
+pub told-made : (s : List ℕ) (met : Members) (end : ℕ) {o : Bool} {x : Outline} → o ≡ (met .«is_book» && met .«is_product») → x ≡ outlineIn s met
+    → _≡_ {A = Told} (record { end = end; framed = true; escaped = met .escaped; ours = o; outline = x }) (toldIn s end met)
 unfolding toldIn
-told-made s met end p q r = rw (p, q, r)
+told-made s met end p q = rw (p, q)

@@ -2,7 +2,7 @@
 -- Assumes nothing.
 use mathlib.Core.Path.{_≡_, refl, sym, ap, ap₂, _∙_}
 use mathlib.Core.List.{List, [], _∷_}
-use mathlib.Core.Bool.{Bool, true, false, _&&_, _||_, cond}
+use mathlib.Core.Bool.{Bool, true, false, _&&_, _||_, cond, or-assoc, or-false, or-true}
 use Prim.Native.Nat.{ℕ, _+_, _≤_, _<_}
 use native.Mathlib.Omega.{arith}
 use borrow.Author.Tests.{eqb-true, eqb-false}
@@ -14,12 +14,12 @@ use Rattle.json_tokens.specs.Bytes.{byteAt}
 use Rattle.json_tokens.specs.Tokens.{End, At, Broken, endOf, blanks, closing}
 use Rattle.json.specs.Json.{Span, Pair, value}
 use Rattle.json.specs.Names.{means, hasBackslash}
-use Rattle.entries.specs.Places.{andThen, isString, objectAt, valuesOf, only, wholeAt, checksumAt}
+use Rattle.entries.specs.Places.{andThen, objectAt, valuesOf, only, wholeAt, checksumAt}
 use Rattle.entries.specs.Rows.{entryM}
 use Rattle.layout.specs.Fold.{foldFrom}
 use Rattle.layout.specs.Layout.{printed, Listed, Layout, Heard, listedAt, laid}
-use Rattle.layout.specs.Marks.{few, fewMore, unmarked, more, marksOf, moreListed, slotsOf}
-use Rattle.layout.specs.Told.{listingOf, noOutline, noFrame, outlineOf, outlineFrom, isPrinted, sumOf, toldOf, toldAt}
+use Rattle.layout.specs.Marks.{few, fewMore, more, marksOf, moreListed, slotsOf}
+use Rattle.layout.specs.Told.{notListed, listingOf, noOutline, noFrame, outlineOf, outlineFrom, isPrinted, sumOf, toldOf, toldAt}
 use Rattle.layout.specs.declared.Listing.{Listing}
 use Rattle.layout.specs.declared.Mark.{Mark}
 use Rattle.layout.specs.declared.Slot.{Slot}
@@ -28,12 +28,11 @@ use Rattle.layout.specs.declared.Told.{Told}
 use Rattle.layout.proofs.Laws.{outline-of}
 use Rattle.layout.proofs.Marks.{values-fold, only-once, only-other, slot-times}
 use Rattle.message_m.specs.LayoutM.{someName, someString, escapedM, someMeans, oursM, isSnapshotAt, listedIn, layoutM, heardM}
-use Rattle.message_m.specs.Collected.{onMember, sideM, noData, emptyData, dataEnd, moreData, dataFrom, dataOf, noLabel, moreLabel, moreBody, noMembers, moreMembers, onceAt, onceListed, outlineWhere, numbersIn, bodyIn, outlineIn, toldIn, Placed}
+use Rattle.message_m.specs.Collected.{onMember, sideM, noData, dataEnd, moreData, dataFrom, dataOf, isEscaped, moreBody, noMembers, moreMembers, onceAt, onceListed, outlineWhere, numbersIn, bodyIn, outlineIn, toldIn, Placed}
 use Rattle.message_m.specs.declared.Data.{Data}
-use Rattle.message_m.specs.declared.Label.{Label}
 use Rattle.message_m.specs.declared.Members.{Members}
-use Rattle.message_m.proofs.Steps.{on-yes, on-no, placed-more}
-use Rattle.message_m.proofs.Outlines.{placeOf, once-yes, once-no, listed-yes, listed-no}
+use Rattle.message_m.proofs.Steps.{hit-yes, hit-no, placed-more}
+use Rattle.message_m.proofs.Outlines.{once-yes, once-no, listed-no}
 use Rattle.message_m.proofs.Objects.{object-broken, made-other, made-empty, made-start, Loop, Rest}
 
 -- a component that follows the members of one name
@@ -42,15 +41,15 @@ on-fold : {S A : Type 0} (s name : List ℕ) (step : S → Pair → S) (get : S 
     → (st : S) (ms : List Pair) → get (foldFrom step st ms) ≡ foldFrom add (get st) (valuesOf s name ms)
 on-fold s name step get add is =
     values-fold s name step get add
-    (λ st m h. is st m ∙ on-yes s name add (get st) m h)
-    (λ st m h. is st m ∙ on-no s name add (get st) m h)
+    (λ st m h. is st m ∙ hit-yes (means s (m .name) name) add (get st) (m .value) h)
+    (λ st m h. is st m ∙ hit-no (means s (m .name) name) add (get st) (m .value) h)
 
 -- ---- the sides of `data`
-pub data-folds : (s : List ℕ) (e : ℕ) (ms : List Pair) → dataFrom s e (reads ms) ≡ dataEnd e (foldFrom (moreData s) emptyData ms)
+pub data-folds : (s : List ℕ) (e : ℕ) (ms : List Pair) → dataFrom s e (reads ms) ≡ dataEnd e (foldFrom (moreData s) (noData 0) ms)
 unfolding dataFrom moreData noData
 data-folds s e ms =
-    let b = on-fold s (ascii "bids") (moreData s) (λ (d : Data). d .bids) (moreListed (sideM s)) (λ st m. refl) emptyData ms in
-    let a = on-fold s (ascii "asks") (moreData s) (λ (d : Data). d .asks) (moreListed (sideM s)) (λ st m. refl) emptyData ms in
+    let b = on-fold s (ascii "bids") (moreData s) (λ (d : Data). d .bids) (moreListed (sideM s)) (λ st m. refl) (noData 0) ms in
+    let a = on-fold s (ascii "asks") (moreData s) (λ (d : Data). d .asks) (moreListed (sideM s)) (λ st m. refl) (noData 0) ms in
     sym (rw (b, a))
 
 pub data-ends : (s : List ℕ) (d : Data) (m : Pair) → moreData s d m .end ≡ m .value .to
@@ -71,43 +70,59 @@ module _ (s : List ℕ) (at : ℕ) where
   data-none n h = ap noData h ∙ made-other (dataFrom s) 14 s at n
 
   module _ (opens : byteAt s at ≡ 123) (e : ℕ) (h : e ≡ endOf (closing 125 s (at + 1))) where
-    pub data-empty : 0 < e → dataEnd e emptyData ≡ dataAt s at
-    unfolding dataOf
-    data-empty p = made-empty (dataFrom s) 14 s at opens (moreData s) dataEnd emptyData (data-folds s) e h p
+    pub data-empty : 0 < e → noData e ≡ dataAt s at
+    unfolding dataOf noData
+    data-empty p = made-empty (dataFrom s) 14 s at opens (moreData s) dataEnd (noData 0) (data-folds s) e h p
 
-    pub data-start : e ≡ 0 → (k : ℕ) → k ≡ blanks s (at + 1) → Rest (dataLoop s) 14 s emptyData k (dataAt s at)
+    pub data-start : e ≡ 0 → (k : ℕ) → k ≡ blanks s (at + 1) → Rest (dataLoop s) 14 s (noData 0) k (dataAt s at)
     unfolding dataOf dataFrom
-    data-start z k b = made-start (dataFrom s) 14 s at opens (moreData s) dataEnd emptyData (data-folds s) e h z k b
+    data-start z k b = made-start (dataFrom s) 14 s at opens (moreData s) dataEnd (noData 0) (data-folds s) e h z k b
 
--- ---- names and labels
-or-assoc : (a b c : Bool) → ((a || b) || c) ≡ (a || (b || c))
-or-assoc true b c = refl
-or-assoc false b c = refl
+-- ---- check 4 and check 5: what some member has
 
-or-false : (a : Bool) → (a || false) ≡ a
-or-false true = refl
-or-false false = refl
+-- one value more of a name, by whether it is one
+string-more : (s : List ℕ) (a : Span) (hit : Bool) (l : List Span) → someString s (cond hit (a ∷ l) l) ≡ ((hit && isEscaped s a) || someString s l)
+unfolding someString
+string-more s a true l = refl
+string-more s a false l = refl
 
-names-from : (name s : List ℕ) (st : Members) (ms : List Pair) → foldFrom (moreMembers name s) st ms .escaped ≡ (st .escaped || someName s ms)
-unfolding foldFrom someName moreMembers
-names-from name s st [] = sym (or-false (st .escaped))
-names-from name s st (m ∷ ms) = names-from name s (moreMembers name s st m) ms ∙ or-assoc (st .escaped) (hasBackslash s (m .name)) (someName s ms)
+means-more : (s text : List ℕ) (a : Span) (hit : Bool) (l : List Span) → someMeans s text (cond hit (a ∷ l) l) ≡ ((hit && means s a text) || someMeans s text l)
+unfolding someMeans
+means-more s text a true l = refl
+means-more s text a false l = refl
 
-module _ (s text : List ℕ) where
-  label-mark : (l : Label) (vs : List Span) → foldFrom (moreLabel s text) l vs .mark ≡ foldFrom more (l .mark) vs
-  unfolding foldFrom moreLabel
-  label-mark l [] = refl
-  label-mark l (a ∷ vs) = label-mark (moreLabel s text l a) vs
+-- n, c, p, x of one member, the others of the members left
+all-escaped : (n c p x : Bool) (names channels products : Bool)
+    → ((n || ((c || p) && x)) || (names || (channels || products))) ≡ ((n || names) || (((c && x) || channels) || ((p && x) || products)))
+all-escaped true c p x names channels products = refl
+all-escaped false true p true names channels products = sym (or-true names)
+all-escaped false true true false names channels products = refl
+all-escaped false true false false names channels products = refl
+all-escaped false false true true names channels products = sym (ap (λ (b : Bool). names || b) (or-true channels) ∙ or-true names)
+all-escaped false false true false names channels products = refl
+all-escaped false false false x names channels products = refl
 
-  label-escaped : (l : Label) (vs : List Span) → foldFrom (moreLabel s text) l vs .escaped ≡ (l .escaped || someString s vs)
-  unfolding foldFrom moreLabel someString
-  label-escaped l [] = sym (or-false (l .escaped))
-  label-escaped l (a ∷ vs) = label-escaped (moreLabel s text l a) vs ∙ or-assoc (l .escaped) (isString s a && hasBackslash s a) (someString s vs)
+escaped-more : (s : List ℕ) (m : Pair) (ms : List Pair)
+    → ((hasBackslash s (m .name) || ((means s (m .name) (ascii "channel") || means s (m .name) (ascii "product")) && isEscaped s (m .value))) || escapedM s ms) ≡ escapedM s (m ∷ ms)
+unfolding escapedM someName valuesOf
+escaped-more s m ms =
+    let c = string-more s (m .value) (means s (m .name) (ascii "channel")) (valuesOf s (ascii "channel") ms) in
+    let p = string-more s (m .value) (means s (m .name) (ascii "product")) (valuesOf s (ascii "product") ms) in
+    all-escaped (hasBackslash s (m .name)) (means s (m .name) (ascii "channel")) (means s (m .name) (ascii "product")) (isEscaped s (m .value)) (someName s ms)
+    (someString s (valuesOf s (ascii "channel") ms)) (someString s (valuesOf s (ascii "product") ms))
+    ∙ ap₂ (λ (x y : Bool). (hasBackslash s (m .name) || someName s ms) || (x || y)) (sym c) (sym p)
 
-  label-matches : (l : Label) (vs : List Span) → foldFrom (moreLabel s text) l vs .matches ≡ (l .matches || someMeans s text vs)
-  unfolding foldFrom moreLabel someMeans
-  label-matches l [] = sym (or-false (l .matches))
-  label-matches l (a ∷ vs) = label-matches (moreLabel s text l a) vs ∙ or-assoc (l .matches) (means s a text) (someMeans s text vs)
+-- a flag of the fold: `one` of each member, `some` of those left
+flag-from : {S : Type 0} (step : S → Pair → S) (get : S → Bool) (one : Pair → Bool) (some : List Pair → Bool)
+    → ((st : S) (m : Pair) → get (step st m) ≡ (get st || one m)) → some [] ≡ false → ((m : Pair) (ms : List Pair) → (one m || some ms) ≡ some (m ∷ ms))
+    → (st : S) (ms : List Pair) → get (foldFrom step st ms) ≡ (get st || some ms)
+unfolding foldFrom
+flag-from step get one some is none more st [] = sym (ap (λ (b : Bool). get st || b) none ∙ or-false (get st))
+flag-from step get one some is none more st (m ∷ ms) =
+    flag-from step get one some is none more (step st m) ms
+    ∙ ap (λ (b : Bool). b || some ms) (is st m)
+    ∙ or-assoc (get st) (one m) (some ms)
+    ∙ ap (λ (b : Bool). get st || b) (more m ms)
 
 -- ---- the layout
 
@@ -158,13 +173,13 @@ module _ (name s : List ℕ) (ms : List Pair) where
   abbrev values : List ℕ → List Span
   values n = valuesOf s n ms
 
-  channel-is : met .channel ≡ foldFrom (moreLabel s (ascii "book")) noLabel (values (ascii "channel"))
+  channel-is : met .channel ≡ marksOf (values (ascii "channel"))
   unfolding moreMembers
-  channel-is = on-fold s (ascii "channel") (moreMembers name s) (λ (x : Members). x .channel) (moreLabel s (ascii "book")) (λ st m. refl) noMembers ms
+  channel-is = on-fold s (ascii "channel") (moreMembers name s) (λ (x : Members). x .channel) more (λ st m. refl) noMembers ms
 
-  product-is : met .product ≡ foldFrom (moreLabel s name) noLabel (values (ascii "product"))
+  product-is : met .product ≡ marksOf (values (ascii "product"))
   unfolding moreMembers
-  product-is = on-fold s (ascii "product") (moreMembers name s) (λ (x : Members). x .product) (moreLabel s name) (λ st m. refl) noMembers ms
+  product-is = on-fold s (ascii "product") (moreMembers name s) (λ (x : Members). x .product) more (λ st m. refl) noMembers ms
 
   kind-is : met .kind ≡ marksOf (values (ascii "type"))
   unfolding moreMembers
@@ -235,10 +250,20 @@ module _ (name s : List ℕ) (ms : List Pair) where
   -- ---- from `data` on
   module _ (snapshot : Bool) where
     abbrev numbers : Data → Outline
-    numbers d = cond (d .«is_object») (numbersIn s snapshot (onceListed (d .bids)) (onceListed (d .asks)) (met .checksum) (met .gsn)) noOutline
+    numbers d = numbersIn s snapshot (onceListed (d .bids)) (onceListed (d .asks)) (met .checksum) (met .gsn)
 
     abbrev data-read : Span → Reading Layout
     data-read d = andThen (objectAt 15 s d) (sides-read snapshot)
+
+    -- a value that has no sides
+    no-sides : (k g : Mark) → numbersIn s snapshot (onceListed (noData 0 .bids)) (onceListed (noData 0 .asks)) k g ≡ noOutline
+    unfolding numbersIn onceListed noData outlineWhere outlineFrom
+    no-sides k g = go (andThen (onceAt k) (checksumAt s)) (andThen (onceAt g) (wholeAt s))
+      where
+        go : (x y : Reading ℕ) → outlineWhere x (λ sum. outlineWhere y (λ number. outlineFrom snapshot notListed notListed true sum number)) ≡ noOutline
+        go (reads sum) (reads number) = refl
+        go (reads sum) refused = refl
+        go refused y = refl
 
     data-out : (d : Span) → only (values (ascii "data")) ≡ reads d → outlineOf s (data-read d) ≡ numbers (met .body .last)
     unfolding dataOf andThen outlineOf dataFrom noData
@@ -249,7 +274,7 @@ module _ (name s : List ℕ) (ms : List Pair) where
           where
             at : (y : Reading (List Pair)) → outlineOf s (andThen y (sides-read snapshot)) ≡ numbers (dataFrom s (d .to) y)
             at (reads ds) = sides-out snapshot ds
-            at refused = refl
+            at refused = sym (no-sides (met .checksum) (met .gsn))
 
     body-out : outlineOf s (andThen (only (values (ascii "data"))) data-read) ≡ bodyIn s snapshot met
     unfolding bodyIn
@@ -277,36 +302,42 @@ module _ (name s : List ℕ) (ms : List Pair) where
   of-product p = outlineWhere (andThen (onceAt (met .kind)) (isSnapshotAt s)) (λ snapshot. bodyIn s snapshot met)
 
   abbrev of-channel : Span → Outline
-  of-channel c = outlineWhere (onceAt (met .product .mark)) of-product
+  of-channel c = outlineWhere (onceAt (met .product)) of-product
 
   channel-out : (c : Span) → outlineOf s (channel-read c) ≡ of-channel c
   channel-out c =
-      then-out s product-read of-product (only (values (ascii "product"))) (onceAt (met .product .mark))
-      (only-is (values (ascii "product")) (met .product .mark) (ap (λ (l : Label). l .mark) product-is ∙ label-mark s name noLabel (values (ascii "product"))))
+      then-out s product-read of-product (only (values (ascii "product"))) (onceAt (met .product))
+      (only-is (values (ascii "product")) (met .product) product-is)
       (λ p q. product-out p)
 
   layout-out : outlineOf s (layoutM s ms) ≡ outlineIn s met
   unfolding layoutM outlineIn
   layout-out =
-      then-out s channel-read of-channel (only (values (ascii "channel"))) (onceAt (met .channel .mark))
-      (only-is (values (ascii "channel")) (met .channel .mark) (ap (λ (l : Label). l .mark) channel-is ∙ label-mark s (ascii "book") noLabel (values (ascii "channel"))))
+      then-out s channel-read of-channel (only (values (ascii "channel"))) (onceAt (met .channel))
+      (only-is (values (ascii "channel")) (met .channel) channel-is)
       (λ c q. channel-out c)
 
   -- ---- check 4 and check 5
-  escaped-out : escapedM s ms ≡ (met .escaped || (met .channel .escaped || met .product .escaped))
-  unfolding escapedM
+  escaped-out : escapedM s ms ≡ met .escaped
+  unfolding moreMembers escapedM someName someString valuesOf
   escaped-out =
-      let n = names-from name s noMembers ms in
-      let c = ap (λ (l : Label). l .escaped) channel-is ∙ label-escaped s (ascii "book") noLabel (values (ascii "channel")) in
-      let p = ap (λ (l : Label). l .escaped) product-is ∙ label-escaped s name noLabel (values (ascii "product")) in
-      sym (rw (n, c, p))
+      sym (flag-from (moreMembers name s) (λ (x : Members). x .escaped)
+      (λ m. hasBackslash s (m .name) || ((means s (m .name) (ascii "channel") || means s (m .name) (ascii "product")) && isEscaped s (m .value)))
+      (escapedM s) (λ st m. refl) refl (escaped-more s) noMembers ms)
 
-  ours-out : oursM name s ms ≡ (met .channel .matches && met .product .matches)
-  unfolding oursM
+  some-is : (get : Members → Bool) (n text : List ℕ)
+      → ((st : Members) (m : Pair) → get (moreMembers name s st m) ≡ (get st || (means s (m .name) n && means s (m .value) text)))
+      → get met ≡ (get noMembers || someMeans s text (values n))
+  unfolding someMeans valuesOf
+  some-is get n text is =
+      flag-from (moreMembers name s) get (λ m. means s (m .name) n && means s (m .value) text) (λ l. someMeans s text (valuesOf s n l)) is refl
+      (λ m l. sym (means-more s text (m .value) (means s (m .name) n) (valuesOf s n l))) noMembers ms
+
+  ours-out : oursM name s ms ≡ (met .«is_book» && met .«is_product»)
+  unfolding oursM moreMembers
   ours-out =
-      let c = ap (λ (l : Label). l .matches) channel-is ∙ label-matches s (ascii "book") noLabel (values (ascii "channel")) in
-      let p = ap (λ (l : Label). l .matches) product-is ∙ label-matches s name noLabel (values (ascii "product")) in
-      sym (rw (c, p))
+      ap₂ _&&_ (sym (some-is (λ (x : Members). x .«is_book») (ascii "channel") (ascii "book") (λ st m. refl)))
+      (sym (some-is (λ (x : Members). x .«is_product») (ascii "product") name (λ st m. refl)))
 
 -- ---- the message
 module _ (name s : List ℕ) where
@@ -363,7 +394,7 @@ marked-more name s met n d j e next h q l t p =
     let y : endOf (value d s j) ≡ e = sym (ap (λ (x : Members). x .body .end) h) ∙ q in
     let l′ : j ≤ endOf (value d s j) = omega arith in
     let t′ : endOf (value d s j) ≤ length s = omega arith in
-    rw h (placed-more s (ascii "checksum") (met .checksum) v (p .0) l′ t′, placed-more s (ascii "gsn") (met .gsn) v (p .1) l′ t′)
+    rw h (placed-more s (means s n (ascii "checksum")) (met .checksum) (v .value) (p .0) l′ t′, placed-more s (means s n (ascii "gsn")) (met .gsn) (v .value) (p .1) l′ t′)
 
 pub unmarked-placed : (s : List ℕ) → Marked s noMembers
 unmarked-placed s = ((omega arith, omega arith), (omega arith, omega arith))

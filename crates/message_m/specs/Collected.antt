@@ -21,18 +21,16 @@ use Rattle.layout.specs.declared.Slot.{Slot}
 use Rattle.layout.specs.declared.Outline.{Outline}
 use Rattle.layout.specs.declared.Told.{Told}
 use Rattle.message_m.specs.LayoutM.{isSnapshotAt}
-use Rattle.message_m.specs.declared.Place.{Place}
 use Rattle.message_m.specs.declared.Data.{Data}
-use Rattle.message_m.specs.declared.Label.{Label}
 use Rattle.message_m.specs.declared.Body.{Body}
 use Rattle.message_m.specs.declared.Members.{Members}
 
--- What follows the members of one name: `add` takes the value of one more.
-unfoldable pub onMember : {A : Type 0} → List ℕ → List ℕ → (A → Span → A) → A → Pair → A
-onMember s name add x m = cond (means s (m .name) name) (add x (m .value)) x
+-- What follows the members of one name: `add` takes the value of one more, if it is one of them.
+unfoldable pub onHit : {A : Type 0} → Bool → (A → Span → A) → A → Span → A
+onHit hit add x a = cond hit (add x a) x
 
-abbrev pub pairOf : Place → Pair
-pairOf p = record { name = record { from = p .«name_from»; to = p .«name_to» }; value = record { from = p .from; to = p .to } }
+abbrev pub onMember : {A : Type 0} → List ℕ → List ℕ → (A → Span → A) → A → Pair → A
+onMember s name add x m = onHit (means s (m .name) name) add x (m .value)
 
 -- The member whose name lies from `first` to `past`, and whose value begins at `from`; it ends at 0 where it is not JSON.
 abbrev pub memberAt : ℕ → List ℕ → ℕ → ℕ → ℕ → Pair
@@ -43,23 +41,19 @@ memberAt depth s first past from = record { name = record { from = first; to = p
 abbrev pub sideM : List ℕ → Span → Listing
 sideM s a = listingOf s (listedAt entryM s a)
 
--- A value that is no object.
+-- A value that ends at `end` and has no sides.
 unfoldable pub noData : ℕ → Data
-noData end = record { end = end; «is_object» = false; bids = emptySlot; asks = emptySlot }
+noData end = record { end = end; bids = emptySlot; asks = emptySlot }
 
 -- An object that ends at `end`, with the sides that were met in it.
 abbrev pub dataEnd : ℕ → Data → Data
-dataEnd end d = record { end = end; «is_object» = true; bids = d .bids; asks = d .asks }
-
-abbrev pub emptyData : Data
-emptyData = dataEnd 0 (noData 0)
+dataEnd end d = record { end = end; bids = d .bids; asks = d .asks }
 
 -- One member more.
 unfoldable pub moreData : List ℕ → Data → Pair → Data
 moreData s d m =
     record {
       end = m .value .to;
-      «is_object» = true;
       bids = onMember s (ascii "bids") (moreListed (sideM s)) (d .bids) m;
       asks = onMember s (ascii "asks") (moreListed (sideM s)) (d .asks) m;
     }
@@ -68,7 +62,6 @@ unfoldable pub dataFrom : List ℕ → ℕ → Reading (List Pair) → Data
 dataFrom s end (reads ms) =
     record {
       end = end;
-      «is_object» = true;
       bids = slotsOf (sideM s) (valuesOf s (ascii "bids") ms);
       asks = slotsOf (sideM s) (valuesOf s (ascii "asks") ms);
     }
@@ -79,29 +72,31 @@ dataOf s a = dataFrom s (a .to) (objectAt 15 s a)
 
 -- ---- the members of the message
 
-abbrev pub noLabel : Label
-noLabel = record { mark = unmarked; escaped = false; matches = false }
+-- Which of our names a string means: 0 is none.
+unfoldable pub keyOf : List ℕ → Span → ℕ
+keyOf s a =
+    cond (means s a (ascii "channel")) 1
+    (cond (means s a (ascii "product")) 2
+    (cond (means s a (ascii "type")) 3
+    (cond (means s a (ascii "data")) 4
+    (cond (means s a (ascii "checksum")) 5
+    (cond (means s a (ascii "gsn")) 6 0)))))
 
--- One member more of a name, whose value is compared with a text.
-unfoldable pub moreLabel : List ℕ → List ℕ → Label → Span → Label
-moreLabel s text l a =
-    record { mark = more (l .mark) a; escaped = l .escaped || (isString s a && hasBackslash s a); matches = l .matches || means s a text }
+abbrev pub isEscaped : List ℕ → Span → Bool
+isEscaped s a = isString s a && hasBackslash s a
 
-unfoldable pub moreBody : List ℕ → Body → Pair → Body
-moreBody s b m =
-    record {
-      end = m .value .to;
-      mark = onMember s (ascii "data") more (b .mark) m;
-      last = onMember s (ascii "data") (λ d a. dataOf s a) (b .last) m;
-    }
+unfoldable pub moreBody : List ℕ → Bool → Body → Span → Body
+moreBody s hit b a = record { end = a .to; mark = onHit hit more (b .mark) a; last = onHit hit (λ d v. dataOf s v) (b .last) a }
 
 abbrev pub noMembers : Members
 noMembers =
     record {
       body = record { end = 0; mark = unmarked; last = noData 0 };
       escaped = false;
-      channel = noLabel;
-      product = noLabel;
+      «is_book» = false;
+      «is_product» = false;
+      channel = unmarked;
+      product = unmarked;
       kind = unmarked;
       checksum = unmarked;
       gsn = unmarked;
@@ -111,10 +106,14 @@ noMembers =
 unfoldable pub moreMembers : List ℕ → List ℕ → Members → Pair → Members
 moreMembers name s met m =
     record {
-      body = moreBody s (met .body) m;
-      escaped = met .escaped || hasBackslash s (m .name);
-      channel = onMember s (ascii "channel") (moreLabel s (ascii "book")) (met .channel) m;
-      product = onMember s (ascii "product") (moreLabel s name) (met .product) m;
+      body = moreBody s (means s (m .name) (ascii "data")) (met .body) (m .value);
+      escaped =
+          met .escaped
+          || (hasBackslash s (m .name) || ((means s (m .name) (ascii "channel") || means s (m .name) (ascii "product")) && isEscaped s (m .value)));
+      «is_book» = met .«is_book» || (means s (m .name) (ascii "channel") && means s (m .value) (ascii "book"));
+      «is_product» = met .«is_product» || (means s (m .name) (ascii "product") && means s (m .value) name);
+      channel = onMember s (ascii "channel") more (met .channel) m;
+      product = onMember s (ascii "product") more (met .product) m;
       kind = onMember s (ascii "type") more (met .kind) m;
       checksum = onMember s (ascii "checksum") more (met .checksum) m;
       gsn = onMember s (ascii "gsn") more (met .gsn) m;
@@ -142,14 +141,12 @@ numbersIn s snapshot bids asks checksum gsn =
 unfoldable pub bodyIn : List ℕ → Bool → Members → Outline
 bodyIn s snapshot met =
     outlineWhere (onceAt (met .body .mark)) (λ d.
-    cond (met .body .last .«is_object»)
-    (numbersIn s snapshot (onceListed (met .body .last .bids)) (onceListed (met .body .last .asks)) (met .checksum) (met .gsn))
-    noOutline)
+    numbersIn s snapshot (onceListed (met .body .last .bids)) (onceListed (met .body .last .asks)) (met .checksum) (met .gsn))
 
 unfoldable pub outlineIn : List ℕ → Members → Outline
 outlineIn s met =
-    outlineWhere (onceAt (met .channel .mark)) (λ c.
-    outlineWhere (onceAt (met .product .mark)) (λ p.
+    outlineWhere (onceAt (met .channel)) (λ c.
+    outlineWhere (onceAt (met .product)) (λ p.
     outlineWhere (andThen (onceAt (met .kind)) (isSnapshotAt s)) (λ snapshot.
     bodyIn s snapshot met)))
 
@@ -158,8 +155,8 @@ toldIn s end met =
     record {
       end = end;
       framed = true;
-      escaped = met .escaped || (met .channel .escaped || met .product .escaped);
-      ours = met .channel .matches && met .product .matches;
+      escaped = met .escaped;
+      ours = met .«is_book» && met .«is_product»;
       outline = outlineIn s met;
     }
 

@@ -34,16 +34,17 @@ use layout::slotted;
 use layout::untold;
 ghost use mathlib.Core.Path.{_≡_};
 ghost use mathlib.Core.Bool.{_&&_, _||_};
+ghost use lib.Dec.{eqb};
 ghost use Rattle.decimal.specs.Ascii.{ascii};
 ghost use Rattle.decimal.specs.Reads.{parsedChecksum, parsedWhole};
 ghost use Rattle.json_tokens.specs.Tokens.{endOf};
 ghost use Rattle.json.specs.Json.{value};
-ghost use Rattle.json.specs.Names.{spelled, hasBackslash};
-ghost use Rattle.entries.specs.Places.{andThen, isString, wholeAt, checksumAt};
-ghost use Rattle.layout.specs.Marks.{more, moreListed};
+ghost use Rattle.json.specs.Names.{means, hasBackslash};
+ghost use Rattle.entries.specs.Places.{andThen, wholeAt, checksumAt};
+ghost use Rattle.layout.specs.Marks.{more};
 ghost use Rattle.layout.specs.Told.{toldAt};
 ghost use Rattle.message_m.specs.LayoutM.{heardM};
-ghost use Rattle.message_m.specs.Collected.{onMember, pairOf, memberAt, noData, dataEnd, moreData, dataOf, noLabel, moreLabel, moreBody, noMembers, moreMembers, onceAt, onceListed, numbersIn, bodyIn, outlineIn, toldIn, Placed};
+ghost use Rattle.message_m.specs.Collected.{onHit, memberAt, noData, dataEnd, moreData, dataOf, keyOf, isEscaped, moreBody, noMembers, moreMembers, onceAt, onceListed, numbersIn, bodyIn, outlineIn, toldIn, Placed};
 
 // How deep arrays and objects may nest in a message, in a member of it, and in a member of its `data`.
 const MESSAGE_DEPTH: usize = 16;
@@ -53,21 +54,21 @@ const MEMBER_DEPTH: usize = 15;
 const SIDE_DEPTH: usize = 14;
 
 // Our names as numbers, the first byte the lowest, as `json::is_short_name` takes them.
-const CHANNEL: u64 = 0x6c656e6e616863;
+const CHANNEL_NAME: u64 = 0x6c656e6e616863;
 
-const PRODUCT: u64 = 0x746375646f7270;
+const PRODUCT_NAME: u64 = 0x746375646f7270;
 
-const TYPE: u64 = 0x65707974;
+const TYPE_NAME: u64 = 0x65707974;
 
-const DATA: u64 = 0x61746164;
+const DATA_NAME: u64 = 0x61746164;
 
-const CHECKSUM: u64 = 0x6d75736b63656863;
+const CHECKSUM_NAME: u64 = 0x6d75736b63656863;
 
-const GSN: u64 = 0x6e7367;
+const GSN_NAME: u64 = 0x6e7367;
 
-const BIDS: u64 = 0x73646962;
+const BIDS_NAME: u64 = 0x73646962;
 
-const ASKS: u64 = 0x736b7361;
+const ASKS_NAME: u64 = 0x736b7361;
 
 const BOOK: u64 = 0x6b6f6f62;
 
@@ -75,31 +76,28 @@ const SNAPSHOT: u64 = 0x746f687370616e73;
 
 const UPDATE: u64 = 0x657461647075;
 
-// Where a member lies: its name with the quotes, and its value.
-struct Place {
-    name_from: usize,
-    name_to: usize,
-    from: usize,
-    to: usize,
-}
+// Which of our names a member of the message has.
+const OTHER: usize = 0;
+
+const CHANNEL: usize = 1;
+
+const PRODUCT: usize = 2;
+
+const TYPE: usize = 3;
+
+const DATA: usize = 4;
+
+const CHECKSUM: usize = 5;
+
+const GSN: usize = 6;
 
 // The value of a member `data`.
 struct Data {
     // Past the value, or 0 where it is not JSON.
     end: usize,
-    // Whether it is an object. If not, what is below says nothing.
-    is_object: bool,
+    // The members `bids` and `asks`, if it is an object.
     bids: Slot,
     asks: Slot,
-}
-
-// The members `channel`, or `product`, that were met.
-struct Label {
-    mark: Mark,
-    // Whether some value is a string with a backslash.
-    escaped: bool,
-    // Whether some value is the book's.
-    matches: bool,
 }
 
 // The members `data` that were met.
@@ -114,10 +112,13 @@ struct Body {
 // The members of a message that were met.
 struct Members {
     body: Body,
-    // Whether some name has a backslash.
+    // Whether a backslash stands in some name, or in some `channel` or `product` that is a string.
     escaped: bool,
-    channel: Label,
-    product: Label,
+    // Whether some `channel` is `book`, and whether some `product` is the book's name.
+    is_book: bool,
+    is_product: bool,
+    channel: Mark,
+    product: Mark,
     // The members `type`.
     kind: Mark,
     checksum: Mark,
@@ -157,13 +158,16 @@ pub fn m_message(s: &[u8], at: usize, name: &[u8]) -> Told
             if end == 0 {
                 return untold(0);
             }
-            return told(s, next, end);
+            // A copy is handed on, so that what the loop carries can stay in registers.
+            let last = next;
+            return told(s, last, end);
         }
         met = next;
         i = j;
     }
 }
 
+// No member was met yet.
 fn no_members() -> Members
     ensures { λ r. ⌜ r ≡ noMembers ⌝ }
 {
@@ -174,21 +178,13 @@ fn no_members() -> Members
             last: no_data(0),
         },
         escaped: false,
-        channel: no_label(),
-        product: no_label(),
+        is_book: false,
+        is_product: false,
+        channel: no_mark(),
+        product: no_mark(),
         kind: no_mark(),
         checksum: no_mark(),
         gsn: no_mark(),
-    }
-}
-
-fn no_label() -> Label
-    ensures { λ r. ⌜ r ≡ noLabel ⌝ }
-{
-    Label {
-        mark: no_mark(),
-        escaped: false,
-        matches: false,
     }
 }
 
@@ -203,71 +199,100 @@ fn more_members(
 ) -> Members
     ensures { λ r. ⌜ r ≡ moreMembers (now (name .entry)) (now (s .entry)) met (memberAt 15 (now (s .entry)) first past from) ⌝ }
 {
-    let body = more_body(s, met.body, first, past, from);
-    let place = Place {
-        name_from: first,
-        name_to: past,
-        from,
-        to: body.end,
-    };
+    let key = key_of(s, first, past);
+    let body = more_body(s, met.body, key, from);
+    let to = body.end;
     Members {
         body,
-        escaped: either(met.escaped, has_backslash(s, first, past)),
-        channel: more_channel(s, met.channel, place),
-        product: more_product(s, met.product, place, name),
-        kind: more_marked(s, met.kind, place, TYPE, 4),
-        checksum: more_marked(s, met.checksum, place, CHECKSUM, 8),
-        gsn: more_marked(s, met.gsn, place, GSN, 3),
+        escaped: either(met.escaped, is_escaped(s, key, first, past, from, to)),
+        is_book: either(met.is_book, is_book(s, key, from, to)),
+        is_product: either(met.is_product, is_product(s, key, from, to, name)),
+        channel: more_marked(met.channel, key, CHANNEL, from, to),
+        product: more_marked(met.product, key, PRODUCT, from, to),
+        kind: more_marked(met.kind, key, TYPE, from, to),
+        checksum: more_marked(met.checksum, key, CHECKSUM, from, to),
+        gsn: more_marked(met.gsn, key, GSN, from, to),
     }
 }
 
-// The members of the name `name`, and one member more of whatever name.
-fn more_marked(s: &[u8], mark: Mark, place: Place, name: u64, length: usize) -> Mark
-    ensures { λ r. ⌜ r ≡ onMember (now (s .entry)) (spelled length name) more mark (pairOf place) ⌝ }
+// Which of our names the string from `from` to `to` means.
+fn key_of(s: &[u8], from: usize, to: usize) -> usize
+    ensures { λ r. ⌜ r ≡ keyOf (now (s .entry)) (record { from = from; to = to }) ⌝ }
 {
-    if is_short_name(s, place.name_from, place.name_to, name, length) {
-        return marked(mark, place.from, place.to);
+    if is_short_name(s, from, to, CHANNEL_NAME, 7) {
+        return CHANNEL;
+    }
+    if is_short_name(s, from, to, PRODUCT_NAME, 7) {
+        return PRODUCT;
+    }
+    if is_short_name(s, from, to, TYPE_NAME, 4) {
+        return TYPE;
+    }
+    if is_short_name(s, from, to, DATA_NAME, 4) {
+        return DATA;
+    }
+    if is_short_name(s, from, to, CHECKSUM_NAME, 8) {
+        return CHECKSUM;
+    }
+    if is_short_name(s, from, to, GSN_NAME, 3) {
+        return GSN;
+    }
+    OTHER
+}
+
+// The members of one name, and one member more.
+fn more_marked(mark: Mark, key: usize, name: usize, from: usize, to: usize) -> Mark
+    ensures { λ r. ⌜ r ≡ onHit (eqb key name) more mark (record { from = from; to = to }) ⌝ }
+{
+    if key == name {
+        return marked(mark, from, to);
     }
     mark
 }
 
-fn more_channel(s: &[u8], label: Label, place: Place) -> Label
-    ensures { λ r. ⌜ r ≡ onMember (now (s .entry)) (ascii "channel") (moreLabel (now (s .entry)) (ascii "book")) label (pairOf place) ⌝ }
+// Whether a backslash stands in a member's name, or in its value, if that is a string and is compared. Our own names have none.
+fn is_escaped(s: &[u8], key: usize, first: usize, past: usize, from: usize, to: usize) -> bool
+    requires { ⌜ key ≡ keyOf (now s) (record { from = first; to = past }) ⌝ }
+    ensures { λ r. ⌜ r ≡ (hasBackslash (now (s .entry)) (record { from = first; to = past }) || ((eqb key 1 || eqb key 2) && isEscaped (now (s .entry)) (record { from = from; to = to }))) ⌝ }
 {
-    if is_short_name(s, place.name_from, place.name_to, CHANNEL, 7) {
-        let matches = is_short_name(s, place.from, place.to, BOOK, 4);
-        return more_label(s, label, place.from, place.to, matches);
+    if key == CHANNEL {
+        return string_escaped(s, from, to);
     }
-    label
-}
-
-fn more_product(s: &[u8], label: Label, place: Place, name: &[u8]) -> Label
-    ensures { λ r. ⌜ r ≡ onMember (now (s .entry)) (ascii "product") (moreLabel (now (s .entry)) (now (name .entry))) label (pairOf place) ⌝ }
-{
-    if is_short_name(s, place.name_from, place.name_to, PRODUCT, 7) {
-        let matches = is_name(s, place.from, place.to, name);
-        return more_label(s, label, place.from, place.to, matches);
+    if key == PRODUCT {
+        return string_escaped(s, from, to);
     }
-    label
-}
-
-// One member more of the label's name; `matches`: its value is the book's.
-fn more_label(s: &[u8], label: Label, from: usize, to: usize, matches: bool) -> Label
-    ensures { λ r. ⌜ r ≡ record { mark = more (label .mark) (record { from = from; to = to }); escaped = label .escaped || (isString (now (s .entry)) (record { from = from; to = to }) && hasBackslash (now (s .entry)) (record { from = from; to = to })); matches = label .matches || matches } ⌝ }
-{
-    Label {
-        mark: marked(label.mark, from, to),
-        escaped: either(label.escaped, is_escaped(s, from, to)),
-        matches: either(label.matches, matches),
+    if key == OTHER {
+        return has_backslash(s, first, past);
     }
+    false
 }
 
 // Whether the value from `from` to `to` is a string with a backslash.
-fn is_escaped(s: &[u8], from: usize, to: usize) -> bool
-    ensures { λ r. ⌜ r ≡ (isString (now (s .entry)) (record { from = from; to = to }) && hasBackslash (now (s .entry)) (record { from = from; to = to })) ⌝ }
+fn string_escaped(s: &[u8], from: usize, to: usize) -> bool
+    ensures { λ r. ⌜ r ≡ isEscaped (now (s .entry)) (record { from = from; to = to }) ⌝ }
 {
     if byte_at(s, from) == QUOTE {
         return has_backslash(s, from, to);
+    }
+    false
+}
+
+// Whether the member is a `channel` that is `book`.
+fn is_book(s: &[u8], key: usize, from: usize, to: usize) -> bool
+    ensures { λ r. ⌜ r ≡ (eqb key 1 && means (now (s .entry)) (record { from = from; to = to }) (ascii "book")) ⌝ }
+{
+    if key == CHANNEL {
+        return is_short_name(s, from, to, BOOK, 4);
+    }
+    false
+}
+
+// Whether the member is a `product` that is the book's name.
+fn is_product(s: &[u8], key: usize, from: usize, to: usize, name: &[u8]) -> bool
+    ensures { λ r. ⌜ r ≡ (eqb key 2 && means (now (s .entry)) (record { from = from; to = to }) (now (name .entry))) ⌝ }
+{
+    if key == PRODUCT {
+        return is_name(s, from, to, name);
     }
     false
 }
@@ -284,11 +309,11 @@ fn both(a: bool, b: bool) -> bool
     if a { b } else { false }
 }
 
-// The same of `data` alone. The value is read here, whatever the member's name.
-fn more_body(s: &[u8], body: Body, first: usize, past: usize, from: usize) -> Body
-    ensures { λ r. ⌜ r ≡ moreBody (now (s .entry)) body (memberAt 15 (now (s .entry)) first past from) ⌝ }
+// The members `data`, and one member more, whose value is read here, whatever its name.
+fn more_body(s: &[u8], body: Body, key: usize, from: usize) -> Body
+    ensures { λ r. ⌜ r ≡ moreBody (now (s .entry)) (eqb key 4) body (record { from = from; to = endOf (value 15 (now (s .entry)) from) }) ⌝ }
 {
-    if is_short_name(s, first, past, DATA, 4) {
+    if key == DATA {
         let data = m_data(s, from);
         return Body {
             end: data.end,
@@ -314,10 +339,10 @@ fn m_data(s: &[u8], at: usize) -> Data
     }
     let none = object_close_end(s, at + 1);
     if 0 < none {
-        return data_end(no_data(0), none);
+        return no_data(none);
     }
     let mut i = skip_blanks(s, at + 1);
-    let mut met = data_end(no_data(0), 0);
+    let mut met = no_data(0);
     loop {
         let name_to = string_end(s, i);
         if name_to == 0 {
@@ -351,27 +376,24 @@ fn more_data(s: &[u8], met: Data, first: usize, past: usize, from: usize) -> Dat
 {
     let bids = met.bids;
     let asks = met.asks;
-    if is_short_name(s, first, past, BIDS, 4) {
+    if is_short_name(s, first, past, BIDS_NAME, 4) {
         let entries = m_entries(s, from);
         return Data {
             end: entries.end,
-            is_object: true,
             bids: slotted(bids, listing_at(from, entries)),
             asks,
         };
     }
-    if is_short_name(s, first, past, ASKS, 4) {
+    if is_short_name(s, first, past, ASKS_NAME, 4) {
         let entries = m_entries(s, from);
         return Data {
             end: entries.end,
-            is_object: true,
             bids,
             asks: slotted(asks, listing_at(from, entries)),
         };
     }
     Data {
         end: value_end(s, from, SIDE_DEPTH),
-        is_object: true,
         bids,
         asks,
     }
@@ -383,21 +405,15 @@ fn data_end(met: Data, end: usize) -> Data
 {
     let bids = met.bids;
     let asks = met.asks;
-    Data {
-        end,
-        is_object: true,
-        bids,
-        asks,
-    }
+    Data { end, bids, asks }
 }
 
-// A value that ends at `end` and is no object.
+// A value that ends at `end` and has no sides.
 fn no_data(end: usize) -> Data
     ensures { λ r. ⌜ r ≡ noData end ⌝ }
 {
     Data {
         end,
-        is_object: false,
         bids: no_slot(),
         asks: no_slot(),
     }
@@ -408,17 +424,16 @@ fn told(s: &[u8], met: Members, end: usize) -> Told
     requires { ⌜ Placed (now s) (met .checksum) × Placed (now s) (met .gsn) ⌝ }
     ensures { λ r. ⌜ r ≡ toldIn (now (s .entry)) end met ⌝ }
 {
-    let channel = met.channel;
-    let product = met.product;
     Told {
         end,
         framed: true,
-        escaped: either(met.escaped, either(channel.escaped, product.escaped)),
-        ours: both(channel.matches, product.matches),
+        escaped: met.escaped,
+        ours: both(met.is_book, met.is_product),
         outline: m_outline(s, met),
     }
 }
 
+// The layout, out of the members that were met.
 fn m_outline(s: &[u8], met: Members) -> Outline
     requires { ⌜ Placed (now s) (met .checksum) × Placed (now s) (met .gsn) ⌝ }
     ensures { λ r. ⌜ r ≡ outlineIn (now (s .entry)) met ⌝ }
@@ -426,10 +441,10 @@ fn m_outline(s: &[u8], met: Members) -> Outline
     let channel = met.channel;
     let product = met.product;
     let kind = met.kind;
-    if channel.mark.times != 1 {
+    if channel.times != 1 {
         return no_outline();
     }
-    if product.mark.times != 1 {
+    if product.times != 1 {
         return no_outline();
     }
     if kind.times != 1 {
@@ -454,12 +469,9 @@ fn body_outline(s: &[u8], snapshot: bool, met: Members) -> Outline
     if body.mark.times != 1 {
         return no_outline();
     }
-    if data.is_object {
-        let bids = once_listed(data.bids);
-        let asks = once_listed(data.asks);
-        return numbers_outline(s, snapshot, bids, asks, met.checksum, met.gsn);
-    }
-    no_outline()
+    let bids = once_listed(data.bids);
+    let asks = once_listed(data.asks);
+    numbers_outline(s, snapshot, bids, asks, met.checksum, met.gsn)
 }
 
 // The entries of a side that was met once.

@@ -1,10 +1,10 @@
--- `message_m::body_outline` meets its contract: `data` was met once and is an object, or the layout is broken.
+-- `message_m::body_outline` meets its contract: `data` was met once, or the layout is broken.
 -- Assumes nothing.
 use denote.Ref.{now}
 use mathlib.Core.Path.{_∙_, ap₂}
 use Rattle.layout.specs.declared.Listing.{Listing}
 use Rattle.message_m.specs.Collected.{numbersIn}
-use Rattle.message_m.proofs.Outlines.{body-not-once, body-object, body-no-object}
+use Rattle.message_m.proofs.Outlines.{body-not-once, body-once}
 use borrow.Author.Needs.{needs}
 use Rattle.message_m.proofs.body_outline.Statement.{statement}
 use Rattle.message_m.proofs.body_outline.Tie as tie
@@ -29,20 +29,11 @@ numbers-outline-requires c κs = search needs
 
 returns-2 : tie.Need-returns-2
 returns-2 c =
-    let a = c .before .before .before .before .before .before .before .before .before .args in
+    let a = c .before .before .before .before .before .before .before .before .args in
     let s = now (a .s) in
     let m = a .met in
     c .numbers-outline .ensures ∙ ap₂ (λ (x y : Listing). numbersIn s (a .snapshot) x y (m .checksum) (m .gsn)) (c .before .before .once-listed .ensures) (c .before .once-listed2 .ensures)
-    ∙ body-object s (a .snapshot) (a .met) (c .before .before .before .before .if1 .left) (c .before .before .before .if2 .taken)
-
-no-outline-requires-2 : tie.Need-no-outline-requires-2
-no-outline-requires-2 c κs = search needs
-
-returns-3 : tie.Need-returns-3
-returns-3 c =
-    let a = c .before .before .before .before .before .before .before .args in
-    let s = now (a .s) in
-    c .no-outline2 .ensures ∙ body-no-object s (a .snapshot) (a .met) (c .before .before .if1 .left) (c .before .if2 .left)
+    ∙ body-once s (a .snapshot) (a .met) (c .before .before .before .if1 .left)
 
 pub body-outline-spec : {M : Type 1} → statement M
 body-outline-spec =
@@ -53,6 +44,4 @@ body-outline-spec =
     once-listed-requires
     once-listed-requires-2
     numbers-outline-requires
-    returns-2
-    no-outline-requires-2
-    returns-3)
+    returns-2)

@@ -6,8 +6,7 @@ use denote.Ref.{now}
 use lib.ListN.{length}
 use native.Mathlib.Omega.{arith}
 use Rattle.json_tokens.proofs.Laws.{in-byte}
-use mathlib.Core.Path.{_∙_, ap, sym}
-use Rattle.message_m.specs.Collected.{dataEnd}
+use mathlib.Core.Path.{_∙_, sym}
 use Rattle.message_m.proofs.Objects.{Rest, no-name, no-colon, no-value, value-places, next-member, last-member, no-brace}
 use Rattle.message_m.proofs.Whole.{dataLoop, dataAt, data-none, data-empty, data-start}
 use Rattle.message_m.proofs.m_data.Statement.{statement}
@@ -47,15 +46,12 @@ object-close-end-requires c κs = search needs
 no-data-requires-2 : tie.Need-no-data-requires-2 Inv-loop μ-loop
 no-data-requires-2 c κs = search needs
 
-data-end-requires : tie.Need-data-end-requires Inv-loop μ-loop
-data-end-requires c κs = search needs
-
 returns-2 : tie.Need-returns-2 Inv-loop μ-loop
 returns-2 c =
-    let a = c .before .before .before .before .before .before .before .args in
+    let a = c .before .before .before .before .before .before .args in
     let s = now (a .s) in
-    let o = sym (c .before .before .before .before .before .byte-at .ensures) ∙ c .before .before .before .before .if1 .left in
-    c .data-end .ensures ∙ ap (dataEnd (c .before .before .before .object-close-end .result)) (c .before .no-data2 .ensures) ∙ data-empty s (a .at) o (c .before .before .before .object-close-end .result) (c .before .before .before .object-close-end .ensures) (c .before .before .if2 .taken)
+    let o = sym (c .before .before .before .before .byte-at .ensures) ∙ c .before .before .before .if1 .left in
+    c .no-data2 .ensures ∙ data-empty s (a .at) o (c .before .before .object-close-end .result) (c .before .before .object-close-end .ensures) (c .before .if2 .taken)
 
 add-skip-blanks : tie.Need-add-skip-blanks Inv-loop μ-loop
 add-skip-blanks c =
@@ -70,17 +66,13 @@ skip-blanks-requires c κs = search needs
 no-data-requires-3 : tie.Need-no-data-requires-3 Inv-loop μ-loop
 no-data-requires-3 c κs = search needs
 
-data-end-requires-2 : tie.Need-data-end-requires-2 Inv-loop μ-loop
-data-end-requires-2 c κs = search needs
-
 loop-holds : tie.Need-loop-holds Inv-loop μ-loop
 loop-holds c =
-    let a = c .before .before .before .before .before .before .before .before .args in
+    let a = c .before .before .before .before .before .before .before .args in
     let s = now (a .s) in
-    let o = sym (c .before .before .before .before .before .before .byte-at .ensures) ∙ c .before .before .before .before .before .if1 .left in
-    let h = c .data-end2 .ensures ∙ ap (dataEnd 0) (c .before .no-data3 .ensures) in
-    let w = data-start s (a .at) o (c .before .before .before .before .object-close-end .result) (c .before .before .before .before .object-close-end .ensures) (omega arith) (c .before .before .skip-blanks .result) (c .before .before .skip-blanks .ensures) in
-    rw h w
+    let o = sym (c .before .before .before .before .before .byte-at .ensures) ∙ c .before .before .before .before .if1 .left in
+    let w = data-start s (a .at) o (c .before .before .before .object-close-end .result) (c .before .before .before .object-close-end .ensures) (omega arith) (c .before .skip-blanks .result) (c .before .skip-blanks .ensures) in
+    rw (c .no-data3 .ensures) w
 
 string-end-requires : tie.Need-string-end-requires Inv-loop μ-loop
 string-end-requires c κs = search needs
@@ -90,7 +82,7 @@ no-data-requires-4 c κs = search needs
 
 returns-3 : tie.Need-returns-3 Inv-loop μ-loop
 returns-3 c =
-    let a = c .before .before .before .before .before .before .before .before .before .before .before .before .args in
+    let a = c .before .before .before .before .before .before .before .before .before .before .before .args in
     let s = now (a .s) in
     let met = c .before .before .before .loop .met in
     let w = c .before .before .before .loop .inv in
@@ -106,7 +98,7 @@ no-data-requires-5 c κs = search needs
 
 returns-4 : tie.Need-returns-4 Inv-loop μ-loop
 returns-4 c =
-    let a = c .before .before .before .before .before .before .before .before .before .before .before .before .before .before .args in
+    let a = c .before .before .before .before .before .before .before .before .before .before .before .before .before .args in
     let s = now (a .s) in
     let met = c .before .before .before .before .before .loop .met in
     let w = c .before .before .before .before .before .loop .inv in
@@ -125,7 +117,7 @@ no-data-requires-6 c κs = search needs
 
 returns-5 : tie.Need-returns-5 Inv-loop μ-loop
 returns-5 c =
-    let a = c .before .before .before .before .before .before .before .before .before .before .before .before .before .before .before .before .args in
+    let a = c .before .before .before .before .before .before .before .before .before .before .before .before .before .before .before .args in
     let s = now (a .s) in
     let met = c .before .before .before .before .before .before .before .loop .met in
     let w = c .before .before .before .before .before .before .before .loop .inv in
@@ -150,7 +142,7 @@ no-data-requires-7 c κs = search needs
 
 returns-6 : tie.Need-returns-6 Inv-loop μ-loop
 returns-6 c =
-    let a = c .before .before .before .before .before .before .before .before .before .before .before .before .before .before .before .before .before .before .before .before .args in
+    let a = c .before .before .before .before .before .before .before .before .before .before .before .before .before .before .before .before .before .before .before .args in
     let s = now (a .s) in
     let met = c .before .before .before .before .before .before .before .before .before .before .before .loop .met in
     let w = c .before .before .before .before .before .before .before .before .before .before .before .loop .inv in
@@ -170,12 +162,12 @@ returns-6 c =
     let x = c .before .before .object-close-end2 .ensures in
     c .no-data7 .ensures ∙ no-brace (dataLoop s) 14 s met w k p k≢0 j q j≢0 next g n l comma z u x (c .before .if7 .taken)
 
-data-end-requires-3 : tie.Need-data-end-requires-3 Inv-loop μ-loop
-data-end-requires-3 c κs = search needs
+data-end-requires : tie.Need-data-end-requires Inv-loop μ-loop
+data-end-requires c κs = search needs
 
 returns-7 : tie.Need-returns-7 Inv-loop μ-loop
 returns-7 c =
-    let a = c .before .before .before .before .before .before .before .before .before .before .before .before .before .before .before .before .before .before .before .before .args in
+    let a = c .before .before .before .before .before .before .before .before .before .before .before .before .before .before .before .before .before .before .before .args in
     let s = now (a .s) in
     let met = c .before .before .before .before .before .before .before .before .before .before .before .loop .met in
     let w = c .before .before .before .before .before .before .before .before .before .before .before .loop .inv in
@@ -193,11 +185,11 @@ returns-7 c =
     let z = c .before .before .before .if6 .taken in
     let u = c .before .before .object-close-end2 .result in
     let x = c .before .before .object-close-end2 .ensures in
-    c .data-end3 .ensures ∙ last-member (dataLoop s) 14 s met w k p k≢0 j q j≢0 next g n l comma z u x (c .before .if7 .left)
+    c .data-end .ensures ∙ last-member (dataLoop s) 14 s met w k p k≢0 j q j≢0 next g n l comma z u x (c .before .if7 .left)
 
 loop-less : tie.Need-loop-less Inv-loop μ-loop
 loop-less c =
-    let a = c .before .before .before .before .before .before .before .before .before .before .before .before .before .before .before .before .before .args in
+    let a = c .before .before .before .before .before .before .before .before .before .before .before .before .before .before .before .before .args in
     let s = now (a .s) in
     let met = c .before .before .before .before .before .before .before .before .loop .met in
     let w = c .before .before .before .before .before .before .before .before .loop .inv in
@@ -222,7 +214,7 @@ loop-less c =
 
 loop-again : tie.Need-loop-again Inv-loop μ-loop
 loop-again c =
-    let a = c .before .before .before .before .before .before .before .before .before .before .before .before .before .before .before .before .before .args in
+    let a = c .before .before .before .before .before .before .before .before .before .before .before .before .before .before .before .before .args in
     let s = now (a .s) in
     let met = c .before .before .before .before .before .before .before .before .loop .met in
     let w = c .before .before .before .before .before .before .before .before .loop .inv in
@@ -253,12 +245,10 @@ m-data-spec =
     add-object-close-end
     object-close-end-requires
     no-data-requires-2
-    data-end-requires
     returns-2
     add-skip-blanks
     skip-blanks-requires
     no-data-requires-3
-    data-end-requires-2
     loop-holds
     string-end-requires
     no-data-requires-4
@@ -273,7 +263,7 @@ m-data-spec =
     object-close-end-requires-2
     no-data-requires-7
     returns-6
-    data-end-requires-3
+    data-end-requires
     returns-7
     loop-less
     loop-again)

@@ -1,15 +1,12 @@
--- `message_m::more_body` meets its contract: the name says whether the value is `data`'s.
+-- `message_m::more_body` meets its contract: the value of a member `data` is read as such, and any other is passed over.
 -- Assumes nothing.
 use denote.Ref.{now}
-use Rattle.json.specs.Json.{Pair}
-use Rattle.message_m.specs.Collected.{memberAt}
-use Rattle.message_m.proofs.Steps.{named, data-name, body-data, body-other}
+use Rattle.json_tokens.specs.Tokens.{endOf}
+use Rattle.json.specs.Json.{Span, value}
+use Rattle.message_m.proofs.Steps.{body-data, body-other}
 use borrow.Author.Needs.{needs}
 use Rattle.message_m.proofs.more_body.Statement.{statement}
 use Rattle.message_m.proofs.more_body.Tie as tie
-
-is-short-name-requires : tie.Need-is-short-name-requires
-is-short-name-requires c κs = search needs
 
 m-data-requires : tie.Need-m-data-requires
 m-data-requires c κs = search needs
@@ -19,28 +16,21 @@ marked-requires c κs = search needs
 
 returns : tie.Need-returns
 returns c =
-    let a = c .before .before .before .before .before .args in
+    let a = c .before .before .before .before .args in
     let s = now (a .s) in
-    let m : Pair = memberAt 15 s (a .first) (a .past) (a .from) in
-    body-data s (a .body) m (named s (m .name) data-name (c .before .before .before .is-short-name .ensures) (c .before .before .if1 .taken)) (c .before .m-data .result) (c .before .m-data .ensures) (c .marked .result) (c .marked .ensures)
+    let v : Span = record { from = a .from; to = endOf (value 15 s (a .from)) } in
+    body-data s (a .body) v (a .key) 4 (c .before .before .if1 .taken) (c .before .m-data .result) (c .before .m-data .ensures) (c .marked .result) (c .marked .ensures)
 
 value-end-requires : tie.Need-value-end-requires
 value-end-requires c κs = search needs
 
 returns-2 : tie.Need-returns-2
 returns-2 c =
-    let a = c .before .before .before .before .before .before .args in
+    let a = c .before .before .before .before .before .args in
     let s = now (a .s) in
-    let m : Pair = memberAt 15 s (a .first) (a .past) (a .from) in
-    body-other s (a .body) m (named s (m .name) data-name (c .before .before .before .before .is-short-name .ensures) (c .before .before .before .if1 .left)) (c .value-end .ensures)
+    let v : Span = record { from = a .from; to = endOf (value 15 s (a .from)) } in
+    body-other s (a .body) v (a .key) 4 (c .before .before .before .if1 .left) (c .value-end .ensures)
 
 pub more-body-spec : {M : Type 1} → statement M
 more-body-spec =
-    tie.close
-    (tie.spec
-    is-short-name-requires
-    m-data-requires
-    marked-requires
-    returns
-    value-end-requires
-    returns-2)
+    tie.close (tie.spec m-data-requires marked-requires returns value-end-requires returns-2)

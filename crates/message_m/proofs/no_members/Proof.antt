@@ -10,12 +10,6 @@ no-mark-requires c κs = search needs
 no-data-requires : tie.Need-no-data-requires
 no-data-requires c κs = search needs
 
-no-label-requires : tie.Need-no-label-requires
-no-label-requires c κs = search needs
-
-no-label-requires-2 : tie.Need-no-label-requires-2
-no-label-requires-2 c κs = search needs
-
 no-mark-requires-2 : tie.Need-no-mark-requires-2
 no-mark-requires-2 c κs = search needs
 
@@ -25,8 +19,14 @@ no-mark-requires-3 c κs = search needs
 no-mark-requires-4 : tie.Need-no-mark-requires-4
 no-mark-requires-4 c κs = search needs
 
+no-mark-requires-5 : tie.Need-no-mark-requires-5
+no-mark-requires-5 c κs = search needs
+
+no-mark-requires-6 : tie.Need-no-mark-requires-6
+no-mark-requires-6 c κs = search needs
+
 returns : tie.Need-returns
-returns c = rw (c .before .before .before .before .before .before .no-mark .ensures, c .before .before .before .before .before .no-data .ensures, c .before .before .before .before .no-label .ensures, c .before .before .before .no-label2 .ensures, c .before .before .no-mark2 .ensures, c .before .no-mark3 .ensures, c .no-mark4 .ensures)
+returns c = rw (c .before .before .before .before .before .before .no-mark .ensures, c .before .before .before .before .before .no-data .ensures, c .before .before .before .before .no-mark2 .ensures, c .before .before .before .no-mark3 .ensures, c .before .before .no-mark4 .ensures, c .before .no-mark5 .ensures, c .no-mark6 .ensures)
 
 pub no-members-spec : {M : Type 1} → statement M
 no-members-spec =
@@ -34,9 +34,9 @@ no-members-spec =
     (tie.spec
     no-mark-requires
     no-data-requires
-    no-label-requires
-    no-label-requires-2
     no-mark-requires-2
     no-mark-requires-3
     no-mark-requires-4
+    no-mark-requires-5
+    no-mark-requires-6
     returns)

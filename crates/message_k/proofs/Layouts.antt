@@ -126,9 +126,21 @@ module _ (s : List ℕ) (ms : List Pair) (t : Members) (h : Tells s t ms) where
   pub one-snapshot : snapshotBy t ≡ isSnapshot s (ms ∷ [])
   unfolding snapshotBy isSnapshot
   one-snapshot =
-      rw (alone, snapshot-asks-count s t ms h, snapshot-bids-count s t ms h, asks-count s t ms h, bids-count s t ms h, checksum-count s t ms h,
-      few-one (times s (ascii "as") ms), few-one (times s (ascii "bs") ms), few-zero (times s (ascii "a") ms), few-zero (times s (ascii "b") ms), few-zero (times s (ascii "c") ms),
-      none-and (times s (ascii "b") ms) (times s (ascii "c") ms), none-and (times s (ascii "a") ms) (times s (ascii "b") ms + times s (ascii "c") ms))
+      rw (
+        alone,
+        snapshot-asks-count s t ms h,
+        snapshot-bids-count s t ms h,
+        asks-count s t ms h,
+        bids-count s t ms h,
+        checksum-count s t ms h,
+        few-one (times s (ascii "as") ms),
+        few-one (times s (ascii "bs") ms),
+        few-zero (times s (ascii "a") ms),
+        few-zero (times s (ascii "b") ms),
+        few-zero (times s (ascii "c") ms),
+        none-and (times s (ascii "b") ms) (times s (ascii "c") ms),
+        none-and (times s (ascii "a") ms) (times s (ascii "b") ms + times s (ascii "c") ms),
+      )
 
   pub one-update : updateBy (hasMore (noMembers 0) t) (noMembers 0) t ≡ isUpdate s (ms ∷ [])
   unfolding updateBy isUpdate hasMore eachHasOne lastOf
@@ -187,8 +199,15 @@ module _ (s : List ℕ) (ms ns : List Pair) (t u : Members) (h : Tells s t ms) (
   update-by : (each : Bool) → (sum (ascii "a") ≤ 1 → sum (ascii "b") ≤ 1 → each ≡ eachHasOne s (ms ∷ (ns ∷ []))) → updateBy each t u ≡ isUpdate s (ms ∷ (ns ∷ []))
   unfolding updateBy isUpdate lastOf
   update-by each f =
-      rw (joined, snapshot-asks-count s u (ms ++ ns) g, snapshot-bids-count s u (ms ++ ns) g, asks-count s u (ms ++ ns) g, bids-count s u (ms ++ ns) g,
-      checksum-count s u (ms ++ ns) g, checksum-count s t ms h)
+      rw (
+        joined,
+        snapshot-asks-count s u (ms ++ ns) g,
+        snapshot-bids-count s u (ms ++ ns) g,
+        asks-count s u (ms ++ ns) g,
+        bids-count s u (ms ++ ns) g,
+        checksum-count s u (ms ++ ns) g,
+        checksum-count s t ms h,
+      )
       (and-on _ _ _ _ (few-most (sum (ascii "a"))) (λ a.
       and-on _ _ _ _ (few-most (sum (ascii "b"))) (λ b.
       and-on _ _ _ _ (f (leb-true _ 1 a) (leb-true _ 1 b)) (λ e.

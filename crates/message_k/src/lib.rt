@@ -202,6 +202,7 @@ fn k_part(s: &[u8], parts: Parts, at: usize) -> Parts
     next
 }
 
+// One more element, from `from` to `to`.
 fn pass(parts: Parts, from: usize, to: usize) -> Parts
     ensures { λ r. ⌜ r ≡ passed parts from to ⌝ }
 {
@@ -251,6 +252,7 @@ fn ended(parts: Parts, end: usize) -> Parts
     next
 }
 
+// Whether the value from `from` to `to` is a whole number.
 fn is_whole(s: &[u8], from: usize, to: usize) -> bool
     requires { ⌜ value 15 (now s) from ≡ At to ⌝ }
     ensures { λ r. ⌜ r ≡ isRead (wholeAt (now (s .entry)) (record { from = from; to = to })) ⌝ }
@@ -345,7 +347,7 @@ fn with_entries(slot: Slot, at: usize, entries: Entries) -> Slot
     slotted(slot, listing_at(at, entries))
 }
 
-// One more member `c`, whose value begins at `from`.
+// What was told of the members, and one more `c`, whose value begins at `from`.
 fn with_checksum(s: &[u8], members: Members, from: usize) -> Members
     ensures { λ r. ⌜ SumRead (now (s .entry)) members from r ⌝ }
 {
@@ -359,6 +361,7 @@ fn with_checksum(s: &[u8], members: Members, from: usize) -> Members
     next
 }
 
+// One more member `c`, whose value lies from `from` to `to`.
 fn summed(s: &[u8], sum: Sum, from: usize, to: usize) -> Sum
     requires { ⌜ value 14 (now s) from ≡ At to ⌝ }
     ensures { λ r. ⌜ r ≡ moreSummed (now (s .entry)) sum (record { from = from; to = to }) ⌝ }
@@ -432,12 +435,13 @@ fn one_object(whole: bool, one: Members) -> Outline
     no_outline()
 }
 
-// The layout of a message of two objects.
+// The layout of a message of two objects; `two` is told of both.
 fn two_objects(whole: bool, one: Members, two: Members) -> Outline
     ensures { λ r. ⌜ r ≡ twoObjects whole one two ⌝ }
 {
     if both(whole, both(one.is_object, two.is_object)) {
-        let each = both(has_more(no_members(0), one), has_more(one, two));
+        let none = no_members(0);
+        let each = both(has_more(none, one), has_more(one, two));
         return k_outline(false, is_update(each, one, two), two);
     }
     no_outline()
@@ -449,7 +453,8 @@ fn both(a: bool, b: bool) -> bool
     if a { b } else { false }
 }
 
-// Whether an object has `a` or `b`, where `before` is told before it and `after` with it.
+// Whether an object has `a` or `b`, where `before` is told before it and `after` with it. Counts stop at two, so this says
+// something only where each name is met once at the most.
 fn has_more(before: Members, after: Members) -> bool
     ensures { λ r. ⌜ r ≡ hasMore before after ⌝ }
 {
@@ -462,6 +467,7 @@ fn has_more(before: Members, after: Members) -> bool
     }
 }
 
+// Whether the one object is a snapshot's.
 fn is_snapshot(one: Members) -> bool
     ensures { λ r. ⌜ r ≡ snapshotBy one ⌝ }
 {
@@ -513,6 +519,7 @@ fn is_update(each: bool, before: Members, all: Members) -> bool
     }
 }
 
+// The layout of a message whose objects are a snapshot's, an update's or neither.
 fn k_outline(snapshot: bool, update: bool, all: Members) -> Outline
     ensures { λ r. ⌜ r ≡ outlineBy snapshot update all ⌝ }
 {
@@ -553,15 +560,13 @@ fn framed(s: &[u8], parts: Parts, depth: usize, name: &[u8], outline: Outline) -
     } else {
         is_escaped(s, pair_from, pair_to)
     };
-    let ours = both(
-        is_channel(s, channel_from, channel_to, depth),
-        is_name(s, pair_from, pair_to, name),
-    );
+    let channel = is_channel(s, channel_from, channel_to, depth);
+    let pair = is_name(s, pair_from, pair_to, name);
     Told {
         end: parts.end,
         framed: true,
         escaped,
-        ours,
+        ours: both(channel, pair),
         outline,
     }
 }

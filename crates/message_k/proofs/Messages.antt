@@ -1,8 +1,8 @@
 -- What is told of the elements is what the message is.
 -- Assumes nothing.
 use mathlib.Core.Path.{_≡_, refl, sym, ap, _∙_}
-use mathlib.Core.List.{List, [], _∷_, _++_}
-use mathlib.Core.Bool.{Bool, true, false, _&&_, cond}
+use mathlib.Core.List.{List, [], _∷_}
+use mathlib.Core.Bool.{true, false, cond}
 use Prim.Native.Nat.{ℕ, _+_}
 use native.Mathlib.Omega.{arith}
 use lib.Dec.{eqb}
@@ -14,14 +14,12 @@ use Rattle.json.specs.Json.{Span, Pair, Items, items, noItems, itemsEnd, elemen
 use Rattle.json.proofs.Laws.{value-array}
 use Rattle.entries.specs.Places.{andThen, all, contents, arrayAt, objectAt, wholeAt}
 use Rattle.layout.specs.Layout.{Heard}
-use Rattle.layout.specs.Told.{noOutline, outlineOf, noFrame, toldOf, toldAt}
+use Rattle.layout.specs.Told.{outlineOf, noFrame, toldOf, toldAt}
 use Rattle.layout.specs.Fold.{foldFrom, foldedIn}
-use Rattle.layout.specs.declared.Outline.{Outline}
 use Rattle.layout.specs.declared.Told.{Told}
 use Rattle.message_k.specs.LayoutK.{Frame, frameOf, escapedK, oursK, objectsLayout, layoutK, heardK}
-use Rattle.message_k.specs.MembersK.{isRead, withMember, noMembers, closedAt, membersOf, hasMore}
+use Rattle.message_k.specs.MembersK.{isRead, withMember, noMembers, closedAt, membersOf}
 use Rattle.message_k.specs.PartsK.{upToSix, noParts, withPart, endedAt, partsIn, escapedAt, oursBy, framedAs, oneObject, twoObjects}
-use Rattle.message_k.specs.declared.Members.{Members}
 use Rattle.message_k.specs.declared.Parts.{Parts}
 use Rattle.message_k.proofs.Tells.{Tells, tells-none, tells-on}
 use Rattle.message_k.proofs.Outlines.{one-is, one-no-object, one-no-whole, two-is, two-not}

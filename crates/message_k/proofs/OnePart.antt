@@ -1,6 +1,6 @@
 -- One more element, by its place.
 -- Assumes nothing.
-use mathlib.Core.Path.{_≡_, refl, sym, ap, _∙_}
+use mathlib.Core.Path.{_≡_, sym, ap, _∙_}
 use mathlib.Core.List.{List}
 use mathlib.Core.Bool.{Bool, true, false, cond}
 use Prim.Native.Nat.{ℕ}
@@ -9,7 +9,7 @@ use lib.Dec.{eqb}
 use borrow.Author.Tests.{ne-eqb}
 use Rattle.json_tokens.specs.Tokens.{At, endOf}
 use Rattle.json_tokens.proofs.Bounds.{end-broken}
-use Rattle.json.specs.Json.{Span, value}
+use Rattle.json.specs.Json.{value}
 use Rattle.json.proofs.Bounds.{value-in}
 use Rattle.entries.specs.Places.{objectAt, wholeAt}
 use Rattle.entries.proofs.Stops.{broken-at}

@@ -5,7 +5,7 @@ use mathlib.Core.Bool.{Bool, true, false, _&&_, _||_, cond}
 use mathlib.Core.List.{List, _++_}
 use lib.Dec.{leb, eqb}
 use Rattle.decimal.specs.Ascii.{ascii}
-use Rattle.decimal.specs.Digits.{Reading, written}
+use Rattle.decimal.specs.Digits.{written}
 use Rattle.json_tokens.specs.Tokens.{At, endOf}
 use Rattle.json.specs.Json.{Span, Items, value}
 use Rattle.json.specs.Names.{means, hasBackslash}

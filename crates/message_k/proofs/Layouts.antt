@@ -2,8 +2,8 @@
 -- Assumes nothing.
 use mathlib.Core.Path.{_≡_, refl, sym, ap, _∙_}
 use mathlib.Core.List.{List, [], _∷_, _++_, append-nil}
-use mathlib.Core.Bool.{Bool, true, false, true≢false, _&&_, _||_, cond, and-eq-true-iff}
-use Prim.Native.Nat.{ℕ, suc, _+_, _≤_}
+use mathlib.Core.Bool.{Bool, true, false, _&&_, _||_, cond, and-eq-true-iff}
+use Prim.Native.Nat.{ℕ, _+_, _≤_}
 use native.Mathlib.Omega.{arith}
 use lib.Dec.{leb, ltb, eqb}
 use lib.ListN.{length, length-append}
@@ -12,18 +12,15 @@ use Rattle.decimal.specs.Ascii.{ascii}
 use Rattle.decimal.specs.Digits.{Reading, reads, refused}
 use Rattle.json.specs.Json.{Span, Pair}
 use Rattle.entries.specs.Places.{andThen, valuesOf, only, quotedChecksumAt}
-use Rattle.entries.specs.Rows.{entryK}
 use Rattle.entries.specs.Summary.{anyBroken, anyZero}
-use Rattle.layout.specs.Layout.{printed, unprinted, listedAt, laid}
+use Rattle.layout.specs.Layout.{printed, unprinted, laid}
 use Rattle.layout.specs.Told.{listingOf, isPrinted, sumOf, noOutline, outlineOf, outlineFrom}
 use Rattle.layout.specs.Fold.{foldFrom}
 use Rattle.layout.specs.Marks.{few, fewMore, moreListed, slotsOf}
-use Rattle.layout.specs.declared.Outline.{Outline}
 use Rattle.layout.specs.declared.Slot.{Slot}
 use Rattle.layout.proofs.Laws.{outline-of}
 use Rattle.message_k.specs.LayoutK.{times, together, isSnapshot, eachHasOne, lastOf, isUpdate, listedOf, listedIn, objectsLayout}
 use Rattle.message_k.specs.MembersK.{isRead, orZero, listingK, moreSummed, noMembers, hasMore, snapshotBy, updateBy, sideOf, outlineBy}
-use Rattle.message_k.specs.declared.Sum.{Sum}
 use Rattle.message_k.specs.declared.Members.{Members}
 use Rattle.message_k.proofs.Counts.{few-zero, few-one, few-most, few-some, few-rises, some-or, none-and, once-last, and-on}
 use Rattle.message_k.proofs.Tells.{sumsOf, Tells, values-append, snapshot-asks-count, snapshot-bids-count, asks-count, bids-count, checksum-count}

@@ -1,8 +1,8 @@
 -- What is told of the elements is what the message is.
 -- Assumes nothing.
 use mathlib.Core.Path.{_≡_, refl, sym, ap, _∙_}
-use mathlib.Core.List.{List, [], _∷_, _++_}
-use mathlib.Core.Bool.{Bool, true, false, _&&_, cond}
+use mathlib.Core.List.{List, [], _∷_}
+use mathlib.Core.Bool.{true, false, cond}
 use Prim.Native.Nat.{ℕ, _+_}
 use native.Mathlib.Omega.{arith}
 use lib.Dec.{eqb}
@@ -14,14 +14,12 @@ use Rattle.json.specs.Json.{Span, Pair, Items, items, noItems, itemsEnd, elemen
 use Rattle.json.proofs.Laws.{value-array}
 use Rattle.entries.specs.Places.{andThen, all, contents, arrayAt, objectAt, wholeAt}
 use Rattle.layout.specs.Layout.{Heard}
-use Rattle.layout.specs.Told.{noOutline, outlineOf, noFrame, toldOf, toldAt}
+use Rattle.layout.specs.Told.{outlineOf, noFrame, toldOf, toldAt}
 use Rattle.layout.specs.Fold.{foldFrom, foldedIn}
-use Rattle.layout.specs.declared.Outline.{Outline}
 use Rattle.layout.specs.declared.Told.{Told}
 use Rattle.message_k.specs.LayoutK.{Frame, frameOf, escapedK, oursK, objectsLayout, layoutK, heardK}
-use Rattle.message_k.specs.MembersK.{isRead, withMember, noMembers, closedAt, membersOf, hasMore}
-use Rattle.message_k.specs.PartsK.{upToSix, noParts, withPart, endedAt, partsIn, escapedAt, oursBy, framedAs, oneObject, twoObjects}
-use Rattle.message_k.specs.declared.Members.{Members}
+use Rattle.message_k.specs.MembersK.{isRead, withMember, noMembers, closedAt, membersOf}
+use Rattle.message_k.specs.PartsK.{upToSix, noParts, withOuter, withPart, endedAt, partsIn, escapedAt, oursBy, framedAs, oneObject, twoObjects}
 use Rattle.message_k.specs.declared.Parts.{Parts}
 use Rattle.message_k.proofs.Tells.{Tells, tells-none, tells-on}
 use Rattle.message_k.proofs.Outlines.{one-is, one-no-object, one-no-whole, two-is, two-not}
@@ -63,37 +61,37 @@ module _ (depth : ℕ) (name s : List ℕ) where
   -- what the code makes of them
   pub toldBy : Parts → Told
   toldBy p =
-      cond (eqb (p .count) 4) (framedAs depth name s p (oneObject (p .whole) (p .one)))
-      (cond (eqb (p .count) 5) (framedAs depth name s p (twoObjects (p .whole) (p .one) (p .two)))
+      cond (eqb (p .outer .count) 4) (framedAs depth name s (p .end) (p .outer) (oneObject (p .outer .whole) (p .one)))
+      (cond (eqb (p .outer .count) 5) (framedAs depth name s (p .end) (p .outer) (twoObjects (p .outer .whole) (p .one) (p .two)))
       (noFrame (p .end)))
 
   module _ (p : Parts) where
-    pub told-four : p .count ≡ 4 → framedAs depth name s p (oneObject (p .whole) (p .one)) ≡ toldBy p
+    pub told-four : p .outer .count ≡ 4 → framedAs depth name s (p .end) (p .outer) (oneObject (p .outer .whole) (p .one)) ≡ toldBy p
     unfolding toldBy
-    told-four h = sym (rw (eq-eqb (p .count) 4 h, toldBy))
+    told-four h = sym (rw (eq-eqb (p .outer .count) 4 h, toldBy))
 
-    pub told-five : p .count ≡ 5 → framedAs depth name s p (twoObjects (p .whole) (p .one) (p .two)) ≡ toldBy p
+    pub told-five : p .outer .count ≡ 5 → framedAs depth name s (p .end) (p .outer) (twoObjects (p .outer .whole) (p .one) (p .two)) ≡ toldBy p
     unfolding toldBy
-    told-five h = let n : (p .count ≡ 4 → ⊥) = λ z. omega arith in sym (rw (ne-eqb (p .count) 4 n, eq-eqb (p .count) 5 h, toldBy))
+    told-five h = let n : (p .outer .count ≡ 4 → ⊥) = λ z. omega arith in sym (rw (ne-eqb (p .outer .count) 4 n, eq-eqb (p .outer .count) 5 h, toldBy))
 
-    pub told-other : (p .count ≡ 4 → ⊥) → (p .count ≡ 5 → ⊥) → noFrame (p .end) ≡ toldBy p
+    pub told-other : (p .outer .count ≡ 4 → ⊥) → (p .outer .count ≡ 5 → ⊥) → noFrame (p .end) ≡ toldBy p
     unfolding toldBy
-    told-other n m = sym (rw (ne-eqb (p .count) 4 n, ne-eqb (p .count) 5 m, toldBy))
+    told-other n m = sym (rw (ne-eqb (p .outer .count) 4 n, ne-eqb (p .outer .count) 5 m, toldBy))
 
   -- six stay six
-  six : (p : Parts) → p .count ≡ 6 → (l : List Span) → foldFrom (withPart s) p l .count ≡ 6
-  unfolding foldFrom withPart upToSix
+  six : (p : Parts) → p .outer .count ≡ 6 → (l : List Span) → foldFrom (withPart s) p l .outer .count ≡ 6
+  unfolding foldFrom withPart withOuter upToSix
   six p h [] = h
   six p h (a ∷ l) = six (withPart s p a) (ap upToSix h) l
 
-  six-told : (p : Parts) → p .count ≡ 6 → (l : List Span) (e : ℕ) → toldBy (endedAt e (foldFrom (withPart s) p l)) ≡ noFrame e
+  six-told : (p : Parts) → p .outer .count ≡ 6 → (l : List Span) (e : ℕ) → toldBy (endedAt e (foldFrom (withPart s) p l)) ≡ noFrame e
   six-told p h l e = let n = six p h l in sym (told-other (endedAt e (foldFrom (withPart s) p l)) (λ z. omega arith) (λ z. omega arith))
 
   abbrev hear : Frame → Reading Heard
   hear f = reads (record { escaped = escapedK s f; ours = oursK depth name s f; layout = layoutK s f })
 
-  told-list : (l : List Span) (e : ℕ) → toldBy (endedAt e (foldFrom (withPart s) noParts l)) ≡ toldOf s e (andThen (frameOf l) hear)
-  unfolding toldBy foldFrom withPart upToSix frameOf andThen toldOf escapedK escapedAt oursK oursBy layoutK all
+  told-list : (l : List Span) (e : ℕ) → toldBy (endedAt e (foldFrom (withPart s) (noParts 0) l)) ≡ toldOf s e (andThen (frameOf l) hear)
+  unfolding toldBy foldFrom withPart withOuter upToSix frameOf andThen toldOf escapedK escapedAt oursK oursBy layoutK all
   told-list [] e = refl
   told-list (n ∷ []) e = refl
   told-list (n ∷ (o ∷ [])) e = refl
@@ -101,7 +99,7 @@ module _ (depth : ℕ) (name s : List ℕ) where
   told-list (n ∷ (o ∷ (c ∷ (p ∷ [])))) e = rw (one-laid s (wholeAt s n) (o .to) (objectAt 15 s o))
   told-list (n ∷ (o ∷ (q ∷ (c ∷ (p ∷ []))))) e = rw (two-laid s (wholeAt s n) (o .to) (q .to) (objectAt 15 s o) (objectAt 15 s q))
   told-list (n ∷ (o ∷ (q ∷ (c ∷ (p ∷ (x ∷ l)))))) e =
-      six-told (withPart s (withPart s (withPart s (withPart s (withPart s (withPart s noParts n) o) q) c) p) x) refl l e
+      six-told (withPart s (withPart s (withPart s (withPart s (withPart s (withPart s (noParts 0) n) o) q) c) p) x) refl l e
 
   module _ (at : ℕ) where
     pub told-none : (byteAt s at ≡ 91 → ⊥) → noFrame (endOf (value 16 s at)) ≡ toldAt (heardK depth name) s at

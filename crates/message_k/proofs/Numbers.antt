@@ -1,22 +1,22 @@
 -- The numbers of a message: the checksum that a member `c` holds, and the whole number in front.
 -- Assumes nothing.
-use mathlib.Core.Path.{_≡_, refl, sym, ap, _∙_}
+use mathlib.Core.Path.{_≡_, sym, ap, _∙_}
 use mathlib.Core.List.{List}
-use mathlib.Core.Bool.{true, false}
+use mathlib.Core.Bool.{false}
 use Prim.Native.Nat.{ℕ, _+_, _-_, _≤_, _<_}
 use native.Mathlib.Omega.{arith}
 use lib.ListN.{length, take, drop}
 use borrow.Author.Tests.{eq-eqb, ne-eqb}
-use Rattle.decimal.specs.Digits.{Reading, reads, refused}
+use Rattle.decimal.specs.Digits.{Reading}
 use Rattle.decimal.specs.Whole.{readWhole, readChecksum}
 use Rattle.json_tokens.specs.Bytes.{byteAt}
 use Rattle.json_tokens.specs.Tokens.{At, endOf}
 use Rattle.json_tokens.proofs.Bounds.{bounds, end-broken}
-use Rattle.json.specs.Json.{Span, value}
+use Rattle.json.specs.Json.{value}
 use Rattle.json.specs.Names.{part}
 use Rattle.json.proofs.Laws.{value-string}
 use Rattle.json.proofs.Bounds.{value-in}
-use Rattle.entries.specs.Places.{isString, inner, wholeAt, quotedChecksumAt}
+use Rattle.entries.specs.Places.{isString, wholeAt, quotedChecksumAt}
 use Rattle.entries.proofs.Stops.{broken-at}
 use Rattle.entries.proofs.Strings.{string-two}
 use Rattle.entries.proofs.Counting.{inner-part}

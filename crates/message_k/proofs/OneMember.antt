@@ -10,8 +10,8 @@ use Rattle.decimal.specs.Ascii.{ascii}
 use Rattle.json_tokens.specs.Tokens.{At, endOf}
 use Rattle.json.specs.Json.{Span, Pair, value}
 use Rattle.json.specs.Names.{means}
-use Rattle.entries.specs.Rows.{entryK, entriesAt}
-use Rattle.entries.specs.Summary.{summaryOf, summaryAt}
+use Rattle.entries.specs.Rows.{entryK}
+use Rattle.entries.specs.Summary.{summaryAt}
 use Rattle.entries.specs.declared.Entries.{Entries}
 use Rattle.entries.proofs.Summary.{summary-end, summary-is}
 use Rattle.layout.specs.Told.{listingFrom}
@@ -20,7 +20,6 @@ use Rattle.layout.specs.declared.Slot.{Slot}
 use Rattle.layout.proofs.Laws.{listing-of}
 use Rattle.layout.proofs.Marks.{one-name}
 use Rattle.message_k.specs.MembersK.{listingK, slotWith, moreSummed, sumWith, withMember, withSum, SumRead, MemberRead, closedAt}
-use Rattle.message_k.specs.declared.Sum.{Sum}
 use Rattle.message_k.specs.declared.Members.{Members}
 
 -- names differ if these numbers do

@@ -1,11 +1,9 @@
 -- The definitions of check 6, by what the tests say.
 -- Assumes nothing.
-use mathlib.Core.Path.{_≡_, refl, sym, ap, _∙_}
+use mathlib.Core.Path.{_≡_, sym}
 use mathlib.Core.Bool.{Bool, true, false, _&&_, _||_}
-use Prim.Native.Nat.{ℕ}
 use Rattle.layout.specs.Told.{outlineFrom, noOutline}
 use Rattle.layout.specs.declared.Listing.{Listing}
-use Rattle.layout.specs.declared.Outline.{Outline}
 use Rattle.message_k.specs.MembersK.{noMembers, hasMore, snapshotBy, updateBy, sideOf, outlineBy}
 use Rattle.message_k.specs.PartsK.{oneObject, twoObjects}
 use Rattle.message_k.specs.declared.Members.{Members}

@@ -4,13 +4,12 @@ use mathlib.Core.Path.{_≡_, refl, sym, ap, _∙_}
 use mathlib.Core.List.{List, [], _∷_, _++_}
 use mathlib.Core.Bool.{Bool, true, false, cond}
 use Prim.Native.Nat.{ℕ}
-use lib.ListN.{length}
 use Rattle.decimal.specs.Ascii.{ascii}
 use Rattle.json.specs.Json.{Span, Pair}
 use Rattle.json.specs.Names.{means}
 use Rattle.entries.specs.Places.{valuesOf}
 use Rattle.layout.specs.Fold.{foldFrom}
-use Rattle.layout.specs.Marks.{few, more, marksOf, emptySlot, moreListed, slotsOf}
+use Rattle.layout.specs.Marks.{few, more, emptySlot, moreListed, slotsOf}
 use Rattle.layout.specs.declared.Slot.{Slot}
 use Rattle.layout.specs.declared.Mark.{Mark}
 use Rattle.layout.proofs.Marks.{mark-times, slot-times, values-fold}

@@ -1,13 +1,11 @@
 -- What is told of the elements of a message of dialect K. Assumes nothing: these are definitions.
 use Prim.Native.Nat.{ℕ, _+_}
-use mathlib.Core.Path.{_≡_}
 use mathlib.Core.Bool.{Bool, true, false, _&&_, _||_, cond}
 use mathlib.Core.List.{List, _++_}
 use lib.Dec.{leb, eqb}
 use Rattle.decimal.specs.Ascii.{ascii}
-use Rattle.decimal.specs.Digits.{Reading, written}
-use Rattle.json_tokens.specs.Tokens.{At, endOf}
-use Rattle.json.specs.Json.{Span, Items, value}
+use Rattle.decimal.specs.Digits.{written}
+use Rattle.json.specs.Json.{Span, Items}
 use Rattle.json.specs.Names.{means, hasBackslash}
 use Rattle.entries.specs.Places.{isString, objectAt, wholeAt}
 use Rattle.layout.specs.Told.{noOutline}
@@ -16,76 +14,47 @@ use Rattle.layout.specs.declared.Outline.{Outline}
 use Rattle.layout.specs.declared.Told.{Told}
 use Rattle.message_k.specs.MembersK.{isRead, noMembers, membersOf, hasMore, snapshotBy, updateBy, outlineBy}
 use Rattle.message_k.specs.declared.Members.{Members}
+use Rattle.message_k.specs.declared.Outer.{Outer}
 use Rattle.message_k.specs.declared.Parts.{Parts}
 
 -- One more element, told up to six.
 unfoldable pub upToSix : ℕ → ℕ
 upToSix n = cond (leb 6 n) 6 (n + 1)
 
-abbrev pub noParts : Parts
-noParts =
-    record {
-      end = 0;
-      count = 0;
-      whole = false;
-      one = noMembers 0;
-      two = noMembers 0;
-      «channel_from» = 0;
-      «channel_to» = 0;
-      «pair_from» = 0;
-      «pair_to» = 0;
-    }
+abbrev pub noOuter : Outer
+noOuter = record { count = 0; «channel_from» = 0; «channel_to» = 0; «pair_from» = 0; «pair_to» = 0; whole = false }
 
--- One more element, which lies from `from` to `to`; the last two are the channel and the pair.
-abbrev pub passed : Parts → ℕ → ℕ → Parts
-passed t from to =
+-- One more element; the last two are the channel and the pair.
+unfoldable pub withOuter : List ℕ → Outer → Span → Outer
+withOuter s t a =
     record {
-      end = to;
       count = upToSix (t .count);
-      whole = t .whole;
-      one = t .one;
-      two = t .two;
-      «channel_from» = t .«pair_from»;
-      «channel_to» = t .«pair_to»;
-      «pair_from» = from;
-      «pair_to» = to;
-    }
-
-unfoldable pub withPart : List ℕ → Parts → Span → Parts
-withPart s t a =
-    record {
-      end = a .to;
-      count = upToSix (t .count);
-      whole = cond (eqb (t .count) 0) (isRead (wholeAt s a)) (t .whole);
-      one = cond (eqb (t .count) 1) (membersOf s (noMembers 0) (a .to) (objectAt 15 s a)) (t .one);
-      two = cond (eqb (t .count) 2) (membersOf s (t .one) (a .to) (objectAt 15 s a)) (t .two);
       «channel_from» = t .«pair_from»;
       «channel_to» = t .«pair_to»;
       «pair_from» = a .from;
       «pair_to» = a .to;
+      whole = cond (eqb (t .count) 0) (isRead (wholeAt s a)) (t .whole);
     }
 
--- r tells of the element at a position, with t told before.
-pub record PartRead (s : List ℕ) (t : Parts) (at : ℕ) (r : Parts) : Type 0 where
-  pub ends : r .end ≡ endOf (value 15 s at)
-  pub told : (e : ℕ) → value 15 s at ≡ At e → r ≡ withPart s t (record { from = at; to = e })
+-- An array of no elements that ends at e.
+abbrev pub noParts : ℕ → Parts
+noParts e = record { end = e; outer = noOuter; one = noMembers 0; two = noMembers 0 }
+
+-- One more element, of an array whose end is not told yet.
+unfoldable pub withPart : List ℕ → Parts → Span → Parts
+withPart s t a =
+    record {
+      end = 0;
+      outer = withOuter s (t .outer) a;
+      one = cond (eqb (t .outer .count) 1) (membersOf s (noMembers 0) (a .to) (objectAt 15 s a)) (t .one);
+      two = cond (eqb (t .outer .count) 2) (membersOf s (t .one) (a .to) (objectAt 15 s a)) (t .two);
+    }
 
 abbrev pub endedAt : ℕ → Parts → Parts
-endedAt e t =
-    record {
-      end = e;
-      count = t .count;
-      whole = t .whole;
-      one = t .one;
-      two = t .two;
-      «channel_from» = t .«channel_from»;
-      «channel_to» = t .«channel_to»;
-      «pair_from» = t .«pair_from»;
-      «pair_to» = t .«pair_to»;
-    }
+endedAt e t = record { end = e; outer = t .outer; one = t .one; two = t .two }
 
 unfoldable pub partsIn : List ℕ → Items Span → Parts
-partsIn s x = foldedIn (withPart s) endedAt noParts noParts x
+partsIn s x = foldedIn (withPart s) endedAt (noParts 0) (noParts 0) x
 
 -- ---- checks 4 and 5, of the last two elements
 
@@ -95,10 +64,10 @@ escapedAt s a = isString s a && hasBackslash s a
 unfoldable pub oursBy : ℕ → List ℕ → List ℕ → Span → Span → Bool
 oursBy depth name s channel pair = means s channel (ascii "book-" ++ written depth) && means s pair name
 
-abbrev pub framedAs : ℕ → List ℕ → List ℕ → Parts → Outline → Told
-framedAs depth name s t outline =
+abbrev pub framedAs : ℕ → List ℕ → List ℕ → ℕ → Outer → Outline → Told
+framedAs depth name s end t outline =
     record {
-      end = t .end;
+      end = end;
       framed = true;
       escaped = escapedAt s (record { from = t .«channel_from»; to = t .«channel_to» }) || escapedAt s (record { from = t .«pair_from»; to = t .«pair_to» });
       ours =

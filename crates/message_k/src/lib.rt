@@ -54,7 +54,7 @@ ghost use Rattle.layout.specs.Marks.{fewMore};
 ghost use Rattle.layout.specs.Told.{listingFrom, toldAt};
 ghost use Rattle.message_k.specs.LayoutK.{heardK};
 ghost use Rattle.message_k.specs.MembersK.{isRead, moreSummed, MemberRead, SumRead, noMembers, closedAt, membersAt, hasMore, snapshotBy, updateBy, sideOf, outlineBy};
-ghost use Rattle.message_k.specs.PartsK.{upToSix, noParts, passed, PartRead, endedAt, partsIn, escapedAt, framedAs, oneObject, twoObjects};
+ghost use Rattle.message_k.specs.PartsK.{upToSix, noOuter, withOuter, noParts, partsIn, escapedAt, framedAs, oneObject, twoObjects};
 
 // How deep arrays and objects may nest in an element of the message, and in a member of an object.
 const ELEMENT_DEPTH: usize = 15;
@@ -103,22 +103,27 @@ struct Members {
     checksum: Sum,
 }
 
-// What is told of the elements of the message.
-struct Parts {
-    // Past the last of them, and in the end past the array; 0 where it is not JSON.
-    end: usize,
+// What is told of the elements of the message but for the objects.
+struct Outer {
     // How many there are, up to six.
     count: usize,
-    // Whether the first is a whole number.
-    whole: bool,
-    // The second, and the second and the third together.
-    one: Members,
-    two: Members,
     // The last two.
     channel_from: usize,
     channel_to: usize,
     pair_from: usize,
     pair_to: usize,
+    // Whether the first is a whole number.
+    whole: bool,
+}
+
+// What is told of the elements of the message.
+struct Parts {
+    // Past the array, or 0 where it is not JSON.
+    end: usize,
+    outer: Outer,
+    // The second element, and the second and the third together.
+    one: Members,
+    two: Members,
 }
 
 // The message at `at`, to a K book of that depth and name.
@@ -130,94 +135,94 @@ pub fn k_message(s: &[u8], at: usize, depth: usize, name: &[u8]) -> Told
         return untold(value_end(s, at, MAX_DEPTH));
     }
     let parts = k_parts(s, at + 1);
-    let count = parts.count;
+    let outer = parts.outer;
+    let count = outer.count;
     if count == 4 {
         let one = parts.one;
-        return framed(s, parts, depth, name, one_object(parts.whole, one));
+        return framed(
+            s,
+            parts.end,
+            outer,
+            depth,
+            name,
+            one_object(outer.whole, one),
+        );
     }
     if count == 5 {
         let one = parts.one;
         let two = parts.two;
-        return framed(s, parts, depth, name, two_objects(parts.whole, one, two));
+        return framed(
+            s,
+            parts.end,
+            outer,
+            depth,
+            name,
+            two_objects(outer.whole, one, two),
+        );
     }
     untold(parts.end)
 }
 
-// The elements of the array whose bracket ends at `at`.
+// The elements of the array whose bracket ends at `at`. The second and the third may be objects.
 fn k_parts(s: &[u8], at: usize) -> Parts
     ensures { λ r. ⌜ r ≡ partsIn (now (s .entry)) (elements (value 15 (now (s .entry))) (now (s .entry)) at) ⌝ }
 {
     let none = array_close_end(s, at);
     if 0 < none {
-        return ended(no_parts(), none);
+        return no_parts(none);
     }
     let mut i = skip_blanks(s, at);
-    let mut parts = no_parts();
+    let mut outer = no_outer();
+    let mut one = no_members(0);
+    let mut two = no_members(0);
     loop {
-        let more = k_part(s, parts, i);
-        let past = more.end;
+        let count = outer.count;
+        let past = if count == 1 {
+            one = k_object(s, no_members(0), i);
+            one.end
+        } else if count == 2 {
+            two = k_object(s, one, i);
+            two.end
+        } else {
+            value_end(s, i, ELEMENT_DEPTH)
+        };
         if past == 0 {
-            return no_parts();
+            return no_parts(0);
         }
+        outer = pass(s, outer, i, past);
         let j = comma_end(s, past);
         if j == 0 {
             let end = array_close_end(s, past);
             if end == 0 {
-                return no_parts();
+                return no_parts(0);
             }
-            return ended(more, end);
+            return Parts {
+                end,
+                outer,
+                one,
+                two,
+            };
         }
-        parts = more;
         i = j;
     }
 }
 
-// What was told of the elements, and the one at `at`. The second and the third may be objects.
-fn k_part(s: &[u8], parts: Parts, at: usize) -> Parts
-    ensures { λ r. ⌜ PartRead (now (s .entry)) parts at r ⌝ }
+// One more element, from `from` to `to`.
+fn pass(s: &[u8], outer: Outer, from: usize, to: usize) -> Outer
+    requires { ⌜ value 15 (now s) from ≡ At to ⌝ }
+    ensures { λ r. ⌜ r ≡ withOuter (now (s .entry)) outer (record { from = from; to = to }) ⌝ }
 {
-    let count = parts.count;
-    if count == 1 {
-        let object = k_object(s, no_members(0), at);
-        let mut next = pass(parts, at, object.end);
-        next.one = object;
-        return next;
-    }
-    if count == 2 {
-        let one = parts.one;
-        let object = k_object(s, one, at);
-        let mut next = pass(parts, at, object.end);
-        next.two = object;
-        return next;
-    }
-    let end = value_end(s, at, ELEMENT_DEPTH);
-    let mut next = pass(parts, at, end);
-    if end == 0 {
-        return next;
-    }
-    if count == 0 {
-        next.whole = is_whole(s, at, end);
+    let mut next = outer;
+    next.count = up_to_six(outer.count);
+    next.channel_from = outer.pair_from;
+    next.channel_to = outer.pair_to;
+    next.pair_from = from;
+    next.pair_to = to;
+    if outer.count == 0 {
+        next.whole = is_whole(s, from, to);
         return next;
     }
     next
-}
-
-fn pass(parts: Parts, from: usize, to: usize) -> Parts
-    ensures { λ r. ⌜ r ≡ passed parts from to ⌝ }
-{
-    let one = parts.one;
-    let two = parts.two;
-    Parts {
-        end: to,
-        count: up_to_six(parts.count),
-        whole: parts.whole,
-        one,
-        two,
-        channel_from: parts.pair_from,
-        channel_to: parts.pair_to,
-        pair_from: from,
-        pair_to: to,
-    }
 }
 
 fn up_to_six(n: usize) -> usize
@@ -226,31 +231,32 @@ fn up_to_six(n: usize) -> usize
     if 6 <= n { 6 } else { n + 1 }
 }
 
-fn no_parts() -> Parts
-    ensures { λ r. ⌜ r ≡ noParts ⌝ }
+fn no_outer() -> Outer
+    ensures { λ r. ⌜ r ≡ noOuter ⌝ }
 {
-    Parts {
-        end: 0,
+    Outer {
         count: 0,
-        whole: false,
-        one: no_members(0),
-        two: no_members(0),
         channel_from: 0,
         channel_to: 0,
         pair_from: 0,
         pair_to: 0,
+        whole: false,
     }
 }
 
-// The elements of an array that ends at `end`.
-fn ended(parts: Parts, end: usize) -> Parts
-    ensures { λ r. ⌜ r ≡ endedAt end parts ⌝ }
+// An array of no elements that ends at `end`.
+fn no_parts(end: usize) -> Parts
+    ensures { λ r. ⌜ r ≡ noParts end ⌝ }
 {
-    let mut next = parts;
-    next.end = end;
-    next
+    Parts {
+        end,
+        outer: no_outer(),
+        one: no_members(0),
+        two: no_members(0),
+    }
 }
 
+// Whether the value from `from` to `to` is a whole number.
 fn is_whole(s: &[u8], from: usize, to: usize) -> bool
     requires { ⌜ value 15 (now s) from ≡ At to ⌝ }
     ensures { λ r. ⌜ r ≡ isRead (wholeAt (now (s .entry)) (record { from = from; to = to })) ⌝ }
@@ -345,7 +351,7 @@ fn with_entries(slot: Slot, at: usize, entries: Entries) -> Slot
     slotted(slot, listing_at(at, entries))
 }
 
-// One more member `c`, whose value begins at `from`.
+// What was told of the members, and one more `c`, whose value begins at `from`.
 fn with_checksum(s: &[u8], members: Members, from: usize) -> Members
     ensures { λ r. ⌜ SumRead (now (s .entry)) members from r ⌝ }
 {
@@ -359,6 +365,7 @@ fn with_checksum(s: &[u8], members: Members, from: usize) -> Members
     next
 }
 
+// One more member `c`, whose value lies from `from` to `to`.
 fn summed(s: &[u8], sum: Sum, from: usize, to: usize) -> Sum
     requires { ⌜ value 14 (now s) from ≡ At to ⌝ }
     ensures { λ r. ⌜ r ≡ moreSummed (now (s .entry)) sum (record { from = from; to = to }) ⌝ }
@@ -432,12 +439,13 @@ fn one_object(whole: bool, one: Members) -> Outline
     no_outline()
 }
 
-// The layout of a message of two objects.
+// The layout of a message of two objects; `two` is told of both.
 fn two_objects(whole: bool, one: Members, two: Members) -> Outline
     ensures { λ r. ⌜ r ≡ twoObjects whole one two ⌝ }
 {
     if both(whole, both(one.is_object, two.is_object)) {
-        let each = both(has_more(no_members(0), one), has_more(one, two));
+        let none = no_members(0);
+        let each = both(has_more(none, one), has_more(one, two));
         return k_outline(false, is_update(each, one, two), two);
     }
     no_outline()
@@ -449,7 +457,8 @@ fn both(a: bool, b: bool) -> bool
     if a { b } else { false }
 }
 
-// Whether an object has `a` or `b`, where `before` is told before it and `after` with it.
+// Whether an object has `a` or `b`, where `before` is told before it and `after` with it. Counts stop at two, so this says
+// something only where each name is met once at the most.
 fn has_more(before: Members, after: Members) -> bool
     ensures { λ r. ⌜ r ≡ hasMore before after ⌝ }
 {
@@ -462,6 +471,7 @@ fn has_more(before: Members, after: Members) -> bool
     }
 }
 
+// Whether the one object is a snapshot's.
 fn is_snapshot(one: Members) -> bool
     ensures { λ r. ⌜ r ≡ snapshotBy one ⌝ }
 {
@@ -513,6 +523,7 @@ fn is_update(each: bool, before: Members, all: Members) -> bool
     }
 }
 
+// The layout of a message whose objects are a snapshot's, an update's or neither.
 fn k_outline(snapshot: bool, update: bool, all: Members) -> Outline
     ensures { λ r. ⌜ r ≡ outlineBy snapshot update all ⌝ }
 {
@@ -539,29 +550,27 @@ fn side_of(slot: Slot) -> Listing
     slot.listing
 }
 
-// A message of four or five elements.
-fn framed(s: &[u8], parts: Parts, depth: usize, name: &[u8], outline: Outline) -> Told
+// A message of four or five elements, which ends at `end`.
+fn framed(s: &[u8], end: usize, outer: Outer, depth: usize, name: &[u8], outline: Outline) -> Told
     requires { ⌜ (10 ≤ depth) × (depth ≤ 100) ⌝ }
-    ensures { λ r. ⌜ r ≡ framedAs depth (now (name .entry)) (now (s .entry)) parts outline ⌝ }
+    ensures { λ r. ⌜ r ≡ framedAs depth (now (name .entry)) (now (s .entry)) end outer outline ⌝ }
 {
-    let channel_from = parts.channel_from;
-    let channel_to = parts.channel_to;
-    let pair_from = parts.pair_from;
-    let pair_to = parts.pair_to;
+    let channel_from = outer.channel_from;
+    let channel_to = outer.channel_to;
+    let pair_from = outer.pair_from;
+    let pair_to = outer.pair_to;
     let escaped = if is_escaped(s, channel_from, channel_to) {
         true
     } else {
         is_escaped(s, pair_from, pair_to)
     };
-    let ours = both(
-        is_channel(s, channel_from, channel_to, depth),
-        is_name(s, pair_from, pair_to, name),
-    );
+    let channel = is_channel(s, channel_from, channel_to, depth);
+    let pair = is_name(s, pair_from, pair_to, name);
     Told {
-        end: parts.end,
+        end,
         framed: true,
         escaped,
-        ours,
+        ours: both(channel, pair),
         outline,
     }
 }

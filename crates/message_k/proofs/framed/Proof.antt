@@ -34,10 +34,10 @@ returns : tie.Need-returns
 unfolding oursBy
 returns c =
     let a = c .before .before .before .before .before .before .before .args in
-    let p = a .parts in
+    let t = a .outer in
     let s = now (a .s) in
-    let x : Span = record { from = p .«channel_from»; to = p .«channel_to» } in
-    let y : Span = record { from = p .«pair_from»; to = p .«pair_to» } in
+    let x : Span = record { from = t .«channel_from»; to = t .«channel_to» } in
+    let y : Span = record { from = t .«pair_from»; to = t .«pair_to» } in
     let e = c .before .before .before .before .is-escaped .ensures in
     let escaped : c .before .before .before .if1 .escaped ≡ (escapedAt s x || escapedAt s y) = ⊎-elim (λ w. w .1 ∙ or-yes (escapedAt s x) (escapedAt s y) (sym e ∙ w .0 .taken)) (λ w. w .2 ∙ w .1 .ensures ∙ or-no (escapedAt s x) (escapedAt s y) (sym e ∙ w .0 .left)) (c .before .before .before .if1 .came) in
     let ours = c .both .ensures ∙ ap (λ q. q && c .before .is-name .result) (c .before .before .is-channel .ensures) ∙ ap (λ q. means s x (ascii "book-" ++ written (a .depth)) && q) (c .before .is-name .ensures) in

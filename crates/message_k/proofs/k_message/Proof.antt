@@ -47,12 +47,12 @@ framed-requires c κs = search needs
 
 returns-2 : tie.Need-returns-2
 returns-2 c =
-    let a = c .before .before .before .before .before .before .before .before .before .args in
+    let a = c .before .before .before .before .before .before .before .before .before .before .args in
     let s = now (a .s) in
     let d = a .depth in
     let n = now (a .name) in
-    let p = c .before .before .before .before .k-parts .result in
-    c .framed .ensures ∙ ap (framedAs d n s p) (c .before .one-object .ensures) ∙ told-four d n s p (c .before .before .before .if2 .taken) ∙ ap (toldBy d n s) (c .before .before .before .before .k-parts .ensures) ∙ told-array d n s (a .at) (sym (c .before .before .before .before .before .before .byte-at .ensures) ∙ c .before .before .before .before .before .if1 .left)
+    let p = c .before .before .before .before .before .k-parts .result in
+    c .framed .ensures ∙ ap (framedAs d n s (p .end) (p .outer)) (c .before .one-object .ensures) ∙ told-four d n s p (c .before .before .before .if2 .taken) ∙ ap (toldBy d n s) (c .before .before .before .before .before .k-parts .ensures) ∙ told-array d n s (a .at) (sym (c .before .before .before .before .before .before .before .byte-at .ensures) ∙ c .before .before .before .before .before .before .if1 .left)
 
 two-objects-requires : tie.Need-two-objects-requires
 two-objects-requires c κs = search needs
@@ -62,24 +62,24 @@ framed-requires-2 c κs = search needs
 
 returns-3 : tie.Need-returns-3
 returns-3 c =
-    let a = c .before .before .before .before .before .before .before .before .before .before .before .args in
+    let a = c .before .before .before .before .before .before .before .before .before .before .before .before .args in
     let s = now (a .s) in
     let d = a .depth in
     let n = now (a .name) in
-    let p = c .before .before .before .before .before .before .k-parts .result in
-    c .framed2 .ensures ∙ ap (framedAs d n s p) (c .before .two-objects .ensures) ∙ told-five d n s p (c .before .before .before .before .if3 .taken) ∙ ap (toldBy d n s) (c .before .before .before .before .before .before .k-parts .ensures) ∙ told-array d n s (a .at) (sym (c .before .before .before .before .before .before .before .before .byte-at .ensures) ∙ c .before .before .before .before .before .before .before .if1 .left)
+    let p = c .before .before .before .before .before .before .before .k-parts .result in
+    c .framed2 .ensures ∙ ap (framedAs d n s (p .end) (p .outer)) (c .before .two-objects .ensures) ∙ told-five d n s p (c .before .before .before .before .if3 .taken) ∙ ap (toldBy d n s) (c .before .before .before .before .before .before .before .k-parts .ensures) ∙ told-array d n s (a .at) (sym (c .before .before .before .before .before .before .before .before .before .byte-at .ensures) ∙ c .before .before .before .before .before .before .before .before .if1 .left)
 
 untold-requires-2 : tie.Need-untold-requires-2
 untold-requires-2 c κs = search needs
 
 returns-4 : tie.Need-returns-4
 returns-4 c =
-    let a = c .before .before .before .before .before .before .before .before .args in
+    let a = c .before .before .before .before .before .before .before .before .before .args in
     let s = now (a .s) in
     let d = a .depth in
     let n = now (a .name) in
-    let p = c .before .before .before .k-parts .result in
-    c .untold2 .ensures ∙ told-other d n s p (c .before .before .if2 .left) (c .before .if3 .left) ∙ ap (toldBy d n s) (c .before .before .before .k-parts .ensures) ∙ told-array d n s (a .at) (sym (c .before .before .before .before .before .byte-at .ensures) ∙ c .before .before .before .before .if1 .left)
+    let p = c .before .before .before .before .k-parts .result in
+    c .untold2 .ensures ∙ told-other d n s p (c .before .before .if2 .left) (c .before .if3 .left) ∙ ap (toldBy d n s) (c .before .before .before .before .k-parts .ensures) ∙ told-array d n s (a .at) (sym (c .before .before .before .before .before .before .byte-at .ensures) ∙ c .before .before .before .before .before .if1 .left)
 
 pub k-message-spec : {M : Type 1} → statement M
 k-message-spec =

@@ -20,7 +20,7 @@ module _ (k : ℕ) (s : List ℕ) where
   unfolding editAt shiftedRow
   edit-shift r = ap₂ editFor (number-shift k s (r .price)) (number-shift k s (r .size))
 
-  edits-shift : (rows : List Row) → map (editAt s) (map (shiftedRow k) rows) ≡ map (editAt (drop k s)) rows
+  pub edits-shift : (rows : List Row) → map (editAt s) (map (shiftedRow k) rows) ≡ map (editAt (drop k s)) rows
   edits-shift [] = refl
   edits-shift (r ∷ l) = ap₂ (λ (x : Edit PriceLevel) (y : List (Edit PriceLevel)). x ∷ y) (edit-shift r) (edits-shift l)
 

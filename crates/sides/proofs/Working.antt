@@ -3,11 +3,11 @@
 use mathlib.Core.Path.{_≡_, refl, sym, ap, _∙_, subst}
 use mathlib.Core.List.{List, [], _∷_, map}
 use mathlib.Core.Bool.{Bool, true, false, cond}
-use Prim.Native.Nat.{ℕ, _≤_, _-_, _<_}
+use Prim.Native.Nat.{ℕ, _≤_}
 use native.Mathlib.Omega.{arith}
 use borrow.Author.Tests.{eq-eqb, ne-eqb}
 use lib.Dec.{eqb, lit<}
-use lib.ListN.{length, take, drop, length-drop, length-take, length-map}
+use lib.ListN.{length, take, drop, length-take, length-map}
 use lib.Seq.{take-all}
 use Rattle.decimal.specs.Digits.{Reading, reads, refused}
 use Rattle.decimal.specs.Decimal.{Number, read, isZero, Within}
@@ -29,10 +29,6 @@ use Rattle.checksum.specs.Carried.{Carries}
 use Rattle.loader.specs.Loaded.{editFor, editAt, rowsAt, Loaded}
 use Rattle.loader.specs.Reading.{entryFor, pieceFor}
 use Rattle.sides.specs.Worked.{Sound, editsAt, Worked}
-
--- a text from a position on, as a part that goes to the end
-pub rest-of : (s : List ℕ) (at : ℕ) → take (length s - at) (drop at s) ≡ drop at s
-rest-of s at = let n = length-drop at s in take-all (length s - at) (drop at s) (omega arith)
 
 -- ---- sizes keep the limits of decimals
 

@@ -1,5 +1,6 @@
 -- `apply_entries` meets its contract: no entries leave the side as it is; others are loaded, then applied.
-use Rattle.sides.proofs.Working.{rest-of, none-worked, some-worked}
+use Rattle.sides.proofs.Working.{none-worked, some-worked}
+use Rattle.loader.proofs.Shift.{part-is}
 use mathlib.Core.Path.{refl}
 use native.Mathlib.Omega.{arith}
 use lib.ListN.{length-take}
@@ -27,7 +28,7 @@ load-requires : tie.Need-load-requires
 load-requires c κs =
     let a = c .before .before .before .before .before .before .args in
     let p = c .before .before .before .before .before .before .pre in
-    rw (rest-of (now (a .s)) (a .at)) (p .1 .loadable (c .before .before .before .before .if1 .left), record { prices-long = refl; sizes-long = refl; rests-long = refl })
+    rw (part-is (a .at) (now (a .s))) (p .1 .loadable (c .before .before .before .before .if1 .left), record { prices-long = refl; sizes-long = refl; rests-long = refl })
 
 array-share-prefix-prices : tie.Need-array-share-prefix-prices
 array-share-prefix-prices c = search needs
@@ -70,7 +71,7 @@ returns-2 c =
     let a = c .before .before .before .before .before .before .before .before .before .before .before .args in
     let p = c .before .before .before .before .before .before .before .before .before .before .before .pre in
     let l = c .before .before .before .before .load in
-    some-worked (a .m) (a .side) (a .depth) (a .kept) (now (a .s)) (a .at) (a .count) (l .last .1 .1 .0) (l .last .1 .1 .1 .0) (l .last .1 .1 .1 .1 .0) (l .result) (c .apply .result) (c .before .before .before .before .before .before .before .before .before .if1 .left) (p .0) (rw (rest-of (now (a .s)) (a .at)) at (l .ensures)) (c .apply .ensures)
+    some-worked (a .m) (a .side) (a .depth) (a .kept) (now (a .s)) (a .at) (a .count) (l .last .1 .1 .0) (l .last .1 .1 .1 .0) (l .last .1 .1 .1 .1 .0) (l .result) (c .apply .result) (c .before .before .before .before .before .before .before .before .before .if1 .left) (p .0) (rw (part-is (a .at) (now (a .s))) at (l .ensures)) (c .apply .ensures)
 
 pub apply-entries-spec : {M : Type 1} → statement M
 apply-entries-spec =

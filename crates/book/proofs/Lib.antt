@@ -1,0 +1,3 @@
+-- In reading order: refusals and the chain of checks.
+pub mod Refusing
+pub mod Entering

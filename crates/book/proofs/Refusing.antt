@@ -1,0 +1,152 @@
+-- Refusals, and the chain of checks 9 to 13, one test at a time.
+-- Assumes nothing.
+use mathlib.Core.Path.{_≡_, refl, sym, ap, _∙_, subst}
+use mathlib.Core.List.{List, map}
+use mathlib.Core.Bool.{Bool, true, false, true≢false, _&&_, _||_, not, cond}
+use Prim.Native.Nat.{ℕ}
+use native.Mathlib.Omega.{arith}
+use lib.Dec.{eqb, leb}
+use Rattle.settings.specs.Settings.{termsOf}
+use Rattle.layout.specs.Layout.{Printed, printed, unprinted, Layout}
+use Rattle.layout.specs.Told.{isPrinted, sumOf}
+use Rattle.message.specs.Answers.{number}
+use Rattle.message.specs.Meaning.{Checked, fails, passes, checked, Message, messageOf, refuses, says, saidOf, said}
+use Rattle.message.specs.Verdict.{verdictOf}
+use Rattle.message.specs.declared.Answer.{Answer}
+use Rattle.message.specs.declared.Answer.the-variants.{Taken, PriceTwice, NoSnapshot, OldNumber, TooManyLevels, WrongChecksum}
+use Rattle.message.specs.declared.Verdict.{Verdict}
+use Rattle.message.specs.declared.Verdict.the-variants.{Fails, Passes}
+use Rattle.layout.specs.declared.Outline.{Outline}
+use Rattle.layout.specs.Told.{outlineOf}
+use Rattle.decimal.specs.Digits.{reads}
+use Rattle.book.specs.Reference.{Status, isShut, isLive, Reference, isM, checksumOf, namesPriceTwice, lacksSnapshot, isOld, hasTooMany, differs, hasWrongChecksum, bidsAfter, asksAfter, verdict, After, taken, leavesStatus, setWaiting, refusedBy, isTaken, answered, hearing, hear}
+use Rattle.book.specs.Shown.{statusOf, shows, Good, Told}
+use Rattle.book.specs.Taking.{waitingBook, refusedStep}
+use Rattle.book.specs.declared.Book.{Book}
+use Rattle.book.specs.declared.Step.{Step}
+
+-- ---- a refusal
+
+module _ (b : Book) (g : Good b) (u : isShut (statusOf (b .state)) ≡ false) where
+  waiting-good : Good (waitingBook b)
+  unfolding waitingBook
+  waiting-good =
+      record {
+        room = g .room;
+        short = g .short;
+        terms = λ h. g .terms u;
+        bids = g .bids;
+        asks = g .asks;
+        few-bids = g .few-bids;
+        few-asks = g .few-asks;
+        small = g .small;
+      }
+
+  pub refused-told : (a : Answer) → Told (refusedBy (shows b) a) (refusedStep b a)
+  unfolding refusedBy refusedStep setWaiting waitingBook shows statusOf
+  refused-told a = at (leavesStatus a)
+    where
+      at : (t : Bool) → Told (record { book = cond t (shows b) (setWaiting (shows b)); answer = a }) (record { book = cond t b (waitingBook b); answer = a })
+      at true = record { good = g; same = refl; answer = refl }
+      at false = record { good = waiting-good; same = refl; answer = refl }
+
+-- a book that shows the same answers the same
+pub told-as : {x y : After} (r : Step) → x ≡ y → Told y r → Told x r
+told-as r h t = subst (λ (z : After). Told z r) (sym h) t
+
+-- ---- what is heard
+
+module _ (p : Reference) (s : List ℕ) (u : isShut (p .status) ≡ false) where
+  pub hear-fails : (a : Answer) → checked (p .terms) s ≡ fails a → hear p s ≡ refusedBy p a
+  unfolding hear hearing said saidOf
+  hear-fails a h = rw (u, h, hear, said, saidOf, hearing)
+
+  pub hear-passes : (l : Layout) → checked (p .terms) s ≡ passes l → hear p s ≡ answered p (messageOf s l) (verdict p (messageOf s l))
+  unfolding hear hearing said saidOf
+  hear-passes l h = rw (u, h, hear, said, saidOf, hearing)
+
+-- from the reader's answer
+module _ (s : List ℕ) (x : Checked) (v : Verdict) (h : v ≡ verdictOf s x) where
+  pub verdict-fails : (a : Answer) → v ≡ Fails a → x ≡ fails a
+  unfolding verdictOf
+  verdict-fails a g = go x (sym h ∙ g)
+    where
+      go : (y : Checked) → verdictOf s y ≡ Fails a → y ≡ fails a
+      go (fails b) k = let e : b ≡ a = cc in ap fails e
+      go (passes l) k = let z : _≡_ {A = ℕ} 0 1 = cc in absurd (omega arith)
+
+  pub verdict-passes : (o : Outline) → v ≡ Passes o → (l : Layout) × (x ≡ passes l) × (o ≡ outlineOf s (reads l))
+  unfolding verdictOf
+  verdict-passes o g = go x (sym h ∙ g)
+    where
+      go : (y : Checked) → verdictOf s y ≡ Passes o → (l : Layout) × (y ≡ passes l) × (o ≡ outlineOf s (reads l))
+      go (fails b) k = let z : _≡_ {A = ℕ} 0 1 = cc in absurd (omega arith)
+      go (passes l) k = let e : outlineOf s (reads l) ≡ o = cc in (l, refl, sym e)
+
+-- ---- checks 9 to 13
+
+module _ (p : Reference) (m : Message) where
+  abbrev heard : After
+  heard = answered p m (verdict p m)
+
+  pub nine : namesPriceTwice m ≡ true → heard ≡ refusedBy p PriceTwice
+  unfolding verdict answered isTaken number
+  nine a = rw (a, verdict, answered, isTaken, number)
+
+  module _ (a : namesPriceTwice m ≡ false) where
+    pub ten : lacksSnapshot p m ≡ true → heard ≡ refusedBy p NoSnapshot
+    unfolding verdict answered isTaken number
+    ten b = rw (a, b, verdict, answered, isTaken, number)
+
+    module _ (b : lacksSnapshot p m ≡ false) where
+      pub eleven : isOld p m ≡ true → heard ≡ refusedBy p OldNumber
+      unfolding verdict answered isTaken number
+      eleven c = rw (a, b, c, verdict, answered, isTaken, number)
+
+      module _ (c : isOld p m ≡ false) where
+        pub twelve : hasTooMany p m ≡ true → heard ≡ refusedBy p TooManyLevels
+        unfolding verdict answered isTaken number
+        twelve d = rw (a, b, c, d, verdict, answered, isTaken, number)
+
+        module _ (d : hasTooMany p m ≡ false) where
+          pub thirteen : hasWrongChecksum p m ≡ true → heard ≡ refusedBy p WrongChecksum
+          unfolding verdict answered isTaken number
+          thirteen e = rw (a, b, c, d, e, verdict, answered, isTaken, number)
+
+          pub none-fits : hasWrongChecksum p m ≡ false → heard ≡ record { book = taken p m; answer = Taken }
+          unfolding verdict answered isTaken number
+          none-fits e = rw (a, b, c, d, e, verdict, answered, isTaken, number)
+
+-- ---- a snapshot, and an update
+
+module _ (p : Reference) (m : Message) (h : m .snapshot ≡ true) where
+  pub snapshot-not-old : isOld p m ≡ false
+  unfolding isOld
+  snapshot-not-old = at (isM (p .terms .dialect))
+    where
+      at : (t : Bool) → (t && (not (m .snapshot) && leb (m .number) (p .number))) ≡ false
+      at true = rw h
+      at false = refl
+
+  pub snapshot-lacks-none : lacksSnapshot p m ≡ false
+  unfolding lacksSnapshot
+  snapshot-lacks-none = rw (h, lacksSnapshot)
+
+pub update-names-once : (m : Message) → m .snapshot ≡ false → namesPriceTwice m ≡ false
+unfolding namesPriceTwice
+update-names-once m h = rw (h, namesPriceTwice)
+
+pub update-lacks : (p : Reference) (m : Message) (t : Bool) → m .snapshot ≡ false → isLive (p .status) ≡ t → lacksSnapshot p m ≡ not t
+unfolding lacksSnapshot
+update-lacks p m t h k = rw (h, k, lacksSnapshot)
+
+pub update-old : (p : Reference) (m : Message) → m .snapshot ≡ false → isOld p m ≡ (isM (p .terms .dialect) && leb (m .number) (p .number))
+unfolding isOld
+update-old p m h = rw (h, isOld)
+
+-- ---- check 13 in numbers
+
+pub differs-is : (c : Printed) (sum : ℕ) → differs c sum ≡ (isPrinted c && not (eqb (sumOf c) sum))
+unfolding differs isPrinted sumOf
+differs-is (printed n) sum = refl
+differs-is unprinted sum = refl

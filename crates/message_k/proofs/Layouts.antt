@@ -172,28 +172,28 @@ module _ (s : List ℕ) (ms ns : List Pair) (t u : Members) (h : Tells s t ms) (
   unfolding isSnapshot
   two-snapshot = refl
 
-  abbrev fst : List ℕ → ℕ
-  fst name = times s name ms
+  abbrev inOne : List ℕ → ℕ
+  inOne name = times s name ms
 
-  abbrev snd : List ℕ → ℕ
-  snd name = times s name ns
+  abbrev inTwo : List ℕ → ℕ
+  inTwo name = times s name ns
 
-  abbrev sum : List ℕ → ℕ
-  sum name = times s name (ms ++ ns)
+  abbrev inAll : List ℕ → ℕ
+  inAll name = times s name (ms ++ ns)
 
-  each-one : sum (ascii "a") ≤ 1 → sum (ascii "b") ≤ 1 → (hasMore (noMembers 0) t && hasMore t u) ≡ eachHasOne s (ms ∷ (ns ∷ []))
+  each-one : inAll (ascii "a") ≤ 1 → inAll (ascii "b") ≤ 1 → (hasMore (noMembers 0) t && hasMore t u) ≡ eachHasOne s (ms ∷ (ns ∷ []))
   unfolding hasMore eachHasOne
   each-one a b =
       let p = in-both (ascii "a") in
       let q = in-both (ascii "b") in
-      let x : fst (ascii "a") + snd (ascii "a") ≤ 1 = omega arith in
-      let y : fst (ascii "b") + snd (ascii "b") ≤ 1 = omega arith in
+      let x : inOne (ascii "a") + inTwo (ascii "a") ≤ 1 = omega arith in
+      let y : inOne (ascii "b") + inTwo (ascii "b") ≤ 1 = omega arith in
       rw (asks-count s t ms h, bids-count s t ms h, asks-count s u (ms ++ ns) g, bids-count s u (ms ++ ns) g, p, q)
-      (and-on _ _ _ _ (some-or _ _ (fst (ascii "a")) (fst (ascii "b")) (few-some (fst (ascii "a"))) (few-some (fst (ascii "b")))) (λ e.
-      some-or _ _ (snd (ascii "a")) (snd (ascii "b")) (few-rises (fst (ascii "a")) (snd (ascii "a")) x) (few-rises (fst (ascii "b")) (snd (ascii "b")) y)
-      ∙ and-true (leb 1 (snd (ascii "a") + snd (ascii "b")))))
+      (and-on _ _ _ _ (some-or _ _ (inOne (ascii "a")) (inOne (ascii "b")) (few-some (inOne (ascii "a"))) (few-some (inOne (ascii "b")))) (λ e.
+      some-or _ _ (inTwo (ascii "a")) (inTwo (ascii "b")) (few-rises (inOne (ascii "a")) (inTwo (ascii "a")) x) (few-rises (inOne (ascii "b")) (inTwo (ascii "b")) y)
+      ∙ and-true (leb 1 (inTwo (ascii "a") + inTwo (ascii "b")))))
 
-  update-by : (each : Bool) → (sum (ascii "a") ≤ 1 → sum (ascii "b") ≤ 1 → each ≡ eachHasOne s (ms ∷ (ns ∷ []))) → updateBy each t u ≡ isUpdate s (ms ∷ (ns ∷ []))
+  update-by : (each : Bool) → (inAll (ascii "a") ≤ 1 → inAll (ascii "b") ≤ 1 → each ≡ eachHasOne s (ms ∷ (ns ∷ []))) → updateBy each t u ≡ isUpdate s (ms ∷ (ns ∷ []))
   unfolding updateBy isUpdate lastOf
   update-by each f =
       rw (
@@ -205,14 +205,14 @@ module _ (s : List ℕ) (ms ns : List Pair) (t u : Members) (h : Tells s t ms) (
         checksum-count s u (ms ++ ns) g,
         checksum-count s t ms h,
       )
-      (and-on _ _ _ _ (few-most (sum (ascii "a"))) (λ a.
-      and-on _ _ _ _ (few-most (sum (ascii "b"))) (λ b.
+      (and-on _ _ _ _ (few-most (inAll (ascii "a"))) (λ a.
+      and-on _ _ _ _ (few-most (inAll (ascii "b"))) (λ b.
       and-on _ _ _ _ (f (leb-true _ 1 a) (leb-true _ 1 b)) (λ e.
-      and-on _ _ _ _ (few-one (sum (ascii "c"))) (λ c.
-      and-on _ _ _ _ (once-last (fst (ascii "c")) (snd (ascii "c")) (ap (λ n. eqb n 1) (sym (in-both (ascii "c"))) ∙ c)) (λ l. none))))))
+      and-on _ _ _ _ (few-one (inAll (ascii "c"))) (λ c.
+      and-on _ _ _ _ (once-last (inOne (ascii "c")) (inTwo (ascii "c")) (ap (λ n. eqb n 1) (sym (in-both (ascii "c"))) ∙ c)) (λ l. none))))))
     where
-      none : (eqb (few (sum (ascii "as"))) 0 && eqb (few (sum (ascii "bs"))) 0) ≡ eqb (sum (ascii "as") + sum (ascii "bs")) 0
-      none = rw (few-zero (sum (ascii "as")), few-zero (sum (ascii "bs"))) (none-and (sum (ascii "as")) (sum (ascii "bs")))
+      none : (eqb (few (inAll (ascii "as"))) 0 && eqb (few (inAll (ascii "bs"))) 0) ≡ eqb (inAll (ascii "as") + inAll (ascii "bs")) 0
+      none = rw (few-zero (inAll (ascii "as")), few-zero (inAll (ascii "bs"))) (none-and (inAll (ascii "as")) (inAll (ascii "bs")))
 
   pub two-update : updateBy (hasMore (noMembers 0) t && hasMore t u) t u ≡ isUpdate s (ms ∷ (ns ∷ []))
   two-update = update-by (hasMore (noMembers 0) t && hasMore t u) each-one

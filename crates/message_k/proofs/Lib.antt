@@ -1,5 +1,5 @@
--- In reading order: the member `c` and the first element; the channel's name; one member; objects; loops over elements; one element; check 6 by
--- its tests; tests on counts; what is told of objects.
+-- In reading order: the member `c` and the first element; the channel's name; one member, and objects; loops over elements, and one element; check 6
+-- by its tests; tests on counts; what is told of objects; check 6 of the objects; the message.
 pub mod Numbers
 pub mod Channel
 pub mod OneMember

@@ -40,11 +40,11 @@ withOuter s t a =
 abbrev pub noParts : ℕ → Parts
 noParts e = record { end = e; outer = noOuter; one = noMembers 0; two = noMembers 0 }
 
--- One more element, of an array whose end is not told yet.
+-- One more element.
 unfoldable pub withPart : List ℕ → Parts → Span → Parts
 withPart s t a =
     record {
-      end = 0;
+      end = t .end;
       outer = withOuter s (t .outer) a;
       one = cond (eqb (t .outer .count) 1) (membersOf s (noMembers 0) (a .to) (objectAt 15 s a)) (t .one);
       two = cond (eqb (t .outer .count) 2) (membersOf s (t .one) (a .to) (objectAt 15 s a)) (t .two);

@@ -139,26 +139,14 @@ pub fn k_message(s: &[u8], at: usize, depth: usize, name: &[u8]) -> Told
     let count = outer.count;
     if count == 4 {
         let one = parts.one;
-        return framed(
-            s,
-            parts.end,
-            outer,
-            depth,
-            name,
-            one_object(outer.whole, one),
-        );
+        let outline = one_object(outer.whole, one);
+        return framed(s, parts.end, outer, depth, name, outline);
     }
     if count == 5 {
         let one = parts.one;
         let two = parts.two;
-        return framed(
-            s,
-            parts.end,
-            outer,
-            depth,
-            name,
-            two_objects(outer.whole, one, two),
-        );
+        let outline = two_objects(outer.whole, one, two);
+        return framed(s, parts.end, outer, depth, name, outline);
     }
     untold(parts.end)
 }
@@ -172,36 +160,29 @@ fn k_parts(s: &[u8], at: usize) -> Parts
         return no_parts(none);
     }
     let mut i = skip_blanks(s, at);
-    let mut outer = no_outer();
-    let mut one = no_members(0);
-    let mut two = no_members(0);
+    let mut parts = no_parts(0);
     loop {
-        let count = outer.count;
-        let past = if count == 1 {
-            one = k_object(s, no_members(0), i);
-            one.end
-        } else if count == 2 {
-            two = k_object(s, one, i);
-            two.end
+        let outer = parts.outer;
+        let past = if outer.count == 1 {
+            parts.one = k_object(s, no_members(0), i);
+            parts.one.end
+        } else if outer.count == 2 {
+            parts.two = k_object(s, parts.one, i);
+            parts.two.end
         } else {
             value_end(s, i, ELEMENT_DEPTH)
         };
         if past == 0 {
             return no_parts(0);
         }
-        outer = pass(s, outer, i, past);
+        parts.outer = pass(s, outer, i, past);
         let j = comma_end(s, past);
         if j == 0 {
-            let end = array_close_end(s, past);
-            if end == 0 {
+            parts.end = array_close_end(s, past);
+            if parts.end == 0 {
                 return no_parts(0);
             }
-            return Parts {
-                end,
-                outer,
-                one,
-                two,
-            };
+            return parts;
         }
         i = j;
     }

@@ -12,15 +12,15 @@ use Rattle.layout.specs.Fold.{foldedIn}
 use Rattle.message_k.specs.MembersK.{membersAt}
 use Rattle.message_k.specs.PartsK.{noParts, withPart, endedAt, partsIn}
 use Rattle.message_k.proofs.Elements.{Rest, each-empty, each-start, each-wrong, each-past, each-on, each-last, each-broken}
-use Rattle.message_k.proofs.OnePart.{soFar, Step, step-one, step-two, step-other, step-value, step-part}
+use Rattle.message_k.proofs.OnePart.{withOuterOf, Step, step-one, step-two, step-other, step-value, step-part}
 use Rattle.message_k.proofs.k_parts.Statement.{statement}
 use Rattle.message_k.proofs.k_parts.Tie as tie
 
 abbrev Inv-loop : tie.InvT-loop
-Inv-loop s at none i₀ outer₀ one₀ two₀ i outer one two = Rest (withPart s) endedAt (noParts 0) 15 s (soFar outer one two) i (foldedIn (withPart s) endedAt (noParts 0) (noParts 0) (elements (value 15 s) s at))
+Inv-loop s at none i₀ parts₀ i parts = Rest (withPart s) endedAt (noParts 0) 15 s parts i (foldedIn (withPart s) endedAt (noParts 0) (noParts 0) (elements (value 15 s) s at))
 
 abbrev μ-loop : tie.MeasureT-loop
-μ-loop s at none i₀ outer₀ one₀ two₀ i outer one two = length s - i
+μ-loop s at none i₀ parts₀ i parts = length s - i
 
 array-close-end-requires : tie.Need-array-close-end-requires Inv-loop μ-loop
 array-close-end-requires c κs = search needs
@@ -38,24 +38,18 @@ returns c =
 skip-blanks-requires : tie.Need-skip-blanks-requires Inv-loop μ-loop
 skip-blanks-requires c κs = search needs
 
-no-outer-requires : tie.Need-no-outer-requires Inv-loop μ-loop
-no-outer-requires c κs = search needs
-
-no-members-requires : tie.Need-no-members-requires Inv-loop μ-loop
-no-members-requires c κs = search needs
-
-no-members-requires-2 : tie.Need-no-members-requires-2 Inv-loop μ-loop
-no-members-requires-2 c κs = search needs
+no-parts-requires-2 : tie.Need-no-parts-requires-2 Inv-loop μ-loop
+no-parts-requires-2 c κs = search needs
 
 loop-holds : tie.Need-loop-holds Inv-loop μ-loop
 unfolding partsIn
 loop-holds c =
-    let a = c .before .before .before .before .before .before .before .args in
+    let a = c .before .before .before .before .before .args in
     let s = now (a .s) in
-    rw (c .before .before .no-outer .ensures, c .before .no-members .ensures, c .no-members2 .ensures) (each-start (withPart s) endedAt (noParts 0) 15 s (noParts 0) (a .at) (c .before .before .before .before .before .array-close-end .result) (c .before .before .before .before .before .array-close-end .ensures) (omega arith) (c .before .before .before .skip-blanks .result) (c .before .before .before .skip-blanks .ensures))
+    rw (c .no-parts2 .ensures) (each-start (withPart s) endedAt (noParts 0) 15 s (noParts 0) (a .at) (c .before .before .before .array-close-end .result) (c .before .before .before .array-close-end .ensures) (omega arith) (c .before .skip-blanks .result) (c .before .skip-blanks .ensures))
 
-no-members-requires-3 : tie.Need-no-members-requires-3 Inv-loop μ-loop
-no-members-requires-3 c κs = search needs
+no-members-requires : tie.Need-no-members-requires Inv-loop μ-loop
+no-members-requires c κs = search needs
 
 k-object-requires : tie.Need-k-object-requires Inv-loop μ-loop
 k-object-requires c κs = search needs
@@ -66,31 +60,27 @@ k-object-requires-2 c κs = search needs
 value-end-requires : tie.Need-value-end-requires Inv-loop μ-loop
 value-end-requires c κs = search needs
 
-no-parts-requires-2 : tie.Need-no-parts-requires-2 Inv-loop μ-loop
-no-parts-requires-2 c κs = search needs
+no-parts-requires-3 : tie.Need-no-parts-requires-3 Inv-loop μ-loop
+no-parts-requires-3 c κs = search needs
 
 returns-2 : tie.Need-returns-2 Inv-loop μ-loop
 unfolding partsIn
 returns-2 c =
     let a = c .before .before .before .before .before .before .before .before .before .before .before .args in
     let s = now (a .s) in
-    let i = c .before .before .before .loop .i in
-    let t = c .before .before .before .loop .outer in
-    let one = c .before .before .before .loop .one in
-    let two = c .before .before .before .loop .two in
-    let z : Step s t one two i (c .before .before .if2 .one) (c .before .before .if2 .two) (c .before .before .if2 .past) = ⊎-elim (λ w. step-one s t one two i (w .2 .result) (w .0 .taken) (w .2 .ensures ∙ ap (λ x. membersAt s x i) (w .1 .ensures)) (w .3) (w .4) (w .5)) (⊎-elim (λ w. step-two s t one two i (w .2 .result) (w .1 .taken) (w .2 .ensures) (w .3) (w .4) (w .5)) (λ w. step-other s t one two i (w .0 .left) (w .1 .left) (w .2 .result) (w .2 .ensures) (w .3) (w .4) (w .5))) (c .before .before .if2 .came) in
-    c .no-parts2 .ensures ∙ each-wrong (withPart s) endedAt (noParts 0) 15 s (soFar t one two) (c .before .before .before .loop .inv) (c .before .before .if2 .past) (z .ends) (c .before .if4 .taken)
+    let i = c .before .before .before .before .before .loop .i in
+    let t = c .before .before .before .before .before .loop .parts in
+    let z : Step s t i (c .before .before .if2 .parts) (c .before .before .if2 .past) = ⊎-elim (λ w. step-one s t i (w .2 .result) (w .0 .taken) (w .2 .ensures ∙ ap (λ x. membersAt s x i) (w .1 .ensures)) (w .3) (w .4)) (⊎-elim (λ w. step-two s t i (w .3 .result) (w .2 .taken) (w .3 .ensures) (w .4) (w .5)) (λ w. step-other s t i (w .0 .left) (w .2 .left) (w .3 .result) (w .3 .ensures) (w .4) (w .5))) (c .before .before .if2 .came) in
+    c .no-parts3 .ensures ∙ each-wrong (withPart s) endedAt (noParts 0) 15 s t (c .before .before .before .before .before .loop .inv) (c .before .before .if2 .past) (z .ends) (c .before .if4 .taken)
 
 pass-requires : tie.Need-pass-requires Inv-loop μ-loop
 pass-requires c κs =
     let a = c .before .before .before .before .before .before .before .before .before .before .args in
     let s = now (a .s) in
-    let i = c .before .before .loop .i in
-    let t = c .before .before .loop .outer in
-    let one = c .before .before .loop .one in
-    let two = c .before .before .loop .two in
-    let z : Step s t one two i (c .before .if2 .one) (c .before .if2 .two) (c .before .if2 .past) = ⊎-elim (λ w. step-one s t one two i (w .2 .result) (w .0 .taken) (w .2 .ensures ∙ ap (λ x. membersAt s x i) (w .1 .ensures)) (w .3) (w .4) (w .5)) (⊎-elim (λ w. step-two s t one two i (w .2 .result) (w .1 .taken) (w .2 .ensures) (w .3) (w .4) (w .5)) (λ w. step-other s t one two i (w .0 .left) (w .1 .left) (w .2 .result) (w .2 .ensures) (w .3) (w .4) (w .5))) (c .before .if2 .came) in
-    step-value s t one two i z (c .if4 .left)
+    let i = c .before .before .before .before .loop .i in
+    let t = c .before .before .before .before .loop .parts in
+    let z : Step s t i (c .before .if2 .parts) (c .before .if2 .past) = ⊎-elim (λ w. step-one s t i (w .2 .result) (w .0 .taken) (w .2 .ensures ∙ ap (λ x. membersAt s x i) (w .1 .ensures)) (w .3) (w .4)) (⊎-elim (λ w. step-two s t i (w .3 .result) (w .2 .taken) (w .3 .ensures) (w .4) (w .5)) (λ w. step-other s t i (w .0 .left) (w .2 .left) (w .3 .result) (w .3 .ensures) (w .4) (w .5))) (c .before .if2 .came) in
+    step-value s t i z (c .if4 .left)
 
 comma-end-requires : tie.Need-comma-end-requires Inv-loop μ-loop
 comma-end-requires c κs = search needs
@@ -98,56 +88,48 @@ comma-end-requires c κs = search needs
 array-close-end-requires-2 : tie.Need-array-close-end-requires-2 Inv-loop μ-loop
 array-close-end-requires-2 c κs = search needs
 
-no-parts-requires-3 : tie.Need-no-parts-requires-3 Inv-loop μ-loop
-no-parts-requires-3 c κs = search needs
+no-parts-requires-4 : tie.Need-no-parts-requires-4 Inv-loop μ-loop
+no-parts-requires-4 c κs = search needs
 
 returns-3 : tie.Need-returns-3 Inv-loop μ-loop
 unfolding partsIn
 returns-3 c =
-    let a = c .before .before .before .before .before .before .before .before .before .before .before .before .before .before .before .before .args in
+    let a = c .before .before .before .before .before .before .before .before .before .before .before .before .before .before .before .before .before .args in
     let s = now (a .s) in
-    let i = c .before .before .before .before .before .before .before .before .loop .i in
-    let t = c .before .before .before .before .before .before .before .before .loop .outer in
-    let one = c .before .before .before .before .before .before .before .before .loop .one in
-    let two = c .before .before .before .before .before .before .before .before .loop .two in
-    let z : Step s t one two i (c .before .before .before .before .before .before .before .if2 .one) (c .before .before .before .before .before .before .before .if2 .two) (c .before .before .before .before .before .before .before .if2 .past) = ⊎-elim (λ w. step-one s t one two i (w .2 .result) (w .0 .taken) (w .2 .ensures ∙ ap (λ x. membersAt s x i) (w .1 .ensures)) (w .3) (w .4) (w .5)) (⊎-elim (λ w. step-two s t one two i (w .2 .result) (w .1 .taken) (w .2 .ensures) (w .3) (w .4) (w .5)) (λ w. step-other s t one two i (w .0 .left) (w .1 .left) (w .2 .result) (w .2 .ensures) (w .3) (w .4) (w .5))) (c .before .before .before .before .before .before .before .if2 .came) in
-    c .no-parts3 .ensures ∙ each-broken (withPart s) endedAt (noParts 0) 15 s (soFar t one two) (c .before .before .before .before .before .before .before .before .loop .inv) (c .before .before .before .before .before .before .before .if2 .past) (z .ends) (c .before .before .before .before .before .before .if4 .left) (c .before .before .before .before .comma-end .result) (c .before .before .before .before .comma-end .ensures) (c .before .before .before .if5 .taken) (c .before .before .array-close-end2 .result) (c .before .before .array-close-end2 .ensures) (c .before .if6 .taken)
+    let i = c .before .before .before .before .before .before .before .before .before .before .before .loop .i in
+    let t = c .before .before .before .before .before .before .before .before .before .before .before .loop .parts in
+    let z : Step s t i (c .before .before .before .before .before .before .before .before .if2 .parts) (c .before .before .before .before .before .before .before .before .if2 .past) = ⊎-elim (λ w. step-one s t i (w .2 .result) (w .0 .taken) (w .2 .ensures ∙ ap (λ x. membersAt s x i) (w .1 .ensures)) (w .3) (w .4)) (⊎-elim (λ w. step-two s t i (w .3 .result) (w .2 .taken) (w .3 .ensures) (w .4) (w .5)) (λ w. step-other s t i (w .0 .left) (w .2 .left) (w .3 .result) (w .3 .ensures) (w .4) (w .5))) (c .before .before .before .before .before .before .before .before .if2 .came) in
+    c .no-parts4 .ensures ∙ each-broken (withPart s) endedAt (noParts 0) 15 s t (c .before .before .before .before .before .before .before .before .before .before .before .loop .inv) (c .before .before .before .before .before .before .before .before .if2 .past) (z .ends) (c .before .before .before .before .before .before .before .if4 .left) (c .before .before .before .before .before .comma-end .result) (c .before .before .before .before .before .comma-end .ensures) (c .before .before .before .before .if5 .taken) (c .before .before .before .array-close-end2 .result) (c .before .before .before .array-close-end2 .ensures) (c .before .if6 .taken)
 
 returns-4 : tie.Need-returns-4 Inv-loop μ-loop
 unfolding partsIn
 returns-4 c =
-    let a = c .before .before .before .before .before .before .before .before .before .before .before .before .before .before .before .args in
+    let a = c .before .before .before .before .before .before .before .before .before .before .before .before .before .before .before .before .args in
     let s = now (a .s) in
-    let i = c .before .before .before .before .before .before .before .loop .i in
-    let t = c .before .before .before .before .before .before .before .loop .outer in
-    let one = c .before .before .before .before .before .before .before .loop .one in
-    let two = c .before .before .before .before .before .before .before .loop .two in
-    let z : Step s t one two i (c .before .before .before .before .before .before .if2 .one) (c .before .before .before .before .before .before .if2 .two) (c .before .before .before .before .before .before .if2 .past) = ⊎-elim (λ w. step-one s t one two i (w .2 .result) (w .0 .taken) (w .2 .ensures ∙ ap (λ x. membersAt s x i) (w .1 .ensures)) (w .3) (w .4) (w .5)) (⊎-elim (λ w. step-two s t one two i (w .2 .result) (w .1 .taken) (w .2 .ensures) (w .3) (w .4) (w .5)) (λ w. step-other s t one two i (w .0 .left) (w .1 .left) (w .2 .result) (w .2 .ensures) (w .3) (w .4) (w .5))) (c .before .before .before .before .before .before .if2 .came) in
-    each-last (withPart s) endedAt (noParts 0) 15 s (soFar t one two) (c .before .before .before .before .before .before .before .loop .inv) (c .before .before .before .before .before .before .if2 .past) (z .ends) (c .before .before .before .before .before .if4 .left) (c .before .before .before .comma-end .result) (c .before .before .before .comma-end .ensures) (c .before .before .if5 .taken) (c .before .array-close-end2 .result) (c .before .array-close-end2 .ensures) (c .if6 .left) (soFar (c .before .before .before .before .pass .result) (c .before .before .before .before .before .before .if2 .one) (c .before .before .before .before .before .before .if2 .two)) (step-part s t one two i z (c .before .before .before .before .before .if4 .left) (c .before .before .before .before .pass .result) (c .before .before .before .before .pass .ensures))
+    let i = c .before .before .before .before .before .before .before .before .before .before .loop .i in
+    let t = c .before .before .before .before .before .before .before .before .before .before .loop .parts in
+    let z : Step s t i (c .before .before .before .before .before .before .before .if2 .parts) (c .before .before .before .before .before .before .before .if2 .past) = ⊎-elim (λ w. step-one s t i (w .2 .result) (w .0 .taken) (w .2 .ensures ∙ ap (λ x. membersAt s x i) (w .1 .ensures)) (w .3) (w .4)) (⊎-elim (λ w. step-two s t i (w .3 .result) (w .2 .taken) (w .3 .ensures) (w .4) (w .5)) (λ w. step-other s t i (w .0 .left) (w .2 .left) (w .3 .result) (w .3 .ensures) (w .4) (w .5))) (c .before .before .before .before .before .before .before .if2 .came) in
+    each-last (withPart s) endedAt (noParts 0) 15 s t (c .before .before .before .before .before .before .before .before .before .before .loop .inv) (c .before .before .before .before .before .before .before .if2 .past) (z .ends) (c .before .before .before .before .before .before .if4 .left) (c .before .before .before .before .comma-end .result) (c .before .before .before .before .comma-end .ensures) (c .before .before .before .if5 .taken) (c .before .before .array-close-end2 .result) (c .before .before .array-close-end2 .ensures) (c .if6 .left) (withOuterOf (c .before .before .before .before .before .before .before .if2 .parts) (c .before .before .before .before .before .pass .result)) (step-part s t i z (c .before .before .before .before .before .before .if4 .left) (c .before .before .before .before .before .pass .result) (c .before .before .before .before .before .pass .ensures))
 
 loop-less : tie.Need-loop-less Inv-loop μ-loop
 loop-less c =
     let a = c .before .before .before .before .before .before .before .before .before .before .before .before .before .args in
     let s = now (a .s) in
-    let i = c .before .before .before .before .before .loop .i in
-    let t = c .before .before .before .before .before .loop .outer in
-    let one = c .before .before .before .before .before .loop .one in
-    let two = c .before .before .before .before .before .loop .two in
-    let z : Step s t one two i (c .before .before .before .before .if2 .one) (c .before .before .before .before .if2 .two) (c .before .before .before .before .if2 .past) = ⊎-elim (λ w. step-one s t one two i (w .2 .result) (w .0 .taken) (w .2 .ensures ∙ ap (λ x. membersAt s x i) (w .1 .ensures)) (w .3) (w .4) (w .5)) (⊎-elim (λ w. step-two s t one two i (w .2 .result) (w .1 .taken) (w .2 .ensures) (w .3) (w .4) (w .5)) (λ w. step-other s t one two i (w .0 .left) (w .1 .left) (w .2 .result) (w .2 .ensures) (w .3) (w .4) (w .5))) (c .before .before .before .before .if2 .came) in
-    let x = each-past (withPart s) endedAt (noParts 0) 15 s (soFar t one two) (c .before .before .before .before .before .loop .inv) (c .before .before .before .before .if2 .past) (z .ends) (c .before .before .before .if4 .left) in
-    let y = each-on (withPart s) endedAt (noParts 0) 15 s (soFar t one two) (c .before .before .before .before .before .loop .inv) (c .before .before .before .before .if2 .past) (z .ends) (c .before .before .before .if4 .left) (c .before .comma-end .result) (c .before .comma-end .ensures) (c .if5 .left) (soFar (c .before .before .pass .result) (c .before .before .before .before .if2 .one) (c .before .before .before .before .if2 .two)) (step-part s t one two i z (c .before .before .before .if4 .left) (c .before .before .pass .result) (c .before .before .pass .ensures)) in
+    let i = c .before .before .before .before .before .before .before .loop .i in
+    let t = c .before .before .before .before .before .before .before .loop .parts in
+    let z : Step s t i (c .before .before .before .before .if2 .parts) (c .before .before .before .before .if2 .past) = ⊎-elim (λ w. step-one s t i (w .2 .result) (w .0 .taken) (w .2 .ensures ∙ ap (λ x. membersAt s x i) (w .1 .ensures)) (w .3) (w .4)) (⊎-elim (λ w. step-two s t i (w .3 .result) (w .2 .taken) (w .3 .ensures) (w .4) (w .5)) (λ w. step-other s t i (w .0 .left) (w .2 .left) (w .3 .result) (w .3 .ensures) (w .4) (w .5))) (c .before .before .before .before .if2 .came) in
+    let x = each-past (withPart s) endedAt (noParts 0) 15 s t (c .before .before .before .before .before .before .before .loop .inv) (c .before .before .before .before .if2 .past) (z .ends) (c .before .before .before .if4 .left) in
+    let y = each-on (withPart s) endedAt (noParts 0) 15 s t (c .before .before .before .before .before .before .before .loop .inv) (c .before .before .before .before .if2 .past) (z .ends) (c .before .before .before .if4 .left) (c .before .comma-end .result) (c .before .comma-end .ensures) (c .if5 .left) (withOuterOf (c .before .before .before .before .if2 .parts) (c .before .before .pass .result)) (step-part s t i z (c .before .before .before .if4 .left) (c .before .before .pass .result) (c .before .before .pass .ensures)) in
     omega arith
 
 loop-again : tie.Need-loop-again Inv-loop μ-loop
 loop-again c =
     let a = c .before .before .before .before .before .before .before .before .before .before .before .before .before .args in
     let s = now (a .s) in
-    let i = c .before .before .before .before .before .loop .i in
-    let t = c .before .before .before .before .before .loop .outer in
-    let one = c .before .before .before .before .before .loop .one in
-    let two = c .before .before .before .before .before .loop .two in
-    let z : Step s t one two i (c .before .before .before .before .if2 .one) (c .before .before .before .before .if2 .two) (c .before .before .before .before .if2 .past) = ⊎-elim (λ w. step-one s t one two i (w .2 .result) (w .0 .taken) (w .2 .ensures ∙ ap (λ x. membersAt s x i) (w .1 .ensures)) (w .3) (w .4) (w .5)) (⊎-elim (λ w. step-two s t one two i (w .2 .result) (w .1 .taken) (w .2 .ensures) (w .3) (w .4) (w .5)) (λ w. step-other s t one two i (w .0 .left) (w .1 .left) (w .2 .result) (w .2 .ensures) (w .3) (w .4) (w .5))) (c .before .before .before .before .if2 .came) in
-    each-on (withPart s) endedAt (noParts 0) 15 s (soFar t one two) (c .before .before .before .before .before .loop .inv) (c .before .before .before .before .if2 .past) (z .ends) (c .before .before .before .if4 .left) (c .before .comma-end .result) (c .before .comma-end .ensures) (c .if5 .left) (soFar (c .before .before .pass .result) (c .before .before .before .before .if2 .one) (c .before .before .before .before .if2 .two)) (step-part s t one two i z (c .before .before .before .if4 .left) (c .before .before .pass .result) (c .before .before .pass .ensures)) .1
+    let i = c .before .before .before .before .before .before .before .loop .i in
+    let t = c .before .before .before .before .before .before .before .loop .parts in
+    let z : Step s t i (c .before .before .before .before .if2 .parts) (c .before .before .before .before .if2 .past) = ⊎-elim (λ w. step-one s t i (w .2 .result) (w .0 .taken) (w .2 .ensures ∙ ap (λ x. membersAt s x i) (w .1 .ensures)) (w .3) (w .4)) (⊎-elim (λ w. step-two s t i (w .3 .result) (w .2 .taken) (w .3 .ensures) (w .4) (w .5)) (λ w. step-other s t i (w .0 .left) (w .2 .left) (w .3 .result) (w .3 .ensures) (w .4) (w .5))) (c .before .before .before .before .if2 .came) in
+    each-on (withPart s) endedAt (noParts 0) 15 s t (c .before .before .before .before .before .before .before .loop .inv) (c .before .before .before .before .if2 .past) (z .ends) (c .before .before .before .if4 .left) (c .before .comma-end .result) (c .before .comma-end .ensures) (c .if5 .left) (withOuterOf (c .before .before .before .before .if2 .parts) (c .before .before .pass .result)) (step-part s t i z (c .before .before .before .if4 .left) (c .before .before .pass .result) (c .before .before .pass .ensures)) .1
 
 pub k-parts-spec : {M : Type 1} → statement M
 k-parts-spec =
@@ -159,20 +141,18 @@ k-parts-spec =
     no-parts-requires
     returns
     skip-blanks-requires
-    no-outer-requires
-    no-members-requires
-    no-members-requires-2
+    no-parts-requires-2
     loop-holds
-    no-members-requires-3
+    no-members-requires
     k-object-requires
     k-object-requires-2
     value-end-requires
-    no-parts-requires-2
+    no-parts-requires-3
     returns-2
     pass-requires
     comma-end-requires
     array-close-end-requires-2
-    no-parts-requires-3
+    no-parts-requires-4
     returns-3
     returns-4
     loop-less

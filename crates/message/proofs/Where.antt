@@ -1,12 +1,18 @@
 -- Where the entries of a message lie: those of a side, if there are any, are the array of entries at the position that its layout has.
 -- Assumes nothing.
-use mathlib.Core.Path.{_≡_, refl, sym, ap, _∙_}
+use mathlib.Core.Path.{_≡_, refl, sym, ap, _∙_, subst}
 use mathlib.Core.List.{List, [], _∷_}
-use mathlib.Core.Bool.{Bool, true, false, cond}
-use Prim.Native.Nat.{ℕ}
+use mathlib.Core.Bool.{Bool, true, false, true≢false, _&&_, not, cond}
+use Prim.Native.Nat.{ℕ, _≤_, _<_, _^_}
+use borrow.Author.Tests.{eqb-true, leb-true}
 use native.Mathlib.Omega.{arith}
 use Rattle.decimal.specs.Ascii.{ascii}
-use Rattle.decimal.specs.Digits.{Reading, reads, refused}
+use Rattle.decimal.specs.Digits.{Reading, reads, refused, leading, valueOf}
+use Rattle.decimal.specs.Decimal.{isWhole}
+use Rattle.decimal.specs.Whole.{readWhole}
+use Rattle.decimal.proofs.Digits.{Digits, leading-digits, value-below, tens-mono}
+use Rattle.decimal.proofs.Scan.{leading-whole}
+use Rattle.json.specs.Names.{part}
 use Rattle.json.specs.Json.{Span, Pair, text}
 use Rattle.settings.specs.Settings.{Terms}
 use Rattle.settings.specs.declared.Dialect.{Dialect}
@@ -16,8 +22,8 @@ use Rattle.entries.specs.Rows.{Row, entryK, entryM, entriesAt}
 use Rattle.layout.specs.Layout.{Printed, printed, unprinted, Listed, Layout, Heard, unlisted, listedAt, laid}
 use Rattle.message_k.specs.LayoutK.{Frame, frameOf, isSnapshot, isUpdate, together, listedOf, listedIn, objectsLayout, layoutK, heardK}
 use Rattle.message_m.specs.LayoutM.{isSnapshotAt, listedIn as listedInM, layoutM, heardM}
-use lib.Dec.{ltb}
-use lib.ListN.{length}
+use lib.Dec.{leb, ltb, eqb, lit<}
+use lib.ListN.{length, getD}
 use Rattle.message.specs.Meaning.{Checked, fails, passes, tooMany, counted, laidOut, addressed, heardIn, framed}
 use Rattle.message.specs.declared.Answer.{Answer}
 use Rattle.message.specs.declared.Answer.the-variants.{TooLong, NotJson, Escaped, NotOurs, BadLayout, TooManyEntries}
@@ -33,9 +39,11 @@ pub data Lies (entry : List ℕ → Span → Reading Row) (s : List ℕ) (l : Li
   nowhere : l .rows ≡ [] → Lies entry s l
   there : (to : ℕ) → entriesAt entry s (record { from = l .at; to = to }) ≡ reads (l .rows) → Lies entry s l
 
+-- The entries of both sides, and a sequence number of at most 19 digits.
 pub record LieIn (entry : List ℕ → Span → Reading Row) (s : List ℕ) (l : Layout) : Type 0 where
   pub bids : Lies entry s (l .bids)
   pub asks : Lies entry s (l .asks)
+  pub small : l .number < 10 ^ 19
 
 -- ---- what was read of what was read
 no-reading : {A B : Type 0} {b : B} → refused ≡ reads b → A
@@ -44,10 +52,37 @@ no-reading h = let z : _≡_ {A = ℕ} 0 1 = cc in absurd (omega arith)
 reads-same : {A : Type 0} {a b : A} → reads a ≡ reads b → a ≡ b
 reads-same h = cc
 
-then-reads : {A B : Type 0} (x : Reading A) (f : A → Reading B) (b : B) → andThen x f ≡ reads b → (a : A) × (f a ≡ reads b)
+then-reads : {A B : Type 0} (x : Reading A) (f : A → Reading B) (b : B) → andThen x f ≡ reads b → (a : A) × (f a ≡ reads b) × (x ≡ reads a)
 unfolding andThen
-then-reads (reads a) f b h = (a, h)
+then-reads (reads a) f b h = (a, h, refl)
 then-reads refused f b h = no-reading h
+
+-- ---- a whole number has at most 19 digits
+
+and-first : (a b : Bool) → (a && b) ≡ true → a ≡ true
+and-first true b h = refl
+and-first false b h = h
+
+and-second : (a b : Bool) → (a && b) ≡ true → b ≡ true
+and-second true b h = h
+and-second false b h = absurd (true≢false (sym h))
+
+below : {a b c : ℕ} → a < b → b ≤ c → a < c
+below p q = omega arith
+
+whole-small : (s : List ℕ) (n : ℕ) → readWhole s ≡ reads n → n < 10 ^ 19
+unfolding readWhole isWhole
+whole-small s n h = at (isWhole 19 s && eqb (length (leading s)) (length s)) refl h
+  where
+    at : (b : Bool) → (isWhole 19 s && eqb (length (leading s)) (length s)) ≡ b → elim b [ true ↦ reads (valueOf s) | false ↦ refused ] ≡ reads n → n < 10 ^ 19
+    at false q g = no-reading g
+    at true q g =
+        let w = and-first (isWhole 19 s) (eqb (length (leading s)) (length s)) q in
+        let e : length (leading s) ≡ length s = eqb-true (length (leading s)) (length s) (and-second (isWhole 19 s) (eqb (length (leading s)) (length s)) q) in
+        let k : length s ≤ 19 = leb-true (length s) 19 (and-first (leb (length s) 19) (not (ltb 1 (length s) && eqb (getD s 0 0) 48)) (and-second (leb 1 (length s)) (leb (length s) 19 && not (ltb 1 (length s) && eqb (getD s 0 0) 48)) w)) in
+        let v : valueOf s < 10 ^ length s = value-below (subst Digits (leading-whole s e) (leading-digits s)) in
+        let m : 10 ^ length s ≤ 10 ^ 19 = tens-mono (length s) 19 k in
+        subst (λ (x : ℕ). x < 10 ^ 19) (reads-same g) (below v m)
 
 -- ---- a side, and a layout of two
 module _ (entry : List ℕ → Span → Reading Row) (s : List ℕ) where
@@ -63,13 +98,13 @@ module _ (entry : List ℕ → Span → Reading Row) (s : List ℕ) where
 
   laid-lies : (snapshot : Bool) (p : Printed) (n : ℕ) (b a : Reading Listed)
       → ((x : Listed) → b ≡ reads x → Lies entry s x) → ((x : Listed) → a ≡ reads x → Lies entry s x)
-      → (l : Layout) → laid snapshot p n b a ≡ reads l → LieIn entry s l
+      → n < 10 ^ 19 → (l : Layout) → laid snapshot p n b a ≡ reads l → LieIn entry s l
   unfolding laid andThen
-  laid-lies snapshot p n (reads b) (reads a) f g l h =
+  laid-lies snapshot p n (reads b) (reads a) f g small l h =
       let e : l ≡ record { snapshot = snapshot; bids = b; asks = a; checksum = p; number = n } = sym (reads-same h) in
-      rw e (record { bids = f b refl; asks = g a refl })
-  laid-lies snapshot p n (reads b) refused f g l h = no-reading h
-  laid-lies snapshot p n refused a f g l h = no-reading h
+      rw e (record { bids = f b refl; asks = g a refl; small = small })
+  laid-lies snapshot p n (reads b) refused f g small l h = no-reading h
+  laid-lies snapshot p n refused a f g small l h = no-reading h
 
 -- ---- K
 module _ (s : List ℕ) where
@@ -93,11 +128,11 @@ module _ (s : List ℕ) where
           andThen (quotedChecksumAt s c) (λ sum. laid false (printed sum) 0 (listedIn s (ascii "b") o) (listedIn s (ascii "a") o))))
           refused)
           ≡ reads l → LieIn entryK s l
-      at true y g = laid-lies entryK s true unprinted 0 _ _ (lies (ascii "bs")) (lies (ascii "as")) l g
+      at true y g = laid-lies entryK s true unprinted 0 _ _ (lies (ascii "bs")) (lies (ascii "as")) (lit< tt) l g
       at false true g =
           let c = then-reads (only (valuesOf s (ascii "c") (together o))) _ l g in
           let d = then-reads (quotedChecksumAt s (c .0)) _ l (c .1) in
-          laid-lies entryK s false (printed (d .0)) 0 _ _ (lies (ascii "b")) (lies (ascii "a")) l (d .1)
+          laid-lies entryK s false (printed (d .0)) 0 _ _ (lies (ascii "b")) (lies (ascii "a")) (lit< tt) l (d .1)
       at false false g = no-reading g
 
   k-lies : (f : Frame) (l : Layout) → layoutK s f ≡ reads l → LieIn entryK s l
@@ -115,7 +150,7 @@ module _ (s : List ℕ) where
       listed-lies entryM s (a .0) x (a .1)
 
   m-lies : (ms : List Pair) (l : Layout) → layoutM s ms ≡ reads l → LieIn entryM s l
-  unfolding layoutM
+  unfolding layoutM wholeAt
   m-lies ms l h =
       let a = then-reads (only (valuesOf s (ascii "channel") ms)) _ l h in
       let b = then-reads (only (valuesOf s (ascii "product") ms)) _ l (a .1) in
@@ -127,7 +162,7 @@ module _ (s : List ℕ) where
       let n = then-reads (checksumAt s (k .0)) _ l (k .1) in
       let g = then-reads (only (valuesOf s (ascii "gsn") ms)) _ l (n .1) in
       let w = then-reads (wholeAt s (g .0)) _ l (g .1) in
-      laid-lies entryM s (t .0) (printed (n .0)) (w .0) _ _ (m-list-lies (ascii "bids") (o .0)) (m-list-lies (ascii "asks") (o .0)) l (w .1)
+      laid-lies entryM s (t .0) (printed (n .0)) (w .0) _ _ (m-list-lies (ascii "bids") (o .0)) (m-list-lies (ascii "asks") (o .0)) (whole-small (part s (g .0)) (w .0) (w .2)) l (w .1)
 
 -- ---- the whole: a message that passes checks 2 to 7, and one that passes 8 too
 no-pass : {A : Type 0} (a : Answer) (l : Layout) → fails a ≡ passes l → A

@@ -1,0 +1,447 @@
+-- A message that passes the checks of its text: what is heard of it, from what its entries make of the sides.
+-- Assumes nothing.
+use mathlib.Core.Path.{_≡_, refl, sym, ap, ap₂, _∙_, subst}
+use mathlib.Core.List.{List, [], _∷_, _++_, map}
+use mathlib.Core.Bool.{Bool, true, false, true≢false, _&&_, _||_, not, cond}
+use Prim.Native.Nat.{ℕ, _≤_, _<_, _^_}
+use native.Mathlib.Omega.{arith}
+use borrow.Author.Tests.{leb-true, eqb-true, ltb-false, le-ltb}
+use lib.Dec.{eqb, leb, ltb}
+use lib.ListN.{length, take, length-take, length-map}
+use Rattle.decimal.specs.Digits.{Reading, reads, refused}
+use Rattle.decimal.specs.Decimal.{Number, read, isZero}
+use Rattle.json.specs.Json.{Span}
+use Rattle.settings.specs.Settings.{Terms, good, goodDepth, goodName, termsOf}
+use Rattle.settings.specs.declared.Dialect.{Dialect}
+use Rattle.settings.specs.declared.Dialect.the-variants.{K, M, Unknown}
+use Rattle.entries.specs.Places.{inner}
+use Rattle.entries.specs.Rows.{Row, numberAt, badPrice, badSize, badTexts}
+use Rattle.entries.specs.Summary.{zeroSize, anyBroken, anyZero}
+use Rattle.entries.proofs.Claims.{zero-none}
+use Rattle.side.specs.Level.{PriceLevel, shown, shownPrice}
+use Rattle.side.specs.Side.{Edit, sets, removes, All, IsSet, named, namesTwice, applyAll, ranked, afterMessage, met}
+use Rattle.side.specs.Kept.{held, Empty}
+use Rattle.side.specs.declared.Side.{Side}
+use Rattle.side.specs.declared.Side.the-variants.{Bids, Asks}
+use Rattle.side.specs.declared.Levels.{Levels}
+use Rattle.side.specs.declared.Applied.{Applied}
+use Rattle.side.proofs.Lengths.{length-ranked, length-applyAll, afterMessage-whole}
+use Rattle.side.proofs.Meeting.{met-snapshot}
+use Rattle.sides.specs.Worked.{Sound, Ready, editsAt, Worked}
+use Rattle.layout.specs.Layout.{Layout, Listed}
+use Rattle.layout.specs.Told.{isPrinted, sumOf, outlineOf}
+use Rattle.layout.specs.declared.Outline.{Outline}
+use Rattle.message.specs.Meaning.{Quote, Message, quoteAt, quotesOf, messageOf, bad, passes, checked}
+use Rattle.message.specs.declared.Answer.the-variants.{Taken, PriceTwice, NoSnapshot, OldNumber, TooManyLevels, WrongChecksum}
+use Rattle.message.proofs.Where.{entryIn, LieIn, framed-lies}
+use Rattle.book.specs.Reference.{Status, isShut, isLive, Reference, editOf, cut, afterQuotes, bidsAfter, asksAfter, pricesOf, isM, checksumOf, namesPriceTwice, lacksSnapshot, isOld, hasTooMany, hasWrongChecksum, verdict, oneMore, After, taken, refusedBy, answered, hear}
+use Rattle.book.specs.Shown.{statusOf, shows, Good, Told}
+use Rattle.book.specs.Taking.{Passed, refusedStep, keptStep, settledStep}
+use Rattle.book.specs.declared.Book.{Book}
+use Rattle.book.specs.declared.State.{State}
+use Rattle.book.specs.declared.State.the-variants.{Live}
+use Rattle.book.specs.declared.Step.{Step}
+use Rattle.book.proofs.Refusing.{refused-told, told-as, hear-passes, nine, ten, eleven, twelve, thirteen, none-fits, snapshot-not-old, snapshot-lacks-none, update-names-once, update-lacks, update-old, differs-is}
+use Rattle.book.proofs.Entering.{Readable, is-k, is-m, good-readable, also-framed, framed-few, listed-ready, listed-edits}
+
+-- ---- settings
+
+and-first : (a b : Bool) → (a && b) ≡ true → a ≡ true
+and-first true b h = refl
+and-first false b h = h
+
+and-second : (a b : Bool) → (a && b) ≡ true → b ≡ true
+and-second true b h = h
+and-second false b h = absurd (true≢false (sym h))
+
+depth-goes : (d : Dialect) (depth : ℕ) → goodDepth d depth ≡ true → (depth ≤ 100) × (isM d ≡ true → depth ≡ 100)
+unfolding goodDepth isM
+depth-goes K depth h = (leb-true depth 100 (and-second (leb 10 depth) (leb depth 100) h), λ e. absurd (true≢false (sym e)))
+depth-goes M depth h = let e : depth ≡ 100 = eqb-true depth 100 h in (omega arith, λ q. e)
+depth-goes Unknown depth h = absurd (true≢false (sym h))
+
+pub good-depth : (t : Terms) → good t ≡ true → (t .depth ≤ 100) × (isM (t .dialect) ≡ true → t .depth ≡ 100)
+unfolding good
+good-depth t h = depth-goes (t .dialect) (t .depth) (and-first (goodDepth (t .dialect) (t .depth)) (goodName (t .name)) h)
+
+-- ---- a side after entries, cut in K and not in M
+
+module _ {d : Dialect} (r : Readable d) (depth : ℕ) (hundred : isM d ≡ true → depth ≡ 100) (side : Side) (es : List (Edit PriceLevel)) (base : List PriceLevel) where
+  abbrev worked : List PriceLevel
+  worked = applyAll shownPrice es base
+
+  pub after-is : (isM d ≡ true → length worked ≤ 100) → afterMessage shownPrice side depth es base ≡ cut d depth (ranked shownPrice side worked)
+  unfolding cut afterMessage isM
+  after-is few = go r hundred few
+    where
+      go : {e : Dialect} → Readable e → (isM e ≡ true → depth ≡ 100) → (isM e ≡ true → length worked ≤ 100) → take depth (ranked shownPrice side worked) ≡ cut e depth (ranked shownPrice side worked)
+      go is-k x y = refl
+      go is-m x y = let a = x refl in let b = y refl in afterMessage-whole shownPrice side depth es base (omega arith)
+
+  pub after-length : isM d ≡ true → length (cut d depth (ranked shownPrice side worked)) ≡ length worked
+  unfolding cut isM
+  after-length h = go r h
+    where
+      go : {e : Dialect} → Readable e → isM e ≡ true → length (cut e depth (ranked shownPrice side worked)) ≡ length worked
+      go is-k x = absurd (true≢false (sym x))
+      go is-m x = length-ranked shownPrice side worked
+
+after-few : (side : Side) (depth : ℕ) (es : List (Edit PriceLevel)) (base : List PriceLevel) → length (afterMessage shownPrice side depth es base) ≤ depth
+unfolding afterMessage
+after-few side depth es base = let n = length-take depth (ranked shownPrice side (applyAll shownPrice es base)) in omega arith
+
+-- ---- the prices of a snapshot
+
+size-positive : (s : List ℕ) (a : Span) → badSize false s a ≡ false → zeroSize s a ≡ false → isZero (numberAt s a) ≡ false
+unfolding badSize zeroSize numberAt
+size-positive s a h g = go (read (inner s a)) h g
+  where
+    go : (x : Reading Number) → elim x [ reads n ↦ false && isZero n | refused ↦ true ] ≡ false → elim x [ reads n ↦ isZero n | refused ↦ false ] ≡ false
+        → isZero (elim x [ reads n ↦ n | refused ↦ record { digits = 0; decimals = 0 } ]) ≡ false
+    go (reads n) p q = q
+    go refused p q = absurd (true≢false p)
+
+or-none : (a b : Bool) → (a || b) ≡ false → (a ≡ false) × (b ≡ false)
+or-none true b h = absurd (true≢false h)
+or-none false b h = (refl, h)
+
+sets-all : (s : List ℕ) (rows : List Row) → anyBroken s rows ≡ false → anyZero s rows ≡ false → All IsSet (map editOf (map (quoteAt s) rows))
+unfolding All anyBroken anyZero editOf quoteAt IsSet
+sets-all s [] h g = tt
+sets-all s (r ∷ l) h g =
+    let a = or-none (badPrice s (r .price) || badSize false s (r .size)) (anyBroken s l) h in
+    let b = or-none (badPrice s (r .price)) (badSize false s (r .size)) (a .0) in
+    let c = or-none (zeroSize s (r .size)) (anyZero s l) g in
+    (one (isZero (numberAt s (r .size))) (size-positive s (r .size) (b .1) (c .0)), sets-all s l (a .1) (c .1))
+  where
+    one : (t : Bool) → t ≡ false → IsSet {A = PriceLevel} (cond t (removes (numberAt s (r .price))) (sets (record { price = numberAt s (r .price); size = numberAt s (r .size) })))
+    one true e = absurd (true≢false e)
+    one false e = tt
+
+names-are : (qs : List Quote) → map (named shownPrice) (map editOf qs) ≡ pricesOf qs
+unfolding named editOf
+names-are [] = refl
+names-are (q ∷ qs) = ap₂ (λ (x : Number) (y : List Number). x ∷ y) (at (isZero (q .size))) (names-are qs)
+  where
+    at : (t : Bool) → named shownPrice (cond t (removes (q .price)) (sets (record { price = q .price; size = q .size }))) ≡ q .price
+    at true = refl
+    at false = refl
+
+-- nothing stands in two lists that make none
+append-none : {A : Type 0} (x y : List A) → x ++ y ≡ [] → (x ≡ []) × (y ≡ [])
+append-none [] y h = (refl, h)
+append-none (a ∷ x) y h = let z : _≡_ {A = ℕ} 0 1 = cc in absurd (omega arith)
+
+or-second : (a : Bool) → (a || true) ≡ true
+or-second true = refl
+or-second false = refl
+
+-- the levels of two sides are too many, in M, where their counts are
+pub over-is : (t : Bool) (x y u v : ℕ) → (t ≡ true → x ≡ u) → (t ≡ true → y ≡ v) → (t && (ltb 100 x || ltb 100 y)) ≡ (t && (ltb 100 u || ltb 100 v))
+over-is true x y u v f g = rw (f refl, g refl)
+over-is false x y u v f g = refl
+
+-- ---- a message that passes
+
+module _ (b : Book) (s : List ℕ) (o : Outline) (k : Passed b s o) where
+  abbrev p : Reference
+  p = shows b
+
+  abbrev l : Layout
+  l = k .layout
+
+  abbrev m : Message
+  m = messageOf s l
+
+  abbrev d : Dialect
+  d = b .settings .dialect
+
+  abbrev terms : Terms
+  terms = termsOf (b .settings)
+
+  good-terms : good terms ≡ true
+  good-terms = k .good .terms (k .unshut)
+
+  readable : Readable d
+  unfolding termsOf
+  readable = good-readable terms good-terms
+
+  pub depth-most : b .settings .depth ≤ 100
+  unfolding termsOf
+  depth-most = good-depth terms good-terms .0
+
+  hundred : isM d ≡ true → b .settings .depth ≡ 100
+  unfolding termsOf
+  hundred = good-depth terms good-terms .1
+
+  lie : LieIn (entryIn d) s l
+  unfolding termsOf
+  lie = framed-lies terms s l (also-framed terms s l (k .fair) .0)
+
+  few : (length (l .bids .rows) ≤ 100) × (length (l .asks .rows) ≤ 100)
+  few = framed-few terms s l (also-framed terms s l (k .fair) .0)
+
+  -- what the outline has
+  pub ready-bids : Ready (isM d) s (o .«bids_at») (o .bids)
+  unfolding outlineOf
+  ready-bids = rw (k .told) (listed-ready readable s (l .bids) (few .0) (lie .bids))
+
+  pub ready-asks : Ready (isM d) s (o .«asks_at») (o .asks)
+  unfolding outlineOf
+  ready-asks = rw (k .told) (listed-ready readable s (l .asks) (few .1) (lie .asks))
+
+  bids-edits : editsAt (isM d) s (o .«bids_at») (o .bids) ≡ map editOf (m .bids)
+  unfolding outlineOf messageOf
+  bids-edits = ap (λ (x : Outline). editsAt (isM d) s (x .«bids_at») (x .bids)) (k .told) ∙ listed-edits readable s (l .bids) (few .0) (lie .bids)
+
+  asks-edits : editsAt (isM d) s (o .«asks_at») (o .asks) ≡ map editOf (m .asks)
+  unfolding outlineOf messageOf
+  asks-edits = ap (λ (x : Outline). editsAt (isM d) s (x .«asks_at») (x .asks)) (k .told) ∙ listed-edits readable s (l .asks) (few .1) (lie .asks)
+
+  o-snapshot : m .snapshot ≡ o .snapshot
+  unfolding outlineOf messageOf
+  o-snapshot = sym (ap (λ (x : Outline). x .snapshot) (k .told))
+
+  o-number : m .number ≡ o .number
+  unfolding outlineOf messageOf
+  o-number = sym (ap (λ (x : Outline). x .number) (k .told))
+
+  o-small : o .number < 10 ^ 19
+  unfolding outlineOf
+  o-small = rw (k .told) (lie .small)
+
+  o-checksum : (sum : ℕ) → (o .printed && not (eqb (o .checksum) sum)) ≡ (isPrinted (m .checksum) && not (eqb (sumOf (m .checksum)) sum))
+  unfolding outlineOf messageOf
+  o-checksum sum = ap (λ (x : Outline). x .printed && not (eqb (x .checksum) sum)) (k .told)
+
+  heard-is : hear p s ≡ answered p m (verdict p m)
+  unfolding shows
+  heard-is = hear-passes p s (k .unshut) l (k .fair)
+
+  refuse-as : (a : _) → answered p m (verdict p m) ≡ refusedBy p a → Told (hear p s) (refusedStep b a)
+  refuse-as a e = told-as (refusedStep b a) (heard-is ∙ e) (refused-told b (k .good) (k .unshut) a)
+
+  -- ---- check 13, and then the book with these sides
+  module _ (bids asks : Levels) (updates : ℕ) (ever : Bool) where
+    pub record Settles : Type 0 where
+      pub bids-sound : Sound (isM d) Bids bids
+      pub asks-sound : Sound (isM d) Asks asks
+      pub bids-few : length (held bids) ≤ b .settings .depth
+      pub asks-few : length (held asks) ≤ b .settings .depth
+      pub bids-are : map shown (held bids) ≡ bidsAfter p m
+      pub asks-are : map shown (held asks) ≡ asksAfter p m
+      pub counts : updates ≡ cond (m .snapshot) 0 (oneMore (b .updates))
+      pub was : ever ≡ (m .snapshot || b .ever)
+      pub not-twice : namesPriceTwice m ≡ false
+      pub not-lacking : lacksSnapshot p m ≡ false
+      pub not-old : isOld p m ≡ false
+      pub not-many : hasTooMany p m ≡ false
+
+    pub settled-told : Settles → Told (hear p s) (settledStep b o bids asks updates ever)
+    unfolding settledStep hasWrongChecksum shows termsOf keptStep taken statusOf
+    settled-told z = at (hasWrongChecksum p m) refl
+      where
+        test : (o .printed && not (eqb (o .checksum) (checksumOf d (map shown (held bids)) (map shown (held asks))))) ≡ hasWrongChecksum p m
+        test =
+            o-checksum (checksumOf d (map shown (held bids)) (map shown (held asks)))
+            ∙ sym (differs-is (m .checksum) (checksumOf d (map shown (held bids)) (map shown (held asks))))
+            ∙ rw (z .bids-are, z .asks-are)
+
+        fresh : Told (record { book = taken p m; answer = Taken }) (keptStep b (o .number) bids asks updates ever)
+        fresh =
+            record {
+              good = record {
+                room = k .good .room;
+                short = k .good .short;
+                terms = λ h. good-terms;
+                bids = z .bids-sound;
+                asks = z .asks-sound;
+                few-bids = z .bids-few;
+                few-asks = z .asks-few;
+                small = o-small;
+              };
+              same = rw (z .bids-are, z .asks-are, z .counts, z .was, o-number);
+              answer = refl;
+            }
+
+        at : (t : Bool) → hasWrongChecksum p m ≡ t → Told (hear p s)
+            (cond (o .printed && not (eqb (o .checksum) (checksumOf d (map shown (held bids)) (map shown (held asks))))) (refusedStep b WrongChecksum) (keptStep b (o .number) bids asks updates ever))
+        at true e = rw (test ∙ e) (refuse-as WrongChecksum (thirteen p m (z .not-twice) (z .not-lacking) (z .not-old) (z .not-many) e))
+        at false e = rw (test ∙ e) (told-as (keptStep b (o .number) bids asks updates ever) (heard-is ∙ none-fits p m (z .not-twice) (z .not-lacking) (z .not-old) (z .not-many) e) fresh)
+
+  -- ---- what entries make of the two sides
+
+  none-held : (none : Levels) → Empty none → map shown (held none) ≡ []
+  none-held none e = ap (map shown) (e .none)
+
+  -- a side with the message's entries applied to it is the side after the message
+  module _ (side : Side) (qs : List Quote) (kept : Levels) (base : List PriceLevel) (at count : ℕ) (a : Applied)
+      (stood : map shown (held kept) ≡ base) (edits : editsAt (isM d) s at count ≡ map editOf qs)
+      (w : Worked (isM d) side (b .settings .depth) (editsAt (isM d) s at count) kept a) where
+    levels-are : map shown (held (a .levels)) ≡ afterMessage shownPrice side (b .settings .depth) (map editOf qs) base
+    levels-are = w .levels ∙ ap₂ (λ (x : List (Edit PriceLevel)) (y : List PriceLevel). afterMessage shownPrice side (b .settings .depth) x y) edits stood
+
+    count-is : a .count ≡ length (applyAll shownPrice (map editOf qs) base)
+    count-is = w .count ∙ ap₂ (λ (x : List (Edit PriceLevel)) (y : List PriceLevel). length (applyAll shownPrice x y)) edits stood
+
+    met-is : a .met ≡ met shownPrice (map editOf qs) base
+    met-is = w .met ∙ ap₂ (λ (x : List (Edit PriceLevel)) (y : List PriceLevel). met shownPrice x y) edits stood
+
+    levels-few : length (held (a .levels)) ≤ b .settings .depth
+    levels-few =
+        let x = length-map (held (a .levels)) shown in
+        let y = ap length levels-are in
+        let z = after-few side (b .settings .depth) (map editOf qs) base in
+        omega arith
+
+    after-same : (isM d ≡ true → a .count ≤ 100) → map shown (held (a .levels)) ≡ afterQuotes terms side qs base
+    unfolding afterQuotes termsOf
+    after-same f = levels-are ∙ after-is readable (b .settings .depth) hundred side (map editOf qs) base (λ e. let x = f e in let y = count-is in omega arith)
+
+    length-is : isM d ≡ true → length (afterQuotes terms side qs base) ≡ a .count
+    unfolding afterQuotes termsOf
+    length-is e = after-length readable (b .settings .depth) hundred side (map editOf qs) base e ∙ sym count-is
+
+  -- ---- a snapshot, whose entries are applied to an empty side
+  module _ (h : o .snapshot ≡ true) (none : Levels) (e : Empty none) (bids asks : Applied)
+      (wb : Worked (isM d) Bids (b .settings .depth) (editsAt (isM d) s (o .«bids_at») (o .bids)) none bids)
+      (wa : Worked (isM d) Asks (b .settings .depth) (editsAt (isM d) s (o .«asks_at») (o .asks)) none asks) where
+    is-snapshot : m .snapshot ≡ true
+    is-snapshot = o-snapshot ∙ h
+
+    good-texts : (badTexts true s (l .bids .rows) ≡ []) × (badTexts true s (l .asks .rows) ≡ [])
+    unfolding bad messageOf
+    good-texts =
+        let n = also-framed terms s l (k .fair) .1 in
+        let q : l .snapshot ≡ true = is-snapshot in
+        let n′ : badTexts true s (l .bids .rows) ++ badTexts true s (l .asks .rows) ≡ [] = subst (λ (x : Bool). badTexts x s (l .bids .rows) ++ badTexts x s (l .asks .rows) ≡ []) q n in
+        append-none (badTexts true s (l .bids .rows)) (badTexts true s (l .asks .rows)) n′
+
+    bids-met : bids .met ≡ namesTwice (pricesOf (m .bids))
+    unfolding messageOf
+    bids-met =
+        let z = zero-none s (l .bids .rows) (good-texts .0) in
+        met-is Bids (m .bids) none [] (o .«bids_at») (o .bids) bids (none-held none e) bids-edits wb
+        ∙ met-snapshot shownPrice (map editOf (m .bids)) (sets-all s (l .bids .rows) (z .0) (z .1)) ∙ ap namesTwice (names-are (m .bids))
+
+    asks-met : asks .met ≡ namesTwice (pricesOf (m .asks))
+    unfolding messageOf
+    asks-met =
+        let z = zero-none s (l .asks .rows) (good-texts .1) in
+        met-is Asks (m .asks) none [] (o .«asks_at») (o .asks) asks (none-held none e) asks-edits wa
+        ∙ met-snapshot shownPrice (map editOf (m .asks)) (sets-all s (l .asks .rows) (z .0) (z .1)) ∙ ap namesTwice (names-are (m .asks))
+
+    twice-is : namesPriceTwice m ≡ (bids .met || asks .met)
+    unfolding namesPriceTwice
+    twice-is = rw (is-snapshot, namesPriceTwice, bids-met, asks-met)
+
+    pub snapshot-bids-twice : bids .met ≡ true → Told (hear p s) (refusedStep b PriceTwice)
+    snapshot-bids-twice x = refuse-as PriceTwice (nine p m (twice-is ∙ rw x))
+
+    pub snapshot-asks-twice : asks .met ≡ true → Told (hear p s) (refusedStep b PriceTwice)
+    snapshot-asks-twice x = refuse-as PriceTwice (nine p m (twice-is ∙ ap (λ (y : Bool). bids .met || y) x ∙ or-second (bids .met)))
+
+    few-bids : bids .count ≤ 100
+    unfolding messageOf
+    few-bids =
+        let c = count-is Bids (m .bids) none [] (o .«bids_at») (o .bids) bids (none-held none e) bids-edits wb in
+        let n = length-applyAll shownPrice (map editOf (m .bids)) [] in
+        let x = length-map (m .bids) editOf in
+        let y = length-map (l .bids .rows) (quoteAt s) in
+        let f = few .0 in
+        omega arith
+
+    few-asks : asks .count ≤ 100
+    unfolding messageOf
+    few-asks =
+        let c = count-is Asks (m .asks) none [] (o .«asks_at») (o .asks) asks (none-held none e) asks-edits wa in
+        let n = length-applyAll shownPrice (map editOf (m .asks)) [] in
+        let x = length-map (m .asks) editOf in
+        let y = length-map (l .asks .rows) (quoteAt s) in
+        let f = few .1 in
+        omega arith
+
+    pub snapshot-settles : bids .met ≡ false → asks .met ≡ false → Settles (bids .levels) (asks .levels) 0 true
+    unfolding bidsAfter asksAfter hasTooMany shows termsOf
+    snapshot-settles x y =
+        record {
+          bids-sound = wb .sound;
+          asks-sound = wa .sound;
+          bids-few = levels-few Bids (m .bids) none [] (o .«bids_at») (o .bids) bids (none-held none e) bids-edits wb;
+          asks-few = levels-few Asks (m .asks) none [] (o .«asks_at») (o .asks) asks (none-held none e) asks-edits wa;
+          bids-are = rw is-snapshot (after-same Bids (m .bids) none [] (o .«bids_at») (o .bids) bids (none-held none e) bids-edits wb (λ q. few-bids));
+          asks-are = rw is-snapshot (after-same Asks (m .asks) none [] (o .«asks_at») (o .asks) asks (none-held none e) asks-edits wa (λ q. few-asks));
+          counts = rw is-snapshot;
+          was = rw is-snapshot;
+          not-twice = twice-is ∙ rw (x, y);
+          not-lacking = snapshot-lacks-none p m is-snapshot;
+          not-old = snapshot-not-old p m is-snapshot;
+          not-many = rw is-snapshot
+            (over-is (isM d) _ _ (bids .count) (asks .count)
+            (length-is Bids (m .bids) none [] (o .«bids_at») (o .bids) bids (none-held none e) bids-edits wb)
+            (length-is Asks (m .asks) none [] (o .«asks_at») (o .asks) asks (none-held none e) asks-edits wa)
+            ∙ none-over (isM d));
+        }
+      where
+        none-over : (t : Bool) → (t && (ltb 100 (bids .count) || ltb 100 (asks .count))) ≡ false
+        none-over true = let u = le-ltb 100 (bids .count) few-bids in let v = le-ltb 100 (asks .count) few-asks in rw (u, v)
+        none-over false = refl
+
+  -- ---- an update
+
+  module _ (h : o .snapshot ≡ false) where
+    is-update : m .snapshot ≡ false
+    is-update = o-snapshot ∙ h
+
+    pub update-waits : isLive (p .status) ≡ false → Told (hear p s) (refusedStep b NoSnapshot)
+    update-waits x = refuse-as NoSnapshot (ten p m (update-names-once m is-update) (update-lacks p m false is-update x))
+
+    module _ (live : isLive (p .status) ≡ true) where
+      lacks-none : lacksSnapshot p m ≡ false
+      lacks-none = update-lacks p m true is-update live
+
+      old-is : isOld p m ≡ (isM d && leb (o .number) (b .number))
+      unfolding shows termsOf
+      old-is = update-old p m is-update ∙ ap (λ (x : ℕ). isM d && leb x (b .number)) o-number
+
+      pub update-is-old : (isM d && leb (o .number) (b .number)) ≡ true → Told (hear p s) (refusedStep b OldNumber)
+      update-is-old x = refuse-as OldNumber (eleven p m (update-names-once m is-update) lacks-none (old-is ∙ x))
+
+      module _ (new : (isM d && leb (o .number) (b .number)) ≡ false) (bids asks : Applied)
+          (wb : Worked (isM d) Bids (b .settings .depth) (editsAt (isM d) s (o .«bids_at») (o .bids)) (b .bids) bids)
+          (wa : Worked (isM d) Asks (b .settings .depth) (editsAt (isM d) s (o .«asks_at») (o .asks)) (b .asks) asks) where
+        many-is : hasTooMany p m ≡ (isM d && (ltb 100 (bids .count) || ltb 100 (asks .count)))
+        unfolding bidsAfter asksAfter hasTooMany shows termsOf
+        many-is =
+            rw is-update
+            (over-is (isM d) _ _ (bids .count) (asks .count)
+            (length-is Bids (m .bids) (b .bids) (map shown (held (b .bids))) (o .«bids_at») (o .bids) bids refl bids-edits wb)
+            (length-is Asks (m .asks) (b .asks) (map shown (held (b .asks))) (o .«asks_at») (o .asks) asks refl asks-edits wa))
+
+        pub update-is-over : (isM d && (ltb 100 (bids .count) || ltb 100 (asks .count))) ≡ true → Told (hear p s) (refusedStep b TooManyLevels)
+        update-is-over x = refuse-as TooManyLevels (twelve p m (update-names-once m is-update) lacks-none (old-is ∙ new) (many-is ∙ x))
+
+        pub update-settles : (isM d && (ltb 100 (bids .count) || ltb 100 (asks .count))) ≡ false → (updates : ℕ) → updates ≡ oneMore (b .updates)
+            → Settles (bids .levels) (asks .levels) updates (b .ever)
+        unfolding bidsAfter asksAfter shows termsOf
+        update-settles x updates u =
+            record {
+              bids-sound = wb .sound;
+              asks-sound = wa .sound;
+              bids-few = levels-few Bids (m .bids) (b .bids) (map shown (held (b .bids))) (o .«bids_at») (o .bids) bids refl bids-edits wb;
+              asks-few = levels-few Asks (m .asks) (b .asks) (map shown (held (b .asks))) (o .«asks_at») (o .asks) asks refl asks-edits wa;
+              bids-are = rw is-update (after-same Bids (m .bids) (b .bids) (map shown (held (b .bids))) (o .«bids_at») (o .bids) bids refl bids-edits wb (λ e. within (isM d) e x .0));
+              asks-are = rw is-update (after-same Asks (m .asks) (b .asks) (map shown (held (b .asks))) (o .«asks_at») (o .asks) asks refl asks-edits wa (λ e. within (isM d) e x .1));
+              counts = rw is-update u;
+              was = rw is-update refl;
+              not-twice = update-names-once m is-update;
+              not-lacking = lacks-none;
+              not-old = old-is ∙ new;
+              not-many = many-is ∙ x;
+            }
+          where
+            within : (t : Bool) → t ≡ true → (t && (ltb 100 (bids .count) || ltb 100 (asks .count))) ≡ false → (bids .count ≤ 100) × (asks .count ≤ 100)
+            within true e f =
+                let g = or-none (ltb 100 (bids .count)) (ltb 100 (asks .count)) f in
+                (ltb-false 100 (bids .count) (g .0), ltb-false 100 (asks .count) (g .1))
+            within false e f = absurd (true≢false (sym e))

@@ -2,3 +2,4 @@
 pub mod Refusing
 pub mod Entering
 pub mod Settling
+pub mod Asking

@@ -21,7 +21,12 @@ use Rattle.layout.specs.Told.{outlineOf}
 use Rattle.decimal.specs.Digits.{reads}
 use Rattle.book.specs.Reference.{Status, isShut, isLive, Reference, isM, checksumOf, namesPriceTwice, lacksSnapshot, isOld, hasTooMany, differs, hasWrongChecksum, bidsAfter, asksAfter, verdict, After, taken, leavesStatus, setWaiting, refusedBy, isTaken, answered, hearing, hear}
 use Rattle.book.specs.Shown.{statusOf, shows, Good, Told}
-use Rattle.book.specs.Taking.{waitingBook, refusedStep}
+use Rattle.book.specs.Taking.{waitingBook, refusedStep, keptStep, settledStep}
+use Rattle.book.specs.declared.State.the-variants.{Waiting}
+use Rattle.side.specs.Level.{shown}
+use Rattle.side.specs.Kept.{held}
+use Rattle.side.specs.declared.Levels.{Levels}
+use borrow.Author.Tests.{eq-eqb, ne-eqb}
 use Rattle.book.specs.declared.Book.{Book}
 use Rattle.book.specs.declared.Step.{Step}
 
@@ -150,3 +155,31 @@ pub differs-is : (c : Printed) (sum : ℕ) → differs c sum ≡ (isPrinted c &&
 unfolding differs isPrinted sumOf
 differs-is (printed n) sum = refl
 differs-is unprinted sum = refl
+
+-- ---- the steps of the code, one test at a time
+
+module _ (b : Book) (a : Answer) where
+  pub step-left : leavesStatus a ≡ true → record { book = b; answer = a } ≡ refusedStep b a
+  unfolding refusedStep
+  step-left h = sym (rw (h, refusedStep))
+
+  pub step-waiting : leavesStatus a ≡ false
+      → record { book = record { settings = b .settings; state = Waiting; ever = b .ever; bids = b .bids; asks = b .asks; number = b .number; updates = b .updates }; answer = a } ≡ refusedStep b a
+  unfolding refusedStep waitingBook
+  step-waiting h = sym (rw (h, refusedStep))
+
+module _ (b : Book) (o : Outline) (bids asks : Levels) (updates : ℕ) (ever : Bool) where
+  abbrev sum : ℕ
+  sum = checksumOf (b .settings .dialect) (map shown (held bids)) (map shown (held asks))
+
+  pub settle-unprinted : o .printed ≡ false → keptStep b (o .number) bids asks updates ever ≡ settledStep b o bids asks updates ever
+  unfolding settledStep
+  settle-unprinted h = sym (rw (h, settledStep))
+
+  pub settle-right : o .printed ≡ true → o .checksum ≡ sum → keptStep b (o .number) bids asks updates ever ≡ settledStep b o bids asks updates ever
+  unfolding settledStep
+  settle-right h g = let e = eq-eqb (o .checksum) sum g in sym (rw (h, e, settledStep))
+
+  pub settle-wrong : o .printed ≡ true → (o .checksum ≡ sum → ⊥) → refusedStep b WrongChecksum ≡ settledStep b o bids asks updates ever
+  unfolding settledStep
+  settle-wrong h g = let e = ne-eqb (o .checksum) sum g in sym (rw (h, e, settledStep))

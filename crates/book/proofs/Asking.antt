@@ -1,0 +1,267 @@
+-- Questions: what a book answers is what the reference book answers.
+-- Assumes nothing.
+use mathlib.Core.Path.{_≡_, refl, sym, ap, ap₂, _∙_, subst}
+use mathlib.Core.List.{List, [], _∷_, map}
+use mathlib.Core.Bool.{Bool, true, false, true≢false, cond}
+use Prim.Native.Nat.{ℕ, zero, suc}
+use native.Mathlib.Omega.{arith}
+use lib.Dec.{lit<}
+use lib.ListN.{length, length-take, length-map}
+use Rattle.decimal.specs.Decimal.{Number, number}
+use Rattle.decimal.specs.declared.Decimal.{Decimal}
+use Rattle.settings.specs.Settings.{Terms, good, goodDepth, goodName, kept, shut, termsOf, Chosen}
+use Rattle.settings.specs.declared.Settings.{Settings}
+use Rattle.settings.specs.declared.Dialect.{Dialect}
+use Rattle.settings.specs.declared.Dialect.the-variants.{K, M, Unknown}
+use Rattle.side.specs.Level.{PriceLevel, levelPrice, levelSize, shown}
+use Rattle.side.specs.Kept as kept·
+use Rattle.side.specs.Kept.{held, Empty}
+use Rattle.side.specs.Side.{All}
+use Rattle.side.specs.declared.Side.{Side}
+use Rattle.side.specs.declared.Side.the-variants.{Bids, Asks}
+use Rattle.side.specs.declared.Level.{Level}
+use Rattle.side.specs.declared.Levels.{Levels}
+use Rattle.side.specs.declared.Found.{Found}
+use Rattle.side.specs.declared.Found.the-variants.{At, Nothing}
+use Rattle.sides.specs.Worked.{Sound}
+use Rattle.message.specs.Answers.{number as numberOf}
+use Rattle.message.specs.declared.Answer.{Answer}
+use Rattle.message.specs.declared.Answer.the-variants.{Taken, Shut, NoSnapshot, NoLevel}
+use Rattle.book.specs.Reference as r·
+use Rattle.book.specs.Reference.{Status, shut as shut′, waiting, live, isShut, isM, Reference, opened, stands, asked, isTaken, ifTaken, Place, standing, absent, placeAt, placeAnswer, placeLevel, noLevel, sideOf, askedLevel, levelAsked, counts, level, amount, does, howMany, levelAt, whichNumber, howManyUpdates}
+use Rattle.book.specs.Shown.{statusOf, shows, Good, Opened, AnswersCounts, AnswersLevel, AnswersAmount}
+use Rattle.book.specs.Asking.{firstState, answers, refusalOf, levelIn}
+use Rattle.book.specs.declared.Scope.{Scope}
+use Rattle.book.specs.declared.Scope.the-variants.{Current, LastGood}
+use Rattle.book.specs.declared.State.{State}
+use Rattle.book.specs.declared.Book.{Book}
+
+-- ---- whether a question is answered
+
+module _ (p : Reference) (scope : Scope) where
+  pub asked-yes : answers (p .status) (p .ever) scope ≡ true → asked scope p ≡ Taken
+  unfolding answers asked isShut stands r·.isLive
+  asked-yes h = go (p .status) refl scope refl h
+    where
+      go : (x : Status) → p .status ≡ x → (y : Scope) → scope ≡ y → answers x (p .ever) y ≡ true → cond (isShut (p .status)) Shut (cond (stands scope p) Taken NoSnapshot) ≡ Taken
+      go shut′ e y f g = absurd (true≢false (sym g))
+      go waiting e Current f g = absurd (true≢false (sym g))
+      go waiting e LastGood f g = rw (e, f, g)
+      go live e Current f g = rw (e, f)
+      go live e LastGood f g = rw (e, f, g)
+
+  pub asked-no : answers (p .status) (p .ever) scope ≡ false → asked scope p ≡ refusalOf (p .status)
+  unfolding answers asked isShut stands r·.isLive refusalOf
+  asked-no h = go (p .status) refl scope refl h
+    where
+      go : (x : Status) → p .status ≡ x → (y : Scope) → scope ≡ y → answers x (p .ever) y ≡ false → cond (isShut (p .status)) Shut (cond (stands scope p) Taken NoSnapshot) ≡ refusalOf (p .status)
+      go shut′ e y f g = rw e
+      go waiting e Current f g = rw (e, f)
+      go waiting e LastGood f g = rw (e, f, g)
+      go live e Current f g = absurd (true≢false g)
+      go live e LastGood f g = rw (e, f, g)
+
+refusal-refuses : (x : Status) → isTaken (refusalOf x) ≡ false
+unfolding isTaken refusalOf numberOf
+refusal-refuses shut′ = refl
+refusal-refuses waiting = refl
+refusal-refuses live = refl
+
+-- the answer of a question that is answered, and of one that is not
+if-yes : {A : Type 0} (a : Answer) (x z : A) → a ≡ Taken → ifTaken a x z ≡ x
+unfolding ifTaken isTaken numberOf
+if-yes a x z h = rw (h, ifTaken, isTaken, numberOf)
+
+if-no : {A : Type 0} (a : Answer) (t : Status) (x z : A) → a ≡ refusalOf t → ifTaken a x z ≡ z
+unfolding ifTaken
+if-no a t x z h = let e = refusal-refuses t in rw (h, ifTaken, e)
+
+-- ---- how many
+
+held-count : (levels : Levels) (side : Side) → kept·.Good side levels → levels .count ≡ length (map shown (held levels))
+unfolding held
+held-count levels side g =
+    let a = g .few in
+    let b = g .room in
+    let c = length-take (levels .count) (levels .items) in
+    let e = length-map (held levels) shown in
+    omega arith
+
+module _ (b : Book) (scope : Scope) where
+  abbrev p : Reference
+  p = shows b
+
+  abbrev yes : Bool
+  yes = answers (statusOf (b .state)) (b .ever) scope
+
+  pub counts-yes : Good b → yes ≡ true → AnswersCounts b scope (record { book = b; answer = Taken; bids = b .bids .count; asks = b .asks .count })
+  unfolding does shows
+  counts-yes g h =
+      let a = asked-yes p scope h in
+      record {
+        book = refl;
+        answer = λ x. sym a;
+        value = λ x. ap₂ counts (held-count (b .bids) Bids (g .bids .good)) (held-count (b .asks) Asks (g .asks .good)) ∙ sym (if-yes (asked scope p) _ _ a);
+      }
+
+  pub counts-no : yes ≡ false → (a : Answer) → a ≡ refusalOf (statusOf (b .state)) → AnswersCounts b scope (record { book = b; answer = a; bids = 0; asks = 0 })
+  unfolding does shows
+  counts-no h a e =
+      let n = asked-no p scope h in
+      record { book = refl; answer = λ x. e ∙ sym n; value = λ x. sym (if-no (asked scope p) (statusOf (b .state)) _ _ n) }
+
+  -- ---- the sequence number and the count of updates
+
+  pub number-yes : yes ≡ true → AnswersAmount b (whichNumber scope) (record { book = b; answer = Taken; amount = b .number })
+  unfolding does shows
+  number-yes h = let a = asked-yes p scope h in record { book = refl; answer = λ x. sym a; value = λ x. ap amount (sym (if-yes (asked scope p) _ _ a)) }
+
+  pub number-no : yes ≡ false → (a : Answer) → a ≡ refusalOf (statusOf (b .state)) → AnswersAmount b (whichNumber scope) (record { book = b; answer = a; amount = 0 })
+  unfolding does shows
+  number-no h a e =
+      let n = asked-no p scope h in
+      record { book = refl; answer = λ x. e ∙ sym n; value = λ x. ap amount (sym (if-no (asked scope p) (statusOf (b .state)) _ _ n)) }
+
+  pub updates-yes : yes ≡ true → AnswersAmount b (howManyUpdates scope) (record { book = b; answer = Taken; amount = b .updates })
+  unfolding does shows
+  updates-yes h = let a = asked-yes p scope h in record { book = refl; answer = λ x. sym a; value = λ x. ap amount (sym (if-yes (asked scope p) _ _ a)) }
+
+  pub updates-no : yes ≡ false → (a : Answer) → a ≡ refusalOf (statusOf (b .state)) → AnswersAmount b (howManyUpdates scope) (record { book = b; answer = a; amount = 0 })
+  unfolding does shows
+  updates-no h a e =
+      let n = asked-no p scope h in
+      record { book = refl; answer = λ x. e ∙ sym n; value = λ x. ap amount (sym (if-no (asked scope p) (statusOf (b .state)) _ _ n)) }
+
+-- ---- a level
+
+place-here : (i : ℕ) (s : List Level) (l : Level) → kept·.levelAt i s ≡ At l → placeAt i (map shown s) ≡ standing (shown l)
+unfolding kept·.levelAt placeAt
+place-here i [] l h = let z : _≡_ {A = ℕ} 0 1 = cc in absurd (omega arith)
+place-here zero (x ∷ s) l h = let e : x ≡ l = cc in ap (λ (y : Level). standing (shown y)) e
+place-here (suc i) (x ∷ s) l h = place-here i s l h
+
+place-none : (i : ℕ) (s : List Level) → kept·.levelAt i s ≡ Nothing → placeAt i (map shown s) ≡ absent
+unfolding kept·.levelAt placeAt
+place-none i [] h = refl
+place-none zero (x ∷ s) h = let z : _≡_ {A = ℕ} 0 1 = cc in absurd (omega arith)
+place-none (suc i) (x ∷ s) h = place-none i s h
+
+module _ (b : Book) (scope : Scope) (side : Side) (i : ℕ) where
+  abbrev q : Reference
+  q = shows b
+
+  abbrev open′ : Bool
+  open′ = answers (statusOf (b .state)) (b .ever) scope
+
+  in-here : (s : Side) (l : Level) → levelIn b s i ≡ At l → placeAt i (sideOf s q) ≡ standing (shown l)
+  unfolding levelIn sideOf shows
+  in-here Bids l h = place-here i (held (b .bids)) l h
+  in-here Asks l h = place-here i (held (b .asks)) l h
+
+  in-none : (s : Side) → levelIn b s i ≡ Nothing → placeAt i (sideOf s q) ≡ absent
+  unfolding levelIn sideOf shows
+  in-none Bids h = place-none i (held (b .bids)) h
+  in-none Asks h = place-none i (held (b .asks)) h
+
+  pub level-here : open′ ≡ true → (l : Level) → levelIn b side i ≡ At l → (price size : Decimal) → number price ≡ levelPrice l → number size ≡ levelSize l
+      → AnswersLevel b scope side i (record { book = b; answer = Taken; price = price; size = size })
+  unfolding does askedLevel levelAsked placeAnswer placeLevel shown shows
+  level-here h l e price size x z =
+      let a = asked-yes q scope h in
+      let w = in-here side l e in
+      record {
+        book = refl;
+        answer = λ y. sym (if-yes (asked scope q) _ _ a ∙ ap placeAnswer w);
+        value = λ y. ap level (ap₂ (λ (u v : Number). record { price = u; size = v }) x z ∙ sym (if-yes (asked scope q) _ _ a ∙ ap placeLevel w));
+      }
+
+  pub level-none : open′ ≡ true → levelIn b side i ≡ Nothing
+      → AnswersLevel b scope side i (record { book = b; answer = NoLevel; price = record { digits = 0; decimals = 0 }; size = record { digits = 0; decimals = 0 } })
+  unfolding does askedLevel levelAsked placeAnswer placeLevel number shows
+  level-none h e =
+      let a = asked-yes q scope h in
+      let w = in-none side e in
+      record {
+        book = refl;
+        answer = λ y. sym (if-yes (asked scope q) _ _ a ∙ ap placeAnswer w);
+        value = λ y. ap level (sym (if-yes (asked scope q) _ _ a ∙ ap placeLevel w));
+      }
+
+  pub level-no : open′ ≡ false → (a : Answer) → a ≡ refusalOf (statusOf (b .state))
+      → AnswersLevel b scope side i (record { book = b; answer = a; price = record { digits = 0; decimals = 0 }; size = record { digits = 0; decimals = 0 } })
+  unfolding does askedLevel levelAsked number shows
+  level-no h a e =
+      let n = asked-no q scope h in
+      record {
+        book = refl;
+        answer = λ y. e ∙ sym (if-no (asked scope q) (statusOf (b .state)) _ _ n ∙ n);
+        value = λ y. ap level (sym (if-no (asked scope q) (statusOf (b .state)) _ _ n));
+      }
+
+-- ---- opening
+
+good-first : (t : Terms) → good t ≡ true → isShut (statusOf (firstState (t .dialect))) ≡ false
+unfolding good goodDepth firstState statusOf isShut
+good-first t h = go (t .dialect) refl
+  where
+    go : (d : Dialect) → t .dialect ≡ d → isShut (statusOf (firstState d)) ≡ false
+    go K e = refl
+    go M e = refl
+    go Unknown e = absurd (true≢false (sym h ∙ rw e))
+
+-- the state by the settings that are kept
+first-status : (t : Terms) → statusOf (firstState (kept t .dialect)) ≡ cond (good t) waiting shut′
+unfolding kept firstState statusOf isShut
+first-status t = at (good t) refl
+  where
+    live-not : (d : Dialect) → isShut (statusOf (firstState d)) ≡ false → statusOf (firstState d) ≡ waiting
+    live-not K h = refl
+    live-not M h = refl
+    live-not Unknown h = absurd (true≢false h)
+
+    at : (b : Bool) → good t ≡ b → statusOf (firstState (cond b t shut .dialect)) ≡ cond b waiting shut′
+    at true h = live-not (t .dialect) (good-first t h)
+    at false h = refl
+
+kept-good : (t : Terms) → isShut (statusOf (firstState (kept t .dialect))) ≡ false → good (kept t) ≡ true
+unfolding kept firstState statusOf isShut
+kept-good t h = at (good t) refl h
+  where
+    at : (b : Bool) → good t ≡ b → isShut (statusOf (firstState (cond b t shut .dialect))) ≡ false → good (cond b t shut) ≡ true
+    at true e g = e
+    at false e g = absurd (true≢false g)
+
+module _ (t : Terms) (c : Settings) (h : Chosen t c) (none : Levels) (e : Empty none) (state : State) (f : state ≡ firstState (c .dialect)) where
+  abbrev b : Book
+  b = record { settings = c; state = state; ever = false; bids = none; asks = none; number = 0; updates = 0 }
+
+  dialect-kept : c .dialect ≡ kept t .dialect
+  unfolding termsOf
+  dialect-kept = ap (λ (x : Terms). x .dialect) (h .terms)
+
+  status-is : statusOf state ≡ cond (good t) waiting shut′
+  status-is = ap statusOf (f ∙ ap firstState dialect-kept) ∙ first-status t
+
+  nothing : (P : Level → Type 0) → All P (held none)
+  unfolding All
+  nothing P = rw (e .none) tt
+
+  length-none : length (held none) ≡ 0
+  length-none = ap length (e .none)
+
+  pub opened-told : Opened t b
+  unfolding shows opened
+  opened-told =
+      record {
+        good = record {
+          room = h .room;
+          short = h .short;
+          terms = λ u. subst (λ (x : Terms). good x ≡ true) (sym (h .terms)) (kept-good t (subst (λ (x : State). isShut (statusOf x) ≡ false) (f ∙ ap firstState dialect-kept) u));
+          bids = record { good = e .bids; carried = nothing _; sized = nothing _ };
+          asks = record { good = e .asks; carried = nothing _; sized = nothing _ };
+          few-bids = let n = length-none in omega arith;
+          few-asks = let n = length-none in omega arith;
+          small = lit< tt;
+        };
+        same = rw (h .terms, status-is, e .none);
+      }

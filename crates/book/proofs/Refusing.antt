@@ -13,7 +13,7 @@ use Rattle.message.specs.Answers.{number}
 use Rattle.message.specs.Meaning.{Checked, fails, passes, checked, Message, messageOf, refuses, says, saidOf, said}
 use Rattle.message.specs.Verdict.{verdictOf}
 use Rattle.message.specs.declared.Answer.{Answer}
-use Rattle.message.specs.declared.Answer.the-variants.{Taken, PriceTwice, NoSnapshot, OldNumber, TooManyLevels, WrongChecksum}
+use Rattle.message.specs.declared.Answer.the-variants.{Taken, Shut, PriceTwice, NoSnapshot, OldNumber, TooManyLevels, WrongChecksum}
 use Rattle.message.specs.declared.Verdict.{Verdict}
 use Rattle.message.specs.declared.Verdict.the-variants.{Fails, Passes}
 use Rattle.layout.specs.declared.Outline.{Outline}
@@ -60,6 +60,10 @@ pub told-as : {x y : After} (r : Step) → x ≡ y → Told y r → Told x r
 told-as r h t = subst (λ (z : After). Told z r) (sym h) t
 
 -- ---- what is heard
+
+pub hear-shut : (p : Reference) (s : List ℕ) → isShut (p .status) ≡ true → hear p s ≡ record { book = p; answer = Shut }
+unfolding hear
+hear-shut p s u = rw (u, hear)
 
 module _ (p : Reference) (s : List ℕ) (u : isShut (p .status) ≡ false) where
   pub hear-fails : (a : Answer) → checked (p .terms) s ≡ fails a → hear p s ≡ refusedBy p a

@@ -21,6 +21,9 @@ use Rattle.entries.proofs.Claims.{zero-none}
 use Rattle.side.specs.Level.{PriceLevel, shown, shownPrice}
 use Rattle.side.specs.Side.{Edit, sets, removes, All, IsSet, named, namesTwice, applyAll, ranked, afterMessage, met}
 use Rattle.side.specs.Kept.{held, Empty}
+use Rattle.side.specs.Kept as kept·
+use Rattle.piece.specs.Piece.{kPiece, mPiece}
+use Rattle.checksum.specs.Carried.{Carries}
 use Rattle.side.specs.declared.Side.{Side}
 use Rattle.side.specs.declared.Side.the-variants.{Bids, Asks}
 use Rattle.side.specs.declared.Levels.{Levels}
@@ -377,10 +380,10 @@ module _ (b : Book) (s : List ℕ) (o : Outline) (k : Passed b s o) where
           not-lacking = snapshot-lacks-none p m is-snapshot;
           not-old = snapshot-not-old p m is-snapshot;
           not-many = rw is-snapshot
-            (over-is (isM d) _ _ (bids .count) (asks .count)
-            (length-is Bids (m .bids) none [] (o .«bids_at») (o .bids) bids (none-held none e) bids-edits wb)
-            (length-is Asks (m .asks) none [] (o .«asks_at») (o .asks) asks (none-held none e) asks-edits wa)
-            ∙ none-over (isM d));
+              (over-is (isM d) _ _ (bids .count) (asks .count)
+              (length-is Bids (m .bids) none [] (o .«bids_at») (o .bids) bids (none-held none e) bids-edits wb)
+              (length-is Asks (m .asks) none [] (o .«asks_at») (o .asks) asks (none-held none e) asks-edits wa)
+              ∙ none-over (isM d));
         }
       where
         none-over : (t : Bool) → (t && (ltb 100 (bids .count) || ltb 100 (asks .count))) ≡ false
@@ -445,3 +448,44 @@ module _ (b : Book) (s : List ℕ) (o : Outline) (k : Passed b s o) where
                 let g = or-none (ltb 100 (bids .count)) (ltb 100 (asks .count)) f in
                 (ltb-false 100 (bids .count) (g .0), ltb-false 100 (asks .count) (g .1))
             within false e f = absurd (true≢false (sym e))
+
+  -- ---- what `apply_entries` requires, t being whether the dialect is M
+  module _ (t : Bool) (is : t ≡ isM d) where
+    pub none-asked : (none : Levels) → Empty none
+        → (Sound t Bids none × Ready t s (o .«bids_at») (o .bids) × (b .settings .depth ≤ 100) × (length (held none) ≤ b .settings .depth))
+        × (Sound t Asks none × Ready t s (o .«asks_at») (o .asks) × (b .settings .depth ≤ 100) × (length (held none) ≤ b .settings .depth))
+    unfolding All
+    none-asked none e =
+        let n : length (held none) ≡ 0 = ap length (e .none) in
+        let few : length (held none) ≤ b .settings .depth = omega arith in
+        rw is (
+          (record { good = e .bids; carried = rw (e .none) tt; sized = rw (e .none) tt }, ready-bids, depth-most, few),
+          (record { good = e .asks; carried = rw (e .none) tt; sized = rw (e .none) tt }, ready-asks, depth-most, few),
+        )
+
+    pub kept-asked :
+        (Sound t Bids (b .bids) × Ready t s (o .«bids_at») (o .bids) × (b .settings .depth ≤ 100) × (length (held (b .bids)) ≤ b .settings .depth))
+        × (Sound t Asks (b .asks) × Ready t s (o .«asks_at») (o .asks) × (b .settings .depth ≤ 100) × (length (held (b .asks)) ≤ b .settings .depth))
+    kept-asked = rw is ((k .good .bids, ready-bids, depth-most, k .good .few-bids), (k .good .asks, ready-asks, depth-most, k .good .few-asks))
+
+    pub worked-in : (side : Side) (kept : Levels) (at count : ℕ) (a : Applied) → Worked t side (b .settings .depth) (editsAt t s at count) kept a
+        → Worked (isM d) side (b .settings .depth) (editsAt (isM d) s at count) kept a
+    worked-in side kept at count a w = subst (λ (x : Bool). Worked x side (b .settings .depth) (editsAt x s at count) kept a) is w
+
+-- ---- checksums
+
+pub k-sums : (d : Dialect) (bids asks : Levels) → d ≡ K → Sound (isM d) Bids bids → Sound (isM d) Asks asks
+    → kept·.Good Bids bids × kept·.Good Asks asks × All (Carries kPiece) (held bids) × All (Carries kPiece) (held asks)
+unfolding isM
+k-sums d bids asks e x y =
+    let x′ : Sound false Bids bids = subst (λ (z : Dialect). Sound (isM z) Bids bids) e x in
+    let y′ : Sound false Asks asks = subst (λ (z : Dialect). Sound (isM z) Asks asks) e y in
+    (x′ .good, y′ .good, x′ .carried, y′ .carried)
+
+pub m-sums : (d : Dialect) (bids asks : Levels) → d ≡ M → Sound (isM d) Bids bids → Sound (isM d) Asks asks
+    → kept·.Good Bids bids × kept·.Good Asks asks × All (Carries mPiece) (held bids) × All (Carries mPiece) (held asks)
+unfolding isM
+m-sums d bids asks e x y =
+    let x′ : Sound true Bids bids = subst (λ (z : Dialect). Sound (isM z) Bids bids) e x in
+    let y′ : Sound true Asks asks = subst (λ (z : Dialect). Sound (isM z) Asks asks) e y in
+    (x′ .good, y′ .good, x′ .carried, y′ .carried)

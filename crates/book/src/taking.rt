@@ -66,24 +66,8 @@ fn take_snapshot(book: Book, s: &[u8], outline: Outline) -> Step
     let dialect = settings.dialect;
     let m = is_m(dialect);
     let none = side::empty();
-    let bids = sides::apply_entries(
-        none,
-        Side::Bids,
-        depth,
-        m,
-        s,
-        outline.bids_at,
-        outline.bids,
-    );
-    let asks = sides::apply_entries(
-        none,
-        Side::Asks,
-        depth,
-        m,
-        s,
-        outline.asks_at,
-        outline.asks,
-    );
+    let bids = sides::apply_entries(none, Side::Bids, depth, m, s, outline.bids_at, outline.bids);
+    let asks = sides::apply_entries(none, Side::Asks, depth, m, s, outline.asks_at, outline.asks);
     if bids.met {
         return refuse(book, Answer::PriceTwice);
     }
@@ -201,10 +185,7 @@ fn refuse(book: Book, answer: Answer) -> Step
     ensures { λ r. ⌜ r ≡ refusedStep book answer ⌝ }
 {
     if leaves_state(answer) {
-        return Step {
-            book,
-            answer,
-        };
+        return Step { book, answer };
     }
     let settings = book.settings;
     let bids = book.bids;
@@ -280,5 +261,9 @@ fn is_over(m: bool, bids: usize, asks: usize) -> bool
 fn one_more(updates: u64) -> u64
     ensures { λ r. ⌜ r ≡ oneMore updates ⌝ }
 {
-    if updates < MAX_UPDATES { updates + 1 } else { updates }
+    if updates < MAX_UPDATES {
+        updates + 1
+    } else {
+        updates
+    }
 }

@@ -1,26 +1,25 @@
+-- `counts` meets its contract: by whether the question is answered.
+use Rattle.book.proofs.Asking.{counts-yes, counts-no}
+use mathlib.Core.Path.{sym, _∙_}
 use borrow.Author.Needs.{needs}
 use Rattle.book.proofs.Book.counts.Statement.{statement}
 use Rattle.book.proofs.Book.counts.Tie as tie
-use Rattle.book.proofs.Book.counts.Reads as reads
-use Rattle.book.proofs.Book.counts.Lts as lts
-use Rattle.book.proofs.refusal.Reads as refusal-reads
-use Rattle.book.proofs.stands.Reads as stands-reads
 
--- src/lib.rt:132:12
 stands-requires : tie.Need-stands-requires
 stands-requires c κs = search needs
 
--- src/lib.rt:135:13
 returns : tie.Need-returns
-returns c = ?
+returns c =
+    let a = c .before .before .before .before .args in
+    counts-yes (a .self) (a .scope) (c .before .before .before .before .pre) (sym (c .before .before .before .stands .ensures) ∙ c .before .before .if1 .taken)
 
--- src/lib.rt:144:21
 refusal-requires : tie.Need-refusal-requires
 refusal-requires c κs = search needs
 
--- src/lib.rt:127:5
 returns-2 : tie.Need-returns-2
-returns-2 c = ?
+returns-2 c =
+    let a = c .before .before .before .args in
+    counts-no (a .self) (a .scope) (sym (c .before .before .stands .ensures) ∙ c .before .if1 .left) (c .refusal .result) (c .refusal .ensures)
 
 pub counts-spec : {M : Type 1} → statement M
 counts-spec = tie.close (tie.spec stands-requires returns refusal-requires returns-2)

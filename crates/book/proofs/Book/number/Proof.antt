@@ -1,31 +1,29 @@
+-- `number` meets its contract: by whether the question is answered.
+use Rattle.book.proofs.Asking.{number-yes, number-no}
+use mathlib.Core.Path.{sym, subst, _∙_}
+use Rattle.book.specs.Shown.{AnswersAmount}
 use borrow.Author.Needs.{needs}
 use Rattle.book.proofs.Book.number.Statement.{statement}
 use Rattle.book.proofs.Book.number.Tie as tie
-use Rattle.book.proofs.Book.number.Reads as reads
-use Rattle.book.proofs.Book.number.Lts as lts
-use Rattle.book.proofs.no_amount.Reads as no-amount-reads
-use Rattle.book.proofs.refusal.Reads as refusal-reads
-use Rattle.book.proofs.stands.Reads as stands-reads
 
--- src/lib.rt:176:12
 stands-requires : tie.Need-stands-requires
 stands-requires c κs = search needs
 
--- src/lib.rt:177:13
 returns : tie.Need-returns
-returns c = ?
+returns c =
+    let a = c .before .before .args in
+    number-yes (a .self) (a .scope) (sym (c .before .stands .ensures) ∙ c .if1 .taken)
 
--- src/lib.rt:183:25
 refusal-requires : tie.Need-refusal-requires
 refusal-requires c κs = search needs
 
--- src/lib.rt:183:9
 no-amount-requires : tie.Need-no-amount-requires
 no-amount-requires c κs = search needs
 
--- src/lib.rt:171:5
 returns-2 : tie.Need-returns-2
-returns-2 c = ?
+returns-2 c =
+    let a = c .before .before .before .before .args in
+    subst (AnswersAmount (a .self) _) (sym (c .no-amount .ensures)) (number-no (a .self) (a .scope) (sym (c .before .before .before .stands .ensures) ∙ c .before .before .if1 .left) (c .before .refusal .result) (c .before .refusal .ensures))
 
 pub number-spec : {M : Type 1} → statement M
 number-spec =

@@ -1,39 +1,41 @@
+-- `take` meets its contract: a shut book answers so; any other hears the message.
+use mathlib.Core.Path.{sym, ap}
+use denote.Ref.{now}
+use Rattle.book.specs.Reference.{isShut, After}
+use Rattle.book.specs.Shown.{statusOf, shows}
+use Rattle.book.specs.declared.State.{State}
+use Rattle.book.proofs.Refusing.{hear-shut}
 use borrow.Author.Needs.{needs}
 use Rattle.book.proofs.Book.take.Statement.{statement}
 use Rattle.book.proofs.Book.take.Tie as tie
-use Rattle.book.proofs.Book.take.Reads as reads
-use Rattle.book.proofs.Book.take.Lts as lts
-use Rattle.book.proofs.taking.hear.Reads as hear-reads
 
--- src/lib.rt:119:25
 enum-told : tie.Need-enum-told
 enum-told c = search needs
 
--- src/lib.rt:121:31
 enum-told-2 : tie.Need-enum-told-2
 enum-told-2 c = search needs
 
--- src/lib.rt:121:31
 hear-requires : tie.Need-hear-requires
-hear-requires c κs = ?
+unfolding isShut statusOf
+hear-requires c κs = (c .before .before .before .pre, ap (λ (x : State). isShut (statusOf x)) (c .enum-told2 .given .1))
 
--- src/lib.rt:122:28
 enum-told-3 : tie.Need-enum-told-3
 enum-told-3 c = search needs
 
--- src/lib.rt:122:28
 hear-requires-2 : tie.Need-hear-requires-2
-hear-requires-2 c κs = ?
+unfolding isShut statusOf
+hear-requires-2 c κs = (c .before .before .before .pre, ap (λ (x : State). isShut (statusOf x)) (c .enum-told3 .given .1))
 
--- src/lib.rt:111:5
 returns : tie.Need-returns
-returns c = ?
+unfolding isShut statusOf shows
+returns c =
+    let a = c .before .before .before .args in
+    let e = ap (λ (x : State). isShut (statusOf x)) (c .enum-told .given .1) in
+    record { good = c .before .before .before .pre; same = sym (ap (λ (x : After). x .book) (hear-shut (shows (a .self)) (now (a .s)) e)); answer = sym (ap (λ (x : After). x .answer) (hear-shut (shows (a .self)) (now (a .s)) e)) }
 
--- src/lib.rt:111:5
 returns-2 : tie.Need-returns-2
 returns-2 c = search needs
 
--- src/lib.rt:111:5
 returns-3 : tie.Need-returns-3
 returns-3 c = search needs
 

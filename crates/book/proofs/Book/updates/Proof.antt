@@ -1,31 +1,29 @@
+-- `updates` meets its contract: by whether the question is answered.
+use Rattle.book.proofs.Asking.{updates-yes, updates-no}
+use mathlib.Core.Path.{sym, subst, _∙_}
+use Rattle.book.specs.Shown.{AnswersAmount}
 use borrow.Author.Needs.{needs}
 use Rattle.book.proofs.Book.updates.Statement.{statement}
 use Rattle.book.proofs.Book.updates.Tie as tie
-use Rattle.book.proofs.Book.updates.Reads as reads
-use Rattle.book.proofs.Book.updates.Lts as lts
-use Rattle.book.proofs.no_amount.Reads as no-amount-reads
-use Rattle.book.proofs.refusal.Reads as refusal-reads
-use Rattle.book.proofs.stands.Reads as stands-reads
 
--- src/lib.rt:192:12
 stands-requires : tie.Need-stands-requires
 stands-requires c κs = search needs
 
--- src/lib.rt:193:13
 returns : tie.Need-returns
-returns c = ?
+returns c =
+    let a = c .before .before .args in
+    updates-yes (a .self) (a .scope) (sym (c .before .stands .ensures) ∙ c .if1 .taken)
 
--- src/lib.rt:199:25
 refusal-requires : tie.Need-refusal-requires
 refusal-requires c κs = search needs
 
--- src/lib.rt:199:9
 no-amount-requires : tie.Need-no-amount-requires
 no-amount-requires c κs = search needs
 
--- src/lib.rt:187:5
 returns-2 : tie.Need-returns-2
-returns-2 c = ?
+returns-2 c =
+    let a = c .before .before .before .before .args in
+    subst (AnswersAmount (a .self) _) (sym (c .no-amount .ensures)) (updates-no (a .self) (a .scope) (sym (c .before .before .before .stands .ensures) ∙ c .before .before .if1 .left) (c .before .refusal .result) (c .before .refusal .ensures))
 
 pub updates-spec : {M : Type 1} → statement M
 updates-spec =

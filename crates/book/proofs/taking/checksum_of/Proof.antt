@@ -1,42 +1,42 @@
+-- `checksum_of` meets its contract: dialect by dialect.
+use Rattle.book.proofs.Settling.{k-sums, m-sums}
+use Rattle.book.specs.Reference.{checksumOf}
 use borrow.Author.Needs.{needs}
 use Rattle.book.proofs.taking.checksum_of.Statement.{statement}
 use Rattle.book.proofs.taking.checksum_of.Tie as tie
-use Rattle.book.proofs.taking.checksum_of.Reads as reads
-use Rattle.book.proofs.taking.checksum_of.Lts as lts
-use Rattle.checksum.proofs.k_checksum.Reads as k-checksum-reads
-use Rattle.checksum.proofs.m_checksum.Reads as m-checksum-reads
 
--- src/taking.rt:191:23
 enum-told : tie.Need-enum-told
 enum-told c = search needs
 
--- src/taking.rt:191:23
 k-checksum-requires : tie.Need-k-checksum-requires
-k-checksum-requires c κs = ?
+k-checksum-requires c κs =
+    let a = c .before .before .args in
+    let p = c .before .before .pre in
+    k-sums (a .dialect) (a .bids) (a .asks) (c .enum-told .given .1) (p .0) (p .1)
 
--- src/taking.rt:192:23
 enum-told-2 : tie.Need-enum-told-2
 enum-told-2 c = search needs
 
--- src/taking.rt:192:23
 m-checksum-requires : tie.Need-m-checksum-requires
-m-checksum-requires c κs = ?
+m-checksum-requires c κs =
+    let a = c .before .before .args in
+    let p = c .before .before .pre in
+    m-sums (a .dialect) (a .bids) (a .asks) (c .enum-told2 .given .1) (p .0) (p .1)
 
--- src/taking.rt:193:29
 enum-told-3 : tie.Need-enum-told-3
 enum-told-3 c = search needs
 
--- src/taking.rt:186:1
 returns : tie.Need-returns
-returns c = ?
+unfolding checksumOf
+returns c = rw (c .before .enum-told .given .1) (c .k-checksum .ensures)
 
--- src/taking.rt:186:1
 returns-2 : tie.Need-returns-2
-returns-2 c = ?
+unfolding checksumOf
+returns-2 c = rw (c .before .enum-told2 .given .1) (c .m-checksum .ensures)
 
--- src/taking.rt:186:1
 returns-3 : tie.Need-returns-3
-returns-3 c = ?
+unfolding checksumOf
+returns-3 c = rw (c .enum-told3 .given .1)
 
 pub checksum-of-spec : {M : Type 1} → statement M
 checksum-of-spec =

@@ -1,18 +1,19 @@
+-- `is_over` meets its contract: test by test.
+use borrow.Author.Tests.{lt-ltb, le-ltb}
 use borrow.Author.Needs.{needs}
 use Rattle.book.proofs.taking.is_over.Statement.{statement}
 use Rattle.book.proofs.taking.is_over.Tie as tie
-use Rattle.book.proofs.taking.is_over.Reads as reads
-use Rattle.book.proofs.taking.is_over.Lts as lts
 
--- src/taking.rt:261:13
 returns : tie.Need-returns
-returns c = ?
+returns c =
+    let e = lt-ltb 100 (c .before .before .args .bids) (c .if2 .taken) in
+    rw (c .before .if1 .taken, e)
 
--- src/taking.rt:263:9
 returns-2 : tie.Need-returns-2
-returns-2 c = ?
+returns-2 c =
+    let e = le-ltb 100 (c .before .before .args .bids) (c .if2 .left) in
+    rw (c .before .if1 .taken, e)
 
--- src/taking.rt:256:1
 returns-3 : tie.Need-returns-3
 returns-3 c = search needs
 

@@ -1,11 +1,12 @@
+-- `kept` meets its contract.
+use mathlib.Core.Path.{refl}
+use Rattle.book.specs.Taking.{keptStep}
 use Rattle.book.proofs.taking.kept.Statement.{statement}
 use Rattle.book.proofs.taking.kept.Tie as tie
-use Rattle.book.proofs.taking.kept.Reads as reads
-use Rattle.book.proofs.taking.kept.Lts as lts
 
--- src/taking.rt:169:1
 returns : tie.Need-returns
-returns c = ?
+unfolding keptStep
+returns c = refl
 
 pub kept-spec : {M : Type 1} → statement M
 kept-spec = tie.close (tie.spec returns)

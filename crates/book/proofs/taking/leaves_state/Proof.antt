@@ -1,136 +1,120 @@
+-- `leaves_state` meets its contract: answer by answer.
+use Rattle.book.specs.Reference.{leavesStatus}
 use borrow.Author.Needs.{needs}
 use Rattle.book.proofs.taking.leaves_state.Statement.{statement}
 use Rattle.book.proofs.taking.leaves_state.Tie as tie
-use Rattle.book.proofs.taking.leaves_state.Reads as reads
-use Rattle.book.proofs.taking.leaves_state.Lts as lts
 
--- src/taking.rt:221:26
 enum-told : tie.Need-enum-told
 enum-told c = search needs
 
--- src/taking.rt:222:25
 enum-told-2 : tie.Need-enum-told-2
 enum-told-2 c = search needs
 
--- src/taking.rt:223:28
 enum-told-3 : tie.Need-enum-told-3
 enum-told-3 c = search needs
 
--- src/taking.rt:224:28
 enum-told-4 : tie.Need-enum-told-4
 enum-told-4 c = search needs
 
--- src/taking.rt:225:28
 enum-told-5 : tie.Need-enum-told-5
 enum-told-5 c = search needs
 
--- src/taking.rt:226:28
 enum-told-6 : tie.Need-enum-told-6
 enum-told-6 c = search needs
 
--- src/taking.rt:227:30
 enum-told-7 : tie.Need-enum-told-7
 enum-told-7 c = search needs
 
--- src/taking.rt:228:35
 enum-told-8 : tie.Need-enum-told-8
 enum-told-8 c = search needs
 
--- src/taking.rt:229:31
 enum-told-9 : tie.Need-enum-told-9
 enum-told-9 c = search needs
 
--- src/taking.rt:230:31
 enum-told-10 : tie.Need-enum-told-10
 enum-told-10 c = search needs
 
--- src/taking.rt:231:31
 enum-told-11 : tie.Need-enum-told-11
 enum-told-11 c = search needs
 
--- src/taking.rt:232:30
 enum-told-12 : tie.Need-enum-told-12
 enum-told-12 c = search needs
 
--- src/taking.rt:233:34
 enum-told-13 : tie.Need-enum-told-13
 enum-told-13 c = search needs
 
--- src/taking.rt:234:34
 enum-told-14 : tie.Need-enum-told-14
 enum-told-14 c = search needs
 
--- src/taking.rt:235:28
 enum-told-15 : tie.Need-enum-told-15
 enum-told-15 c = search needs
 
--- src/taking.rt:236:27
 enum-told-16 : tie.Need-enum-told-16
 enum-told-16 c = search needs
 
--- src/taking.rt:217:1
 returns : tie.Need-returns
-returns c = ?
+unfolding leavesStatus
+returns c = rw (c .enum-told .given .1)
 
--- src/taking.rt:217:1
 returns-2 : tie.Need-returns-2
-returns-2 c = ?
+unfolding leavesStatus
+returns-2 c = rw (c .enum-told2 .given .1)
 
--- src/taking.rt:217:1
 returns-3 : tie.Need-returns-3
-returns-3 c = ?
+unfolding leavesStatus
+returns-3 c = rw (c .enum-told3 .given .1)
 
--- src/taking.rt:217:1
 returns-4 : tie.Need-returns-4
-returns-4 c = ?
+unfolding leavesStatus
+returns-4 c = rw (c .enum-told4 .given .1)
 
--- src/taking.rt:217:1
 returns-5 : tie.Need-returns-5
-returns-5 c = ?
+unfolding leavesStatus
+returns-5 c = rw (c .enum-told5 .given .1)
 
--- src/taking.rt:217:1
 returns-6 : tie.Need-returns-6
-returns-6 c = ?
+unfolding leavesStatus
+returns-6 c = rw (c .enum-told6 .given .1)
 
--- src/taking.rt:217:1
 returns-7 : tie.Need-returns-7
-returns-7 c = ?
+unfolding leavesStatus
+returns-7 c = rw (c .enum-told7 .given .1)
 
--- src/taking.rt:217:1
 returns-8 : tie.Need-returns-8
-returns-8 c = ?
+unfolding leavesStatus
+returns-8 c = rw (c .enum-told8 .given .1)
 
--- src/taking.rt:217:1
 returns-9 : tie.Need-returns-9
-returns-9 c = ?
+unfolding leavesStatus
+returns-9 c = rw (c .enum-told9 .given .1)
 
--- src/taking.rt:217:1
 returns-10 : tie.Need-returns-10
-returns-10 c = ?
+unfolding leavesStatus
+returns-10 c = rw (c .enum-told10 .given .1)
 
--- src/taking.rt:217:1
 returns-11 : tie.Need-returns-11
-returns-11 c = ?
+unfolding leavesStatus
+returns-11 c = rw (c .enum-told11 .given .1)
 
--- src/taking.rt:217:1
 returns-12 : tie.Need-returns-12
-returns-12 c = ?
+unfolding leavesStatus
+returns-12 c = rw (c .enum-told12 .given .1)
 
--- src/taking.rt:217:1
 returns-13 : tie.Need-returns-13
-returns-13 c = ?
+unfolding leavesStatus
+returns-13 c = rw (c .enum-told13 .given .1)
 
--- src/taking.rt:217:1
 returns-14 : tie.Need-returns-14
-returns-14 c = ?
+unfolding leavesStatus
+returns-14 c = rw (c .enum-told14 .given .1)
 
--- src/taking.rt:217:1
 returns-15 : tie.Need-returns-15
-returns-15 c = ?
+unfolding leavesStatus
+returns-15 c = rw (c .enum-told15 .given .1)
 
--- src/taking.rt:217:1
 returns-16 : tie.Need-returns-16
-returns-16 c = ?
+unfolding leavesStatus
+returns-16 c = rw (c .enum-told16 .given .1)
 
 pub leaves-state-spec : {M : Type 1} → statement M
 leaves-state-spec =

@@ -1,20 +1,24 @@
+-- `one_more` meets its contract: below the end of the count, and at it.
+use borrow.Author.Tests.{lt-ltb, le-ltb}
+use Rattle.book.specs.Reference.{oneMore}
 use borrow.Author.Needs.{needs}
 use Rattle.book.proofs.taking.one_more.Statement.{statement}
 use Rattle.book.proofs.taking.one_more.Tie as tie
-use Rattle.book.proofs.taking.one_more.Reads as reads
-use Rattle.book.proofs.taking.one_more.Lts as lts
 
--- src/taking.rt:272:32
 add-result : tie.Need-add-result
 add-result c = search needs
 
--- src/taking.rt:269:1
 returns : tie.Need-returns
-returns c = ?
+unfolding oneMore
+returns c =
+    let e = lt-ltb (c .before .args .updates) 4294967295 (c .if1 .taken) in
+    rw (e, oneMore)
 
--- src/taking.rt:269:1
 returns-2 : tie.Need-returns-2
-returns-2 c = ?
+unfolding oneMore
+returns-2 c =
+    let e = le-ltb (c .before .args .updates) 4294967295 (c .if1 .left) in
+    rw (e, oneMore)
 
 pub one-more-spec : {M : Type 1} → statement M
 one-more-spec = tie.close (tie.spec add-result returns returns-2)

@@ -1,39 +1,36 @@
+-- `settle` meets its contract: by whether a checksum is printed, and is that of the sides.
+use Rattle.book.proofs.Refusing.{settle-wrong, settle-right, settle-unprinted}
+use mathlib.Core.Path.{sym, _∙_}
 use borrow.Author.Needs.{needs}
 use Rattle.book.proofs.taking.settle.Statement.{statement}
 use Rattle.book.proofs.taking.settle.Tie as tie
-use Rattle.book.proofs.taking.settle.Reads as reads
-use Rattle.book.proofs.taking.settle.Lts as lts
-use Rattle.book.proofs.taking.checksum_of.Reads as checksum-of-reads
-use Rattle.book.proofs.taking.kept.Reads as kept-reads
-use Rattle.book.proofs.taking.refuse.Reads as refuse-reads
 
--- src/taking.rt:160:13
 checksum-of-requires : tie.Need-checksum-of-requires
 checksum-of-requires c κs = search needs
 
--- src/taking.rt:162:13
 refuse-requires : tie.Need-refuse-requires
 refuse-requires c κs = search needs
 
--- src/taking.rt:162:13
 returns : tie.Need-returns
-returns c = ?
+returns c =
+    let a = c .before .before .before .before .before .before .args in
+    c .refuse .ensures ∙ settle-wrong (a .book) (a .outline) (a .bids) (a .asks) (a .updates) (a .ever) (c .before .before .before .before .before .if1 .taken) (λ q. c .before .if2 .taken (q ∙ sym (c .before .before .before .checksum-of .ensures)))
 
--- src/taking.rt:164:9
 kept-requires : tie.Need-kept-requires
 kept-requires c κs = search needs
 
--- src/taking.rt:164:9
 returns-2 : tie.Need-returns-2
-returns-2 c = ?
+returns-2 c =
+    let a = c .before .before .before .before .before .before .args in
+    c .kept .ensures ∙ settle-right (a .book) (a .outline) (a .bids) (a .asks) (a .updates) (a .ever) (c .before .before .before .before .before .if1 .taken) (c .before .if2 .left ∙ c .before .before .before .checksum-of .ensures)
 
--- src/taking.rt:166:5
 kept-requires-2 : tie.Need-kept-requires-2
 kept-requires-2 c κs = search needs
 
--- src/taking.rt:146:1
 returns-3 : tie.Need-returns-3
-returns-3 c = ?
+returns-3 c =
+    let a = c .before .before .args in
+    c .kept2 .ensures ∙ settle-unprinted (a .book) (a .outline) (a .bids) (a .asks) (a .updates) (a .ever) (c .before .if1 .left)
 
 pub settle-spec : {M : Type 1} → statement M
 settle-spec =

@@ -1,63 +1,69 @@
+-- `take_update` meets its contract: checks 11, 12 and 13 in turn.
+use mathlib.Core.Path.{sym, subst, ap, _∙_}
+use denote.Ref.{now}
+use Rattle.book.specs.Reference.{isLive, hear}
+use Rattle.book.specs.Shown.{statusOf, shows, Told}
+use Rattle.book.specs.declared.State.{State}
+use Rattle.book.proofs.Settling.{kept-asked, worked-in, update-is-old, update-is-over, update-settles, settled-told}
+use mathlib.Core.Bool.{Bool, _&&_, _||_}
+use lib.Dec.{leb, ltb}
+use Rattle.side.specs.declared.Side.the-variants.{Bids, Asks}
 use borrow.Author.Needs.{needs}
 use Rattle.book.proofs.taking.take_update.Statement.{statement}
 use Rattle.book.proofs.taking.take_update.Tie as tie
-use Rattle.book.proofs.taking.take_update.Reads as reads
-use Rattle.book.proofs.taking.take_update.Lts as lts
-use Rattle.book.proofs.taking.is_m.Reads as is-m-reads
-use Rattle.book.proofs.taking.is_old.Reads as is-old-reads
-use Rattle.book.proofs.taking.is_over.Reads as is-over-reads
-use Rattle.book.proofs.taking.one_more.Reads as one-more-reads
-use Rattle.book.proofs.taking.refuse.Reads as refuse-reads
-use Rattle.book.proofs.taking.settle.Reads as settle-reads
-use Rattle.sides.proofs.apply_entries.Reads as apply-entries-reads
 
--- src/taking.rt:106:9
 is-m-requires : tie.Need-is-m-requires
 is-m-requires c κs = search needs
 
--- src/taking.rt:107:8
 is-old-requires : tie.Need-is-old-requires
 is-old-requires c κs = search needs
 
--- src/taking.rt:108:9
 refuse-requires : tie.Need-refuse-requires
 refuse-requires c κs = search needs
 
--- src/taking.rt:108:9
 returns : tie.Need-returns
-returns c = ?
+unfolding isLive statusOf shows
+returns c =
+    let a = c .before .before .before .before .before .before .args in
+    subst (Told (hear (shows (a .book)) (now (a .s)))) (sym (c .refuse .ensures)) (update-is-old (a .book) (now (a .s)) (a .outline) (c .before .before .before .before .before .before .pre .0) (c .before .before .before .before .before .before .pre .1) (ap (λ (x : State). isLive (statusOf x)) (c .before .before .before .before .before .before .pre .2)) (sym (c .before .before .is-old .ensures ∙ ap (λ (x : Bool). x && leb (a .outline .number) (a .book .number)) (c .before .before .before .is-m .ensures)) ∙ c .before .if1 .taken))
 
--- src/taking.rt:111:9
 apply-entries-requires : tie.Need-apply-entries-requires
-apply-entries-requires c κs = ?
+apply-entries-requires c κs =
+    let a = c .before .before .before .before .before .before .args in
+    kept-asked (a .book) (now (a .s)) (a .outline) (c .before .before .before .before .before .before .pre .0) (c .before .before .before .is-m .result) (c .before .before .before .is-m .ensures) .0
 
--- src/taking.rt:121:9
 apply-entries-requires-2 : tie.Need-apply-entries-requires-2
-apply-entries-requires-2 c κs = ?
+apply-entries-requires-2 c κs =
+    let a = c .before .before .before .before .before .before .before .before .args in
+    kept-asked (a .book) (now (a .s)) (a .outline) (c .before .before .before .before .before .before .before .before .pre .0) (c .before .before .before .before .before .is-m .result) (c .before .before .before .before .before .is-m .ensures) .1
 
--- src/taking.rt:130:8
 is-over-requires : tie.Need-is-over-requires
 is-over-requires c κs = search needs
 
--- src/taking.rt:131:9
 refuse-requires-2 : tie.Need-refuse-requires-2
 refuse-requires-2 c κs = search needs
 
--- src/taking.rt:131:9
 returns-2 : tie.Need-returns-2
-returns-2 c = ?
+unfolding isLive statusOf shows
+returns-2 c =
+    let a = c .before .before .before .before .before .before .before .before .before .before .before .before .args in
+    subst (Told (hear (shows (a .book)) (now (a .s)))) (sym (c .refuse2 .ensures)) (update-is-over (a .book) (now (a .s)) (a .outline) (c .before .before .before .before .before .before .before .before .before .before .before .before .pre .0) (c .before .before .before .before .before .before .before .before .before .before .before .before .pre .1) (ap (λ (x : State). isLive (statusOf x)) (c .before .before .before .before .before .before .before .before .before .before .before .before .pre .2)) (sym (c .before .before .before .before .before .before .before .before .is-old .ensures ∙ ap (λ (x : Bool). x && leb (a .outline .number) (a .book .number)) (c .before .before .before .before .before .before .before .before .before .is-m .ensures)) ∙ c .before .before .before .before .before .before .before .if1 .left) (c .before .before .before .before .before .apply-entries .result) (c .before .before .before .apply-entries2 .result) (worked-in (a .book) (now (a .s)) (a .outline) (c .before .before .before .before .before .before .before .before .before .before .before .before .pre .0) (c .before .before .before .before .before .before .before .before .before .is-m .result) (c .before .before .before .before .before .before .before .before .before .is-m .ensures) Bids (a .book .bids) (a .outline .«bids_at») (a .outline .bids) (c .before .before .before .before .before .apply-entries .result) (c .before .before .before .before .before .apply-entries .ensures)) (worked-in (a .book) (now (a .s)) (a .outline) (c .before .before .before .before .before .before .before .before .before .before .before .before .pre .0) (c .before .before .before .before .before .before .before .before .before .is-m .result) (c .before .before .before .before .before .before .before .before .before .is-m .ensures) Asks (a .book .asks) (a .outline .«asks_at») (a .outline .asks) (c .before .before .before .apply-entries2 .result) (c .before .before .before .apply-entries2 .ensures)) (sym (c .before .before .is-over .ensures ∙ ap (λ (x : Bool). x && (ltb 100 (c .before .before .before .before .before .apply-entries .result .count) || ltb 100 (c .before .before .before .apply-entries2 .result .count))) (c .before .before .before .before .before .before .before .before .before .is-m .ensures)) ∙ c .before .if2 .taken))
 
--- src/taking.rt:140:9
 one-more-requires : tie.Need-one-more-requires
 one-more-requires c κs = search needs
 
--- src/taking.rt:135:5
 settle-requires : tie.Need-settle-requires
-settle-requires c κs = ?
+unfolding isLive statusOf shows
+settle-requires c κs =
+    let a = c .before .before .before .before .before .before .before .before .before .before .before .before .before .before .args in
+    let z = update-settles (a .book) (now (a .s)) (a .outline) (c .before .before .before .before .before .before .before .before .before .before .before .before .before .before .pre .0) (c .before .before .before .before .before .before .before .before .before .before .before .before .before .before .pre .1) (ap (λ (x : State). isLive (statusOf x)) (c .before .before .before .before .before .before .before .before .before .before .before .before .before .before .pre .2)) (sym (c .before .before .before .before .before .before .before .before .before .before .is-old .ensures ∙ ap (λ (x : Bool). x && leb (a .outline .number) (a .book .number)) (c .before .before .before .before .before .before .before .before .before .before .before .is-m .ensures)) ∙ c .before .before .before .before .before .before .before .before .before .if1 .left) (c .before .before .before .before .before .before .before .apply-entries .result) (c .before .before .before .before .before .apply-entries2 .result) (worked-in (a .book) (now (a .s)) (a .outline) (c .before .before .before .before .before .before .before .before .before .before .before .before .before .before .pre .0) (c .before .before .before .before .before .before .before .before .before .before .before .is-m .result) (c .before .before .before .before .before .before .before .before .before .before .before .is-m .ensures) Bids (a .book .bids) (a .outline .«bids_at») (a .outline .bids) (c .before .before .before .before .before .before .before .apply-entries .result) (c .before .before .before .before .before .before .before .apply-entries .ensures)) (worked-in (a .book) (now (a .s)) (a .outline) (c .before .before .before .before .before .before .before .before .before .before .before .before .before .before .pre .0) (c .before .before .before .before .before .before .before .before .before .before .before .is-m .result) (c .before .before .before .before .before .before .before .before .before .before .before .is-m .ensures) Asks (a .book .asks) (a .outline .«asks_at») (a .outline .asks) (c .before .before .before .before .before .apply-entries2 .result) (c .before .before .before .before .before .apply-entries2 .ensures)) (sym (c .before .before .before .before .is-over .ensures ∙ ap (λ (x : Bool). x && (ltb 100 (c .before .before .before .before .before .before .before .apply-entries .result .count) || ltb 100 (c .before .before .before .before .before .apply-entries2 .result .count))) (c .before .before .before .before .before .before .before .before .before .before .before .is-m .ensures)) ∙ c .before .before .before .if2 .left) (c .one-more .result) (c .one-more .ensures) in
+    (z .bids-sound, z .asks-sound)
 
--- src/taking.rt:99:1
 returns-3 : tie.Need-returns-3
-returns-3 c = ?
+unfolding isLive statusOf shows
+returns-3 c =
+    let a = c .before .before .before .before .before .before .before .before .before .before .before .before .before .before .before .args in
+    subst (Told (hear (shows (a .book)) (now (a .s)))) (sym (c .settle .ensures)) (settled-told (a .book) (now (a .s)) (a .outline) (c .before .before .before .before .before .before .before .before .before .before .before .before .before .before .before .pre .0) (c .before .before .before .before .before .before .before .before .apply-entries .result .levels) (c .before .before .before .before .before .before .apply-entries2 .result .levels) (c .before .one-more .result) (a .book .ever) (update-settles (a .book) (now (a .s)) (a .outline) (c .before .before .before .before .before .before .before .before .before .before .before .before .before .before .before .pre .0) (c .before .before .before .before .before .before .before .before .before .before .before .before .before .before .before .pre .1) (ap (λ (x : State). isLive (statusOf x)) (c .before .before .before .before .before .before .before .before .before .before .before .before .before .before .before .pre .2)) (sym (c .before .before .before .before .before .before .before .before .before .before .before .is-old .ensures ∙ ap (λ (x : Bool). x && leb (a .outline .number) (a .book .number)) (c .before .before .before .before .before .before .before .before .before .before .before .before .is-m .ensures)) ∙ c .before .before .before .before .before .before .before .before .before .before .if1 .left) (c .before .before .before .before .before .before .before .before .apply-entries .result) (c .before .before .before .before .before .before .apply-entries2 .result) (worked-in (a .book) (now (a .s)) (a .outline) (c .before .before .before .before .before .before .before .before .before .before .before .before .before .before .before .pre .0) (c .before .before .before .before .before .before .before .before .before .before .before .before .is-m .result) (c .before .before .before .before .before .before .before .before .before .before .before .before .is-m .ensures) Bids (a .book .bids) (a .outline .«bids_at») (a .outline .bids) (c .before .before .before .before .before .before .before .before .apply-entries .result) (c .before .before .before .before .before .before .before .before .apply-entries .ensures)) (worked-in (a .book) (now (a .s)) (a .outline) (c .before .before .before .before .before .before .before .before .before .before .before .before .before .before .before .pre .0) (c .before .before .before .before .before .before .before .before .before .before .before .before .is-m .result) (c .before .before .before .before .before .before .before .before .before .before .before .before .is-m .ensures) Asks (a .book .asks) (a .outline .«asks_at») (a .outline .asks) (c .before .before .before .before .before .before .apply-entries2 .result) (c .before .before .before .before .before .before .apply-entries2 .ensures)) (sym (c .before .before .before .before .before .is-over .ensures ∙ ap (λ (x : Bool). x && (ltb 100 (c .before .before .before .before .before .before .before .before .apply-entries .result .count) || ltb 100 (c .before .before .before .before .before .before .apply-entries2 .result .count))) (c .before .before .before .before .before .before .before .before .before .before .before .before .is-m .ensures)) ∙ c .before .before .before .before .if2 .left) (c .before .one-more .result) (c .before .one-more .ensures)))
 
 pub take-update-spec : {M : Type 1} → statement M
 take-update-spec =

@@ -28,7 +28,8 @@ use Rattle.message.specs.Answers.{number as numberOf}
 use Rattle.message.specs.declared.Answer.{Answer}
 use Rattle.message.specs.declared.Answer.the-variants.{Taken, Shut, NoSnapshot, NoLevel}
 use Rattle.book.specs.Reference as r·
-use Rattle.book.specs.Reference.{Status, shut as shut′, waiting, live, isShut, isM, Reference, opened, stands, asked, isTaken, ifTaken, Place, standing, absent, placeAt, placeAnswer, placeLevel, noLevel, sideOf, askedLevel, levelAsked, counts, level, amount, does, howMany, levelAt, whichNumber, howManyUpdates}
+use Rattle.book.specs.Reference.{Status, shut as shut′, waiting, live, isShut, Reference, opened, stands, asked, isTaken, ifTaken, Place, standing, absent, placeAt, placeAnswer, placeLevel, noLevel, sideOf, askedLevel, levelAsked, counts, level, amount, does, howMany, levelAt, whichNumber, howManyUpdates}
+use Rattle.settings.specs.Settings.{isM}
 use Rattle.book.specs.Shown.{statusOf, shows, Good, Opened, AnswersCounts, AnswersLevel, AnswersAmount}
 use Rattle.book.specs.Asking.{firstState, answers, refusalOf, levelIn}
 use Rattle.book.specs.declared.Scope.{Scope}

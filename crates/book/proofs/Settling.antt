@@ -30,14 +30,16 @@ use Rattle.side.specs.declared.Levels.{Levels}
 use Rattle.side.specs.declared.Applied.{Applied}
 use Rattle.side.proofs.Lengths.{length-ranked, length-applyAll, afterMessage-whole}
 use Rattle.side.proofs.Meeting.{met-snapshot}
-use Rattle.sides.specs.Worked.{Sound, Ready, editsAt, Worked}
+use Rattle.sides.specs.Worked.{Sound, editsAt, Worked}
+use Rattle.loader.specs.Reading.{Ready}
 use Rattle.layout.specs.Layout.{Layout, Listed}
 use Rattle.layout.specs.Told.{isPrinted, sumOf, outlineOf}
 use Rattle.layout.specs.declared.Outline.{Outline}
 use Rattle.message.specs.Meaning.{Quote, Message, quoteAt, quotesOf, messageOf, bad, passes, checked}
 use Rattle.message.specs.declared.Answer.the-variants.{Taken, PriceTwice, NoSnapshot, OldNumber, TooManyLevels, WrongChecksum}
 use Rattle.message.proofs.Where.{entryIn, LieIn, framed-lies}
-use Rattle.book.specs.Reference.{Status, isShut, isLive, Reference, editOf, cut, afterQuotes, bidsAfter, asksAfter, pricesOf, isM, checksumOf, namesPriceTwice, lacksSnapshot, isOld, hasTooMany, hasWrongChecksum, verdict, oneMore, After, taken, refusedBy, answered, hear}
+use Rattle.book.specs.Reference.{Status, isShut, isLive, Reference, editOf, cut, afterQuotes, bidsAfter, asksAfter, pricesOf, checksumOf, namesPriceTwice, lacksSnapshot, isOld, hasTooMany, hasWrongChecksum, verdict, oneMore, After, taken, refusedBy, answered, hear}
+use Rattle.settings.specs.Settings.{isM}
 use Rattle.book.specs.Shown.{statusOf, shows, Good, Told}
 use Rattle.book.specs.Taking.{Passed, refusedStep, keptStep, settledStep}
 use Rattle.book.specs.declared.Book.{Book}
@@ -45,7 +47,8 @@ use Rattle.book.specs.declared.State.{State}
 use Rattle.book.specs.declared.State.the-variants.{Live}
 use Rattle.book.specs.declared.Step.{Step}
 use Rattle.book.proofs.Refusing.{refused-told, told-as, hear-passes, nine, ten, eleven, twelve, thirteen, none-fits, snapshot-not-old, snapshot-lacks-none, update-names-once, update-lacks, update-old, differs-is}
-use Rattle.book.proofs.Entering.{Readable, is-k, is-m, good-readable, also-framed, framed-few, listed-ready, listed-edits}
+use Rattle.message.proofs.Entering.{Readable, is-k, is-m, good-readable, or-none, also-framed, framed-few, listed-ready}
+use Rattle.book.proofs.Entering.{listed-edits}
 
 -- ---- settings
 
@@ -103,10 +106,6 @@ size-positive s a h g = go (read (inner s a)) h g
         → isZero (elim x [ reads n ↦ n | refused ↦ record { digits = 0; decimals = 0 } ]) ≡ false
     go (reads n) p q = q
     go refused p q = absurd (true≢false p)
-
-or-none : (a b : Bool) → (a || b) ≡ false → (a ≡ false) × (b ≡ false)
-or-none true b h = absurd (true≢false h)
-or-none false b h = (refl, h)
 
 sets-all : (s : List ℕ) (rows : List Row) → anyBroken s rows ≡ false → anyZero s rows ≡ false → All IsSet (map editOf (map (quoteAt s) rows))
 unfolding All anyBroken anyZero editOf quoteAt IsSet
@@ -195,11 +194,11 @@ module _ (b : Book) (s : List ℕ) (o : Outline) (k : Passed b s o) where
 
   bids-edits : editsAt (isM d) s (o .«bids_at») (o .bids) ≡ map editOf (m .bids)
   unfolding outlineOf messageOf
-  bids-edits = ap (λ (x : Outline). editsAt (isM d) s (x .«bids_at») (x .bids)) (k .told) ∙ listed-edits readable s (l .bids) (few .0) (lie .bids)
+  bids-edits = ap (λ (x : Outline). editsAt (isM d) s (x .«bids_at») (x .bids)) (k .told) ∙ listed-edits readable s (l .bids) (lie .bids)
 
   asks-edits : editsAt (isM d) s (o .«asks_at») (o .asks) ≡ map editOf (m .asks)
   unfolding outlineOf messageOf
-  asks-edits = ap (λ (x : Outline). editsAt (isM d) s (x .«asks_at») (x .asks)) (k .told) ∙ listed-edits readable s (l .asks) (few .1) (lie .asks)
+  asks-edits = ap (λ (x : Outline). editsAt (isM d) s (x .«asks_at») (x .asks)) (k .told) ∙ listed-edits readable s (l .asks) (lie .asks)
 
   o-snapshot : m .snapshot ≡ o .snapshot
   unfolding outlineOf messageOf

@@ -7,7 +7,7 @@ use lib.Dec.{leb, ltb, eqb}
 use lib.ListN.{length, take}
 use Rattle.decimal.specs.Decimal.{Number, isZero}
 use Rattle.decimal.specs.Buffer.{overlaid}
-use Rattle.settings.specs.Settings.{Terms, good, kept}
+use Rattle.settings.specs.Settings.{Terms, isM, good, kept}
 use Rattle.settings.specs.declared.Dialect.{Dialect}
 use Rattle.settings.specs.declared.Dialect.the-variants.{K, M, Unknown}
 use Rattle.side.specs.Level.{PriceLevel, shownPrice}
@@ -82,11 +82,6 @@ maxLevels = 100
 
 abbrev pub pricesOf : List Quote → List Number
 pricesOf qs = map (λ (q : Quote). q .price) qs
-
-unfoldable pub isM : Dialect → Bool
-isM K = false
-isM M = true
-isM Unknown = false
 
 unfoldable pub checksumOf : Dialect → List PriceLevel → List PriceLevel → ℕ
 checksumOf K bids asks = kChecksum bids asks

@@ -6,8 +6,9 @@ ghost use lib.Dec.{leb, ltb};
 ghost use Rattle.side.specs.Level.{shown};
 ghost use Rattle.side.specs.Kept.{held};
 ghost use Rattle.side.specs.declared.Side.the-variants.{Bids, Asks};
+ghost use Rattle.settings.specs.Settings.{isM};
 ghost use Rattle.sides.specs.Worked.{Sound};
-ghost use Rattle.book.specs.Reference.{isShut, isM, checksumOf, leavesStatus, hear, oneMore};
+ghost use Rattle.book.specs.Reference.{isShut, checksumOf, leavesStatus, hear, oneMore};
 ghost use Rattle.book.specs.Shown.{statusOf, shows, Good, Told};
 ghost use Rattle.book.specs.declared.State.the-variants.{Live};
 ghost use Rattle.book.specs.Taking.{Passed, refusedStep, keptStep, settledStep};
@@ -18,6 +19,7 @@ use layout::Outline;
 use message::Answer;
 use message::Verdict;
 use settings::Dialect;
+use settings::is_m;
 use side::Levels;
 use side::Side;
 
@@ -226,16 +228,6 @@ fn leaves_state(answer: Answer) -> bool
         Answer::WrongChecksum => false,
         Answer::NoLevel => true,
         Answer::NoRoom => true,
-    }
-}
-
-fn is_m(dialect: Dialect) -> bool
-    ensures { λ r. ⌜ r ≡ isM dialect ⌝ }
-{
-    match dialect {
-        Dialect::K => false,
-        Dialect::M => true,
-        Dialect::Unknown => false,
     }
 }
 

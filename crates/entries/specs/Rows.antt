@@ -58,6 +58,11 @@ badTexts snapshot s [] = []
 badTexts snapshot s (r ∷ l) =
     cond (badPrice s (r .price)) (r .price ∷ []) [] ++ (cond (badSize snapshot s (r .size)) (r .size ∷ []) [] ++ badTexts snapshot s l)
 
+-- The first of such texts, or the empty part at the start.
+unfoldable pub firstOf : List Span → Span
+firstOf [] = record { from = 0; to = 0 }
+firstOf (a ∷ l) = a
+
 -- The numbers of a row's texts. A text that is no decimal gives 0; check 8 has refused it before.
 unfoldable pub numberAt : List ℕ → Span → Number
 numberAt s a = elim (read (inner s a)) [ reads n ↦ n | refused ↦ record { digits = 0; decimals = 0 } ]

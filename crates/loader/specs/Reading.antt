@@ -1,5 +1,5 @@
 -- What the loader reads on its way through an array of entries. Assumes nothing: these are definitions.
-use Prim.Native.Nat.{ℕ}
+use Prim.Native.Nat.{ℕ, _≤_}
 use mathlib.Core.Bool.{Bool, true, false}
 use mathlib.Core.List.{List}
 use mathlib.Core.Path.{_≡_}
@@ -16,6 +16,8 @@ use Rattle.entries.specs.declared.Found.{Found}
 use Rattle.side.specs.Level.{levelPrice, shown}
 use Rattle.side.specs.declared.Level.{Level}
 use Rattle.checksum.specs.Carried.{Carries}
+use Rattle.loader.specs.Loaded.{Loadable}
+use lib.ListN.{length, drop}
 
 -- ---- of a dialect: M's, or else K's
 
@@ -51,3 +53,10 @@ pub record LevelAt (piece : Number → Number → List ℕ) (s : List ℕ) (f : 
   pub shows : shown level ≡ record { price = numberAt s (priceSpan f); size = numberAt s (sizeSpan f) }
   pub within : Within (levelPrice level)
   pub carries : Carries piece level
+
+-- ---- in the middle of a message
+
+-- Where there are entries, an array of at most 100 of them lies at the position.
+pub record Ready (m : Bool) (s : List ℕ) (at count : ℕ) : Type 0 where
+  pub inside : (count ≡ 0 → ⊥) → at ≤ length s
+  pub loadable : (count ≡ 0 → ⊥) → Loadable (entryFor m) (drop at s)

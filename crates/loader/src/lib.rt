@@ -46,7 +46,7 @@ pub fn load(
 }
 
 // Where the first entry of the array begins, or 0 where it has none.
-fn first_at(s: &[u8]) -> usize
+pub fn first_at(s: &[u8]) -> usize
     ensures { λ r. ⌜ r ≡ firstAt (now (s .entry)) ⌝ }
 {
     if 0 < array_close_end(s, 1) {
@@ -55,7 +55,8 @@ fn first_at(s: &[u8]) -> usize
     skip_blanks(s, 1)
 }
 
-fn entry_at(s: &[u8], at: usize, m: bool) -> Found
+// The entry at `at`, of dialect M, or else K.
+pub fn entry_at(s: &[u8], at: usize, m: bool) -> Found
     ensures { λ r. ⌜ r ≡ foundAt (entryFor m) (now (s .entry)) at ⌝ }
 {
     if m {

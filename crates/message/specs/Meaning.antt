@@ -10,7 +10,7 @@ use Rattle.decimal.specs.Decimal.{Number}
 use Rattle.json.specs.Json.{Span, text}
 use Rattle.settings.specs.Settings.{Terms, good}
 use Rattle.entries.specs.Places.{top}
-use Rattle.entries.specs.Rows.{Row, badTexts, numberAt}
+use Rattle.entries.specs.Rows.{Row, badTexts, firstOf, numberAt}
 use Rattle.layout.specs.Layout.{Printed, Listed, Layout, Heard}
 use Rattle.message_k.specs.LayoutK.{heardK}
 use Rattle.message_m.specs.LayoutM.{heardM}
@@ -115,11 +115,6 @@ unfoldable pub said : Terms → List ℕ → Said
 said t s = saidOf s (checked t s)
 
 -- ---- the question for the first bad decimal
-
--- The first text of a list, or the empty part at the start.
-unfoldable pub firstOf : List Span → Span
-firstOf [] = record { from = 0; to = 0 }
-firstOf (a ∷ l) = a
 
 -- Of the first texts of two lists, the one that is written first.
 unfoldable pub earlier : List Span → List Span → Span

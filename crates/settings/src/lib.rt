@@ -7,7 +7,7 @@
 ghost use mathlib.Core.Path.{_≡_};
 ghost use Prim.Native.Nat.{_≤_};
 ghost use lib.ListN.{length, take};
-ghost use Rattle.settings.specs.Settings.{goodDepth, nameByte, nameBytes, goodName, good, Chosen, Copied};
+ghost use Rattle.settings.specs.Settings.{isM, goodDepth, nameByte, nameBytes, goodName, good, Chosen, Copied};
 
 // The longest name.
 pub const MAX_NAME: usize = 16;
@@ -52,6 +52,16 @@ pub fn is_good(dialect: Dialect, depth: usize, name: &[u8]) -> bool
         return is_good_name(name);
     }
     false
+}
+
+pub fn is_m(dialect: Dialect) -> bool
+    ensures { λ r. ⌜ r ≡ isM dialect ⌝ }
+{
+    match dialect {
+        Dialect::K => false,
+        Dialect::M => true,
+        Dialect::Unknown => false,
+    }
 }
 
 fn is_good_depth(dialect: Dialect, depth: usize) -> bool

@@ -1,5 +1,5 @@
 -- A side with the entries of a message applied, read where they lie in the message. Assumes nothing: these are definitions.
-use Prim.Native.Nat.{ℕ, _≤_}
+use Prim.Native.Nat.{ℕ}
 use mathlib.Core.Bool.{Bool, cond}
 use mathlib.Core.List.{List, [], map}
 use mathlib.Core.Path.{_≡_}
@@ -13,7 +13,7 @@ use Rattle.side.specs.declared.Side.{Side}
 use Rattle.side.specs.declared.Levels.{Levels}
 use Rattle.side.specs.declared.Applied.{Applied}
 use Rattle.checksum.specs.Carried.{Carries}
-use Rattle.loader.specs.Loaded.{Loadable, rowsAt, editAt}
+use Rattle.loader.specs.Loaded.{rowsAt, editAt}
 use Rattle.loader.specs.Reading.{entryFor, pieceFor}
 
 -- What holds of a side that a book keeps; m says that the dialect is M, else it is K.
@@ -22,12 +22,7 @@ pub record Sound (m : Bool) (side : Side) (kept : Levels) : Type 0 where
   pub carried : All (Carries (pieceFor m)) (held kept)
   pub sized : All (λ level. Within (levelSize level)) (held kept)
 
--- Where there are entries, an array of at most 100 of them lies at the position.
-pub record Ready (m : Bool) (s : List ℕ) (at count : ℕ) : Type 0 where
-  pub inside : (count ≡ 0 → ⊥) → at ≤ length s
-  pub loadable : (count ≡ 0 → ⊥) → Loadable (entryFor m) (drop at s)
-
--- What they do to a side.
+-- What the entries at a position do to a side.
 unfoldable pub editsAt : Bool → List ℕ → ℕ → ℕ → List (Edit PriceLevel)
 editsAt m s at count = cond (eqb count 0) [] (map (editAt (drop at s)) (rowsAt (entryFor m) (drop at s)))
 

@@ -1,8 +1,8 @@
 -- `is_m` meets its contract: dialect by dialect.
-use Rattle.book.specs.Reference.{isM}
+use Rattle.settings.specs.Settings.{isM}
 use borrow.Author.Needs.{needs}
-use Rattle.book.proofs.taking.is_m.Statement.{statement}
-use Rattle.book.proofs.taking.is_m.Tie as tie
+use Rattle.settings.proofs.is_m.Statement.{statement}
+use Rattle.settings.proofs.is_m.Tie as tie
 
 enum-told : tie.Need-enum-told
 enum-told c = search needs

@@ -1,0 +1,148 @@
+-- The search for the first bad text, entry by entry: what is found in the rows that are left is what is found in all of them.
+-- Assumes nothing.
+use mathlib.Core.Path.{_≡_, refl, sym, ap, _∙_}
+use mathlib.Core.List.{List, [], _∷_, _++_}
+use mathlib.Core.Bool.{Bool, true, false, true≢false, _&&_, cond}
+use Prim.Native.Nat.{ℕ, zero, suc, _-_, _≤_, _<_}
+use native.Mathlib.Omega.{arith}
+use lib.ListN.{length}
+use Rattle.decimal.specs.Digits.{Reading, reads, refused}
+use Rattle.decimal.specs.Decimal.{Number, read, isZero}
+use Rattle.json_tokens.specs.Tokens.{End, At, Broken, endOf, separator}
+use Rattle.json_tokens.proofs.Laws.{end-at}
+use Rattle.json_tokens.proofs.Bounds.{bounds, separator-in}
+use Rattle.json.specs.Json.{Span, value}
+use Rattle.json.proofs.Bounds.{value-in}
+use Rattle.entries.specs.Places.{inner}
+use Rattle.entries.specs.Rows.{Row, badPrice, badSize, badTexts}
+use Rattle.entries.specs.Summary.{foundOf, foundAt}
+use Rattle.entries.specs.Counting.{Laid}
+use Rattle.entries.specs.declared.Found.{Found}
+use Rattle.entries.proofs.Strings.{Sound}
+use Rattle.entries.proofs.Summary.{found-laid}
+use Rattle.loader.specs.Loaded.{rowsAt, Loadable}
+use Rattle.loader.specs.Reading.{firstAt, Placed, priceSpan, sizeSpan}
+use Rattle.loader.proofs.Rows.{Left, first-left, Here, left-here}
+use Rattle.first_bad.specs.Places.{noPlace, placeOf}
+
+-- `at` is where the next entry begins, or 0 where there is none
+pub record Seeking (entry : List ℕ → Span → Reading Row) (s : List ℕ) (snapshot : Bool) (at : ℕ) : Type 0 where
+  pub left : List Row
+  pub same : placeOf (badTexts snapshot s (rowsAt entry s)) ≡ placeOf (badTexts snapshot s left)
+  pub over : at ≡ 0 → left ≡ []
+  pub on : (at ≡ 0 → ⊥) → Left entry s at left
+
+module _ (entry : List ℕ → Span → Reading Row) (s : List ℕ) (snapshot : Bool) where
+  pub seeking-start : (at : ℕ) → at ≡ firstAt s → Loadable entry s → Seeking entry s snapshot at
+  seeking-start at e a =
+      let f = first-left entry s (a .end) (rowsAt entry s) (a .listed) in
+      record { left = rowsAt entry s; same = refl; over = λ z. f .0 (sym e ∙ z); on = λ n. rw e (f .1 (λ z. n (e ∙ z))) }
+
+  pub seeking-end : {at : ℕ} → Seeking entry s snapshot at → at ≡ 0 → noPlace ≡ placeOf (badTexts snapshot s (rowsAt entry s))
+  unfolding placeOf badTexts
+  seeking-end g z = sym (g .same ∙ ap (λ (x : List Row). placeOf (badTexts snapshot s x)) (g .over z))
+
+  module _ {at : ℕ} (g : Seeking entry s snapshot at) (n : 0 < at) (f : Found) (told : f ≡ foundAt entry s at) where
+    here : Here entry s (g .left) f
+    here = left-here entry s at (g .left) (g .on (λ z. omega arith)) f told
+
+    abbrev price : Span
+    price = priceSpan f
+
+    abbrev size : Span
+    size = sizeSpan f
+
+    pub seeking-placed : Sound entry s → Placed s f
+    unfolding foundOf
+    seeking-placed sound = found-laid entry s at f told sound (ap (λ (x : Found). x .fair) (here .is-row))
+
+    row-is : here .row ≡ record { price = price; size = size }
+    unfolding foundOf
+    row-is = sym (ap (λ (x : Found). record { price = priceSpan x; size = sizeSpan x }) (here .is-row))
+
+    left-is : g .left ≡ record { price = price; size = size } ∷ here .later
+    left-is = here .both ∙ ap (λ (r : Row). r ∷ here .later) row-is
+
+    first-is : placeOf (badTexts snapshot s (rowsAt entry s)) ≡ placeOf (badTexts snapshot s (record { price = price; size = size } ∷ here .later))
+    first-is = g .same ∙ ap (λ (x : List Row). placeOf (badTexts snapshot s x)) left-is
+
+    pub price-found : badPrice s price ≡ true → record { bad = true; from = price .from; to = price .to } ≡ placeOf (badTexts snapshot s (rowsAt entry s))
+    unfolding placeOf badTexts
+    price-found h = sym (first-is ∙ rw h)
+
+    module _ (h : badPrice s price ≡ false) where
+      pub size-found : badSize snapshot s size ≡ true → record { bad = true; from = size .from; to = size .to } ≡ placeOf (badTexts snapshot s (rowsAt entry s))
+      unfolding placeOf badTexts
+      size-found k = sym (first-is ∙ rw (h, k))
+
+      pub seeking-on : badSize snapshot s size ≡ false → (j : ℕ) → j ≡ endOf (separator 44 s (f .end)) → Seeking entry s snapshot j
+      unfolding badTexts
+      seeking-on k j c =
+          let o = here .onwards j c in
+          record { left = here .later; same = first-is ∙ rw (h, k); over = o .0; on = o .1 }
+
+    -- the next entry begins further on
+    ends : (at < f .end) × (f .end ≤ length s)
+    unfolding foundAt foundOf
+    ends = go (value 13 s at) refl
+      where
+        fair : f .fair ≡ true
+        fair = ap (λ (x : Found). x .fair) (here .is-row)
+
+        end-of : (e : ℕ) (x : Reading Row) → foundOf e x .end ≡ e
+        end-of e (reads r) = refl
+        end-of e refused = refl
+
+        go : (x : End) → value 13 s at ≡ x → (at < f .end) × (f .end ≤ length s)
+        go (At e) v =
+            let b = bounds e (value-in 13 s at) v in
+            let q : foundAt entry s at ≡ foundOf e (entry s (record { from = at; to = e })) = rw (v, foundAt) in
+            let w : f .end ≡ e = ap (λ (x : Found). x .end) (told ∙ q) ∙ end-of e (entry s (record { from = at; to = e })) in
+            (omega arith, omega arith)
+        go Broken v =
+            let q : foundAt entry s at ≡ foundOf 0 refused = rw (v, foundAt) in
+            let w : true ≡ false = sym fair ∙ ap (λ (x : Found). x .fair) (told ∙ q) in
+            absurd (true≢false w)
+
+    pub inside : at ≤ length s
+    inside = let e = ends in omega arith
+
+    pub further : (j : ℕ) → j ≡ endOf (separator 44 s (f .end)) → (j ≡ 0 → ⊥) → (at < j) × (j ≤ length s)
+    further j c z =
+        let e = ends in
+        let b = bounds j (separator-in s 44 (f .end) (omega arith)) (end-at (separator 44 s (f .end)) j c z) in
+        (omega arith, b .1)
+
+-- how much of a text of n bytes is left where the next entry begins at `at`
+abbrev pub remaining : ℕ → ℕ → ℕ
+remaining n zero = 0
+remaining n (suc k) = suc n - k
+
+pub remaining-less : (n at j : ℕ) → 0 < at → at ≤ n → ((j ≡ 0 → ⊥) → (at < j) × (j ≤ n)) → remaining n j < remaining n at
+remaining-less n zero j p q f = absurd (omega arith)
+remaining-less n (suc k) zero p q f = omega arith
+remaining-less n (suc k) (suc i) p q f = let g = f (λ (z : suc i ≡ 0). omega arith) in omega arith
+
+-- ---- one text
+
+module _ (s : List ℕ) (a : Span) where
+  pub price-number : (n : Number) → read (inner s a) ≡ reads n → isZero n ≡ badPrice s a
+  unfolding badPrice
+  price-number n h = sym (rw (h, badPrice))
+
+  pub price-none : read (inner s a) ≡ refused → true ≡ badPrice s a
+  unfolding badPrice
+  price-none h = sym (rw (h, badPrice))
+
+  module _ (snapshot : Bool) where
+    pub size-snapshot : (n : Number) → read (inner s a) ≡ reads n → snapshot ≡ true → isZero n ≡ badSize snapshot s a
+    unfolding badSize
+    size-snapshot n h g = sym (rw (h, g, badSize))
+
+    pub size-update : (n : Number) → read (inner s a) ≡ reads n → snapshot ≡ false → false ≡ badSize snapshot s a
+    unfolding badSize
+    size-update n h g = sym (rw (h, g, badSize))
+
+    pub size-none : read (inner s a) ≡ refused → true ≡ badSize snapshot s a
+    unfolding badSize
+    size-none h = sym (rw (h, badSize))

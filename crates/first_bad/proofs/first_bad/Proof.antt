@@ -1,0 +1,92 @@
+-- `first_bad` meets its contract: the first bad text of the rows that are left is that of all of them.
+use Rattle.first_bad.proofs.Seeking.{Seeking, remaining, remaining-less, seeking-start, seeking-placed, seeking-end, seeking-on, price-found, size-found, inside, further}
+use mathlib.Core.Path.{sym, _∙_}
+use native.Mathlib.Omega.{arith}
+use lib.ListN.{length}
+use borrow.Author.Needs.{needs}
+use Rattle.loader.specs.Reading.{entryFor}
+use Rattle.loader.proofs.Going.{sound-for}
+use Rattle.first_bad.proofs.first_bad.Statement.{statement}
+use Rattle.first_bad.proofs.first_bad.Tie as tie
+
+abbrev Inv-loop : tie.InvT-loop
+Inv-loop s m snapshot at₀ at = Seeking (entryFor m) s snapshot at
+
+abbrev μ-loop : tie.MeasureT-loop
+μ-loop s m snapshot at₀ at = remaining (length s) at
+
+first-at-requires : tie.Need-first-at-requires Inv-loop μ-loop
+first-at-requires c κs = search needs
+
+loop-holds : tie.Need-loop-holds Inv-loop μ-loop
+loop-holds c =
+    let a = c .before .before .args in
+    let s = a .s .now in
+    seeking-start (entryFor (a .m)) s (a .snapshot) (c .first-at .result) (c .first-at .ensures) (c .before .before .pre)
+
+entry-at-requires : tie.Need-entry-at-requires Inv-loop μ-loop
+entry-at-requires c κs = search needs
+
+is-bad-price-requires : tie.Need-is-bad-price-requires Inv-loop μ-loop
+is-bad-price-requires c κs =
+    let a = c .before .before .before .before .before .args in
+    let s = a .s .now in
+    seeking-placed (entryFor (a .m)) s (a .snapshot) (c .before .before .loop .inv) (c .before .loop-test .taken) (c .entry-at .result) (c .entry-at .ensures) (sound-for (a .m) s) .0
+
+returns : tie.Need-returns Inv-loop μ-loop
+returns c =
+    let a = c .before .before .before .before .before .before .before .args in
+    let s = a .s .now in
+    price-found (entryFor (a .m)) s (a .snapshot) (c .before .before .before .before .loop .inv) (c .before .before .before .loop-test .taken) (c .before .before .entry-at .result) (c .before .before .entry-at .ensures) (sym (c .before .is-bad-price .ensures) ∙ c .if1 .taken)
+
+is-bad-size-requires : tie.Need-is-bad-size-requires Inv-loop μ-loop
+is-bad-size-requires c κs =
+    let a = c .before .before .before .before .before .before .before .args in
+    let s = a .s .now in
+    seeking-placed (entryFor (a .m)) s (a .snapshot) (c .before .before .before .before .loop .inv) (c .before .before .before .loop-test .taken) (c .before .before .entry-at .result) (c .before .before .entry-at .ensures) (sound-for (a .m) s) .1
+
+returns-2 : tie.Need-returns-2 Inv-loop μ-loop
+returns-2 c =
+    let a = c .before .before .before .before .before .before .before .before .before .args in
+    let s = a .s .now in
+    size-found (entryFor (a .m)) s (a .snapshot) (c .before .before .before .before .before .before .loop .inv) (c .before .before .before .before .before .loop-test .taken) (c .before .before .before .before .entry-at .result) (c .before .before .before .before .entry-at .ensures) (sym (c .before .before .before .is-bad-price .ensures) ∙ c .before .before .if1 .left) (sym (c .before .is-bad-size .ensures) ∙ c .if2 .taken)
+
+comma-end-requires : tie.Need-comma-end-requires Inv-loop μ-loop
+comma-end-requires c κs = search needs
+
+loop-less : tie.Need-loop-less Inv-loop μ-loop
+loop-less c =
+    let a = c .before .before .before .before .before .before .before .before .before .before .args in
+    let s = a .s .now in
+    remaining-less (length s) (c .before .before .before .before .before .before .before .loop .at) (c .comma-end .result) (c .before .before .before .before .before .before .loop-test .taken) (inside (entryFor (a .m)) s (a .snapshot) (c .before .before .before .before .before .before .before .loop .inv) (c .before .before .before .before .before .before .loop-test .taken) (c .before .before .before .before .before .entry-at .result) (c .before .before .before .before .before .entry-at .ensures)) (further (entryFor (a .m)) s (a .snapshot) (c .before .before .before .before .before .before .before .loop .inv) (c .before .before .before .before .before .before .loop-test .taken) (c .before .before .before .before .before .entry-at .result) (c .before .before .before .before .before .entry-at .ensures) (c .comma-end .result) (c .comma-end .ensures))
+
+loop-again : tie.Need-loop-again Inv-loop μ-loop
+loop-again c =
+    let a = c .before .before .before .before .before .before .before .before .before .before .args in
+    let s = a .s .now in
+    seeking-on (entryFor (a .m)) s (a .snapshot) (c .before .before .before .before .before .before .before .loop .inv) (c .before .before .before .before .before .before .loop-test .taken) (c .before .before .before .before .before .entry-at .result) (c .before .before .before .before .before .entry-at .ensures) (sym (c .before .before .before .before .is-bad-price .ensures) ∙ c .before .before .before .if1 .left) (sym (c .before .before .is-bad-size .ensures) ∙ c .before .if2 .left) (c .comma-end .result) (c .comma-end .ensures)
+
+returns-3 : tie.Need-returns-3 Inv-loop μ-loop
+returns-3 c =
+    let a = c .before .before .before .before .args in
+    let s = a .s .now in
+    let t = c .loop-test .left in
+    seeking-end (entryFor (a .m)) s (a .snapshot) (c .before .loop .inv) (omega arith)
+
+pub first-bad-spec : {M : Type 1} → statement M
+first-bad-spec =
+    tie.close
+    (tie.spec
+    Inv-loop
+    μ-loop
+    first-at-requires
+    loop-holds
+    entry-at-requires
+    is-bad-price-requires
+    returns
+    is-bad-size-requires
+    returns-2
+    comma-end-requires
+    loop-less
+    loop-again
+    returns-3)

@@ -1,0 +1,2 @@
+-- In reading order: where the first of bad texts lies.
+pub mod Places

@@ -1,0 +1,2 @@
+-- In reading order: what is read back.
+pub mod ReadBack

@@ -2,3 +2,4 @@
 pub mod Places
 pub mod Tokens
 pub mod Lists
+pub mod Values

@@ -84,7 +84,7 @@ run-digits none [] i h = omega arith
 run-digits none (c ∷ u) i h = rw (h, run) (omega arith)
 run-digits (one {c} {s = w} e d) u i h = rw (e, run) (run-digits d u (i + 1) h ∙ omega arith)
 
-first-digit : {c : ℕ} {w : List ℕ} → Digits (c ∷ w) → isDigit c ≡ true
+pub first-digit : {c : ℕ} {w : List ℕ} → Digits (c ∷ w) → isDigit c ≡ true
 first-digit (one e k) = e
 
 module _ (s : List ℕ) (i c : ℕ) (w u : List ℕ) (h : drop i s ≡ (c ∷ w) ++ u) (d : Digits (c ∷ w)) (z : c ≡ 48 → w ≡ []) (stop : Stops u) where

@@ -1,6 +1,9 @@
--- In reading order: what stands at a position; tokens; lists of items; values; the readers of values.
+-- In reading order: what stands at a position; tokens; lists of items; values; the readers of values; entries; how long the texts are; the whole message.
 pub mod Places
 pub mod Tokens
 pub mod Lists
 pub mod Values
 pub mod Readers
+pub mod Rows
+pub mod Sizes
+pub mod Whole

@@ -1,0 +1,57 @@
+-- A text that is one value as the writer writes it, heard as a snapshot of these levels, says this snapshot. Assumes nothing.
+use Prim.Native.Nat.{ℕ, zero, suc, _+_, _≤_, _<_}
+use mathlib.Core.Path.{_≡_, refl, sym, ap, ap₂, _∙_}
+use mathlib.Core.Bool.{Bool, true, false, _||_, cond}
+use mathlib.Core.List.{List, [], _∷_, _++_, map, append-nil}
+use native.Mathlib.Omega.{arith}
+use borrow.Author.Tests.{eq-eqb, le-ltb}
+use lib.Dec.{ltb}
+use lib.ListN.{length, getD, drop}
+use lib.Seq.{drop-length}
+use Rattle.decimal.specs.Digits.{Reading, reads, refused}
+use Rattle.json_tokens.specs.Bytes.{digit, blank}
+use Rattle.json_tokens.specs.Tokens.{At, Broken, run, blanks, ended}
+use Rattle.json.specs.Json.{Span, value}
+use Rattle.json.specs.Json as json·
+use Rattle.json.proofs.Laws.{text-ends}
+use Rattle.settings.specs.Settings.{Terms}
+use Rattle.entries.specs.Places.{top}
+use Rattle.entries.specs.Rows.{Row, badTexts}
+use Rattle.layout.specs.Layout.{Printed, Listed, Layout, Heard}
+use Rattle.message.specs.Meaning.{Checked, passes, Quote, Message, Said, says, quoteAt, tooMany, counted, laidOut, addressed, heardIn, framed, bad, decimals, alsoDecimals, checked, messageOf, saidOf, said}
+use Rattle.side.specs.Level.{PriceLevel}
+use Rattle.round_trip.specs.ReadBack.{quoteOf}
+use Rattle.round_trip.proofs.Places.{no-blanks, Stops, Is}
+use Rattle.round_trip.proofs.Lists.{Matched}
+use Rattle.round_trip.proofs.Values.{Reads}
+use Rattle.round_trip.proofs.Readers.{matched-length}
+use Rattle.round_trip.proofs.Rows.{IsLevel, quotes-are, none-bad}
+
+-- ---- the text is its own value
+nothing-stops : Stops []
+unfolding digit
+nothing-stops = record { not-digit = refl; not-point = λ e. omega arith; not-lower = λ e. omega arith; not-upper = λ e. omega arith }
+
+module _ (s : List ℕ) (r : Reads 16 s) where
+  at-start : blanks s 0 ≡ 0
+  at-start = no-blanks s 0 s refl (r .starts .seen)
+
+  the-value : value 16 s (blanks s 0) ≡ At (length s)
+  the-value =
+      let n : 0 + length s ≡ length s = omega arith in
+      ap (value 16 s) at-start ∙ r .ends s 0 [] (sym (append-nil s)) nothing-stops ∙ ap At n
+
+  to-the-end : blanks s (length s) ≡ length s
+  unfolding blanks run
+  to-the-end = ap (λ (l : List ℕ). run blank l (length s)) (drop-length s)
+
+  pub text-yes : json·.text s ≡ true
+  unfolding ended
+  text-yes = text-ends s (length s) the-value ∙ eq-eqb (blanks s (length s)) (length s) to-the-end
+
+  top-at : top s ≡ record { from = 0; to = length s }
+  unfolding top
+  top-at = rw (the-value, top, at-start)
+
+  pub top-is : Is s (top s) s
+  top-is = rw top-at record { rest = []; here = sym (append-nil s); ends = omega arith }

@@ -18,7 +18,8 @@ use Rattle.settings.specs.Settings.{Terms}
 use Rattle.entries.specs.Places.{top}
 use Rattle.entries.specs.Rows.{Row, badTexts}
 use Rattle.layout.specs.Layout.{Printed, Listed, Layout, Heard}
-use Rattle.message.specs.Meaning.{Checked, passes, Quote, Message, Said, says, quoteAt, tooMany, counted, laidOut, addressed, heardIn, framed, bad, decimals, alsoDecimals, checked, messageOf, saidOf, said}
+use Rattle.message.specs.Meaning.{Checked, fails, passes, Quote, Message, Said, says, quoteAt, tooMany, counted, laidOut, addressed, heardIn, framed, bad, decimals, alsoDecimals, checked, messageOf, saidOf, said}
+use Rattle.message.specs.declared.Answer.the-variants.{TooManyEntries}
 use Rattle.side.specs.Level.{PriceLevel}
 use Rattle.round_trip.specs.ReadBack.{quoteOf}
 use Rattle.round_trip.proofs.Places.{no-blanks, Stops, Is}
@@ -55,3 +56,44 @@ module _ (s : List ℕ) (r : Reads 16 s) where
 
   pub top-is : Is s (top s) s
   top-is = rw top-at record { rest = []; here = sym (append-nil s); ends = omega arith }
+
+-- ---- the checks, in their order
+
+abbrev pub laidAs : Listed → Listed → Printed → ℕ → Layout
+laidAs bids asks sum number = record { snapshot = true; bids = bids; asks = asks; checksum = sum; number = number }
+
+-- it is this book's, and has the layout of a snapshot of these levels
+pub record HeardAs (s : List ℕ) (bids asks : List PriceLevel) (sum : Printed) (number : ℕ) (x : Reading Heard) : Type 0 where
+  pub the-bids : Listed
+  pub the-asks : Listed
+  pub is-heard : x ≡ reads (record { escaped = false; ours = true; layout = reads (laidAs the-bids the-asks sum number) })
+  pub bids-are : Matched (IsLevel s) (the-bids .rows) bids
+  pub asks-are : Matched (IsLevel s) (the-asks .rows) asks
+
+module _ (t : Terms) (s : List ℕ) (short : length s ≤ 32768) (r : Reads 16 s) (bids asks : List PriceLevel) (sum : Printed) (number : ℕ)
+    (h : HeardAs s bids asks sum number (heardIn (t .dialect) t s (top s))) (few-bids : length bids ≤ 100) (few-asks : length asks ≤ 100) where
+  l : Layout
+  l = laidAs (h .the-bids) (h .the-asks) sum number
+
+  not-many : tooMany l ≡ false
+  unfolding tooMany l
+  not-many =
+      let b = matched-length (h .bids-are) in
+      let a = matched-length (h .asks-are) in
+      rw (le-ltb 100 (length (h .the-bids .rows)) (omega arith), le-ltb 100 (length (h .the-asks .rows)) (omega arith))
+
+  is-framed : framed t s ≡ passes l
+  unfolding framed addressed laidOut counted l
+  is-framed = rw (le-ltb 32768 (length s) short, text-yes s r) (ap addressed (h .is-heard) ∙ ap (λ (b : Bool). cond b (fails TooManyEntries) (passes l)) not-many)
+
+  no-bad : bad s l ≡ []
+  unfolding bad l
+  no-bad = rw (none-bad (h .bids-are), none-bad (h .asks-are))
+
+  is-checked : checked t s ≡ passes l
+  unfolding checked alsoDecimals decimals
+  is-checked = ap (alsoDecimals s) is-framed ∙ rw (no-bad, decimals)
+
+  pub says-them : said t s ≡ says (record { snapshot = true; bids = map quoteOf bids; asks = map quoteOf asks; checksum = sum; number = number })
+  unfolding said saidOf messageOf l
+  says-them = ap (saidOf s) is-checked ∙ rw (quotes-are (h .bids-are), quotes-are (h .asks-are))

@@ -1,4 +1,4 @@
--- In reading order: what stands at a position; tokens; lists of items; values; the readers of values; entries; how long the texts are; the whole message.
+-- In reading order: what stands at a position; tokens; lists of items; values; the readers of values; entries; how long the texts are; the whole message; what good settings say; K's snapshot.
 pub mod Places
 pub mod Tokens
 pub mod Lists
@@ -7,3 +7,5 @@ pub mod Readers
 pub mod Rows
 pub mod Sizes
 pub mod Whole
+pub mod Settings
+pub mod SnapshotK

@@ -6,7 +6,7 @@ use mathlib.Core.Bool.{Bool, true, false}
 use mathlib.Core.List.{List, [], _∷_, _++_, map, append-assoc}
 use native.Mathlib.Omega.{arith}
 use lib.ListN.{length, getD, drop, length-append}
-use Rattle.decimal.specs.Digits.{written}
+use Rattle.decimal.specs.Digits.{isDigit, written}
 use Rattle.decimal.proofs.Digits.{Digits, none, one, digit-in}
 use Rattle.json_tokens.specs.Bytes.{byteAt}
 use Rattle.json_tokens.specs.Tokens.{At, separator, string}
@@ -58,6 +58,10 @@ digits-read d c w h z =
 
 pub number-reads : (d n : ℕ) → Reads d (written n)
 number-reads d n = let w = written-whole n in subst (Reads d) (sym (w .is)) (digits-read d (w .first) (w .others) (w .all-digits) (w .no-needless))
+
+pub zero-reads : (d : ℕ) → Reads d (48 ∷ [])
+unfolding isDigit
+zero-reads d = digits-read d 48 [] (one refl none) (λ q. refl)
 
 -- ---- texts between brackets, with commas between them
 unfoldable bracketed : ℕ → ℕ → List (List ℕ) → List ℕ

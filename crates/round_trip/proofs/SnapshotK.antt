@@ -1,6 +1,6 @@
 -- K's snapshot is read back: its text is an array of four values, the second of which is an object with the two sides. Assumes nothing.
 use Prim.Native.Nat.{ℕ, zero, suc, _+_, _≤_, _<_}
-use mathlib.Core.Path.{_≡_, refl, sym, ap, ap₂, _∙_}
+use mathlib.Core.Path.{_≡_, refl, sym, ap, _∙_, subst}
 use mathlib.Core.Bool.{Bool, true, false, _&&_, _||_, cond}
 use mathlib.Core.List.{List, [], _∷_, _++_, map, append-nil, append-assoc}
 use native.Mathlib.Omega.{arith}
@@ -17,16 +17,21 @@ use Rattle.entries.specs.Places.{andThen, all, arrayAt, objectAt, valuesOf, who
 use Rattle.entries.specs.Rows.{entryK}
 use Rattle.layout.specs.Layout.{Printed, printed, unprinted, Listed, Layout, Heard, listedAt, laid}
 use Rattle.message_k.specs.LayoutK.{Frame, frameOf, escapedK, oursK, times, together, isSnapshot, listedOf, listedIn, objectsLayout, layoutK, heardK}
+use Rattle.message.specs.Meaning.{heardIn, said, says}
+use Rattle.settings.specs.Settings.{Terms, good}
+use Rattle.settings.specs.declared.Dialect.the-variants.{K}
 use Rattle.side.specs.Level.{PriceLevel}
 use Rattle.writer.specs.Snapshot.{quoted, commaJoined, array, kEntry, kSnapshot}
-use Rattle.round_trip.specs.ReadBack.{Each, each-none, each-more, FineLevel, Fine}
+use Rattle.round_trip.specs.ReadBack.{Each, each-none, each-more, FineLevel, Fine, quoteOf}
 use Rattle.round_trip.proofs.Places.{Is, part-is}
-use Rattle.round_trip.proofs.Tokens.{plain}
+use Rattle.round_trip.proofs.Tokens.{plain, length-quoted}
 use Rattle.round_trip.proofs.Lists.{Matched, both-none, both-more}
 use Rattle.round_trip.proofs.Values.{Reads, IsText, string-reads, zero-reads, array-reads, Field, fieldText, object, GoodField, IsField, object-reads}
 use Rattle.round_trip.proofs.Readers.{Gives, array-at, object-at, is-string, no-backslash, means-it, same, named, values-named, matched-length, the-one}
 use Rattle.round_trip.proofs.Rows.{digits-plain, plain-append, IsLevel, k-entry, side-reads, SideAt, listed-at}
-use Rattle.round_trip.proofs.Whole.{top-is, laidAs, HeardAs}
+use Rattle.round_trip.proofs.Sizes.{length-k, length-side}
+use Rattle.round_trip.proofs.Whole.{top-is, laidAs, HeardAs, says-them}
+use Rattle.round_trip.proofs.Settings.{name-plain, name-short, depth-short}
 
 -- ---- the text as a tree of values
 abbrev fields : List ℕ → List ℕ → List Field
@@ -153,3 +158,42 @@ module _ (s : List ℕ) (bids asks : List PriceLevel) (fine-bids : Each FineLeve
 
     pub array-k : Reads 16 (array the-parts)
     array-k = array-reads 15 itself the-parts parts-read
+
+-- ---- how long it is
+length-shape : (a b c n : List ℕ) → length a ≤ 5902 → length b ≤ 5902 → length c ≤ 10 → length n ≤ 18
+    → length (ascii "[0,{\"as\":" ++ (a ++ (ascii ",\"bs\":" ++ (b ++ (ascii "}," ++ (c ++ (ascii "," ++ (n ++ ascii "]")))))))) ≤ 32768
+length-shape a b c n la lb lc ln =
+    let x : List ℕ = ascii "," ++ (n ++ ascii "]") in
+    let y : List ℕ = ascii "}," ++ (c ++ x) in
+    let z : List ℕ = ascii ",\"bs\":" ++ (b ++ y) in
+    omega (arith, length-append n (ascii "]"), length-append c x, length-append b y, length-append a z)
+
+module _ (depth : ℕ) (name : List ℕ) (bids asks : List PriceLevel) (g : good (record { dialect = K; depth = depth; name = name }) ≡ true) (fine-bids : Fine bids) (fine-asks : Fine asks) where
+  abbrev terms : Terms
+  terms = record { dialect = K; depth = depth; name = name }
+
+  snapshot-is : kSnapshot depth name bids asks ≡ array (parts (array (map kEntry asks)) (array (map kEntry bids)) (ascii "book-" ++ written depth) name)
+  unfolding kSnapshot
+  snapshot-is = shape (array (map kEntry asks)) (array (map kEntry bids)) (quoted (ascii "book-" ++ written depth)) (quoted name)
+
+  short : length (kSnapshot depth name bids asks) ≤ 32768
+  unfolding kSnapshot
+  short =
+      let c : length (quoted (ascii "book-" ++ written depth)) ≤ 10 = omega (arith, length-quoted (ascii "book-" ++ written depth), depth-short depth name g) in
+      let n : length (quoted name) ≤ 18 = omega (arith, length-quoted name, name-short terms g) in
+      length-shape (array (map kEntry asks)) (array (map kEntry bids)) (quoted (ascii "book-" ++ written depth)) (quoted name)
+      (length-side kEntry length-k asks fine-asks) (length-side kEntry length-k bids fine-bids) c n
+
+  said-tree : (s : List ℕ) → s ≡ array (parts (array (map kEntry asks)) (array (map kEntry bids)) (ascii "book-" ++ written depth) name) → length s ≤ 32768
+      → said terms s ≡ says (record { snapshot = true; bids = map quoteOf bids; asks = map quoteOf asks; checksum = unprinted; number = 0 })
+  unfolding heardIn
+  said-tree s e l =
+      let r : Reads 16 s = subst (Reads 16) (sym e) (array-k s bids asks (fine-bids .each) (fine-asks .each) depth name (name-plain terms g)) in
+      let h : Is s (top s) (array (parts (array (map kEntry asks)) (array (map kEntry bids)) (ascii "book-" ++ written depth) name)) = subst (Is s (top s)) e (top-is s r) in
+      says-them terms s l r bids asks unprinted 0
+      (heard-k s bids asks (fine-bids .each) (fine-asks .each) depth name (name-plain terms g) (top s) h)
+      (fine-bids .few) (fine-asks .few)
+
+  pub said-k : said terms (kSnapshot depth name bids asks)
+      ≡ says (record { snapshot = true; bids = map quoteOf bids; asks = map quoteOf asks; checksum = unprinted; number = 0 })
+  said-k = said-tree (kSnapshot depth name bids asks) snapshot-is short

@@ -1,5 +1,5 @@
 -- What the writer writes is read back. Assumes nothing.
-use Rattle.round_trip.specs.ReadBack.{K-round-trip, M-round-trip}
+use Rattle.round_trip.specs.Claims.{K-round-trip, M-round-trip}
 use Rattle.round_trip.proofs.SnapshotK.{said-k}
 use Rattle.round_trip.proofs.SnapshotM.{said-m}
 

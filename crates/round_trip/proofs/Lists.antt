@@ -1,16 +1,16 @@
 -- Items with commas between them and a closing bracket after them are read back, one by one. Assumes nothing.
 use Prim.Native.Nat.{ℕ, zero, suc, _+_, _≤_, _<_}
 use mathlib.Core.Path.{_≡_, refl, sym, ap, _∙_}
-use mathlib.Core.Bool.{Bool, true, false}
+use mathlib.Core.Bool.{false}
 use mathlib.Core.List.{List, [], _∷_, _++_, map, append-assoc}
 use native.Mathlib.Omega.{arith}
 use lib.ListN.{length, getD, drop, length-append}
-use Rattle.json_tokens.specs.Tokens.{End, At, Broken, blanks, closing, separator}
-use Rattle.json.specs.Json.{Next, item, ends, wrong, Items, items, noItems, next, before, onward, list, listOf}
+use Rattle.json_tokens.specs.Tokens.{Broken, blanks, closing}
+use Rattle.json.specs.Json.{Next, item, Items, items, before, onward, list, listOf}
 use Rattle.json.proofs.Laws.{first-ends, first-item, later-item, later-ends}
 use Rattle.writer.specs.Snapshot.{commaJoined}
-use Rattle.round_trip.specs.ReadBack.{Each, each-none, each-more}
-use Rattle.round_trip.proofs.Places.{byte-here, past, past-byte, no-blanks, in-text, Starts, starts-some, starts-append, Stops, comma-stops}
+use Rattle.round_trip.specs.Claims.{Each, each-more}
+use Rattle.round_trip.proofs.Places.{past, past-byte, no-blanks, in-text, Starts, starts-append, Stops, comma-stops}
 use Rattle.round_trip.proofs.Tokens.{closes, closes-not, separates, separates-not}
 
 -- two lists, item by item

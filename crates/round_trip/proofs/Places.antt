@@ -1,12 +1,12 @@
 -- What stands at a position of a text, and in a part of it. Assumes nothing.
-use Prim.Native.Nat.{ℕ, zero, suc, _+_, _-_, _≤_, _<_}
+use Prim.Native.Nat.{ℕ, _+_, _-_, _<_}
 use mathlib.Core.Path.{_≡_, refl, sym, ap, ap₂, _∙_}
-use mathlib.Core.Bool.{false}
-use mathlib.Core.List.{List, [], _∷_, _++_, append-assoc}
+use mathlib.Core.Bool.{Bool, true, false, _||_, true≢false}
+use mathlib.Core.List.{List, [], _∷_, _++_}
 use native.Mathlib.Omega.{arith}
-use native.Mathlib.Nat.{not-suc-le-zero}
-use borrow.Author.Tests.{ne-eqb}
-use lib.ListN.{length, getD, take, drop, length-append, List·getD-append}
+use borrow.Author.Tests.{ne-eqb, eqb-false}
+use lib.Dec.{eqb}
+use lib.ListN.{length, getD, take, drop, List·getD-append}
 use lib.Seq.{drop-drop, getD-drop, drop-append-seam, take-append-seam}
 use Rattle.json_tokens.specs.Bytes.{byteAt, blank, digit}
 use Rattle.json_tokens.specs.Tokens.{blanks}
@@ -56,23 +56,39 @@ module _ {t : List ℕ} (h : Starts t) where
   starts-append u = List·getD-append t u 0 0 starts-some
 
 -- ---- what follows a number: nothing that a number goes on with
-pub record Stops (u : List ℕ) : Type 0 where
-  pub not-digit : digit (getD u 0 0) ≡ false
-  pub not-point : getD u 0 0 ≡ 46 → ⊥
-  pub not-lower : getD u 0 0 ≡ 101 → ⊥
-  pub not-upper : getD u 0 0 ≡ 69 → ⊥
+unfoldable pub goesOn : ℕ → Bool
+goesOn c = digit c || (eqb c 46 || (eqb c 101 || eqb c 69))
+
+unfoldable pub Stops : List ℕ → Type 0
+Stops u = goesOn (getD u 0 0) ≡ false
 
 pub comma-stops : (u : List ℕ) → Stops (44 ∷ u)
-unfolding digit
-comma-stops u = record { not-digit = refl; not-point = λ e. omega arith; not-lower = λ e. omega arith; not-upper = λ e. omega arith }
+unfolding Stops goesOn digit
+comma-stops u = refl
 
 pub array-stops : (u : List ℕ) → Stops (93 ∷ u)
-unfolding digit
-array-stops u = record { not-digit = refl; not-point = λ e. omega arith; not-lower = λ e. omega arith; not-upper = λ e. omega arith }
+unfolding Stops goesOn digit
+array-stops u = refl
 
 pub object-stops : (u : List ℕ) → Stops (125 ∷ u)
-unfolding digit
-object-stops u = record { not-digit = refl; not-point = λ e. omega arith; not-lower = λ e. omega arith; not-upper = λ e. omega arith }
+unfolding Stops goesOn digit
+object-stops u = refl
+
+pub nothing-stops : Stops []
+unfolding Stops goesOn digit
+nothing-stops = refl
+
+by-or : (a b : Bool) → (a || b) ≡ false → (a ≡ false) × (b ≡ false)
+by-or true b h = absurd (true≢false h)
+by-or false b h = (refl, h)
+
+pub stops-is : (u : List ℕ) → Stops u → (digit (getD u 0 0) ≡ false) × (getD u 0 0 ≡ 46 → ⊥) × (getD u 0 0 ≡ 101 → ⊥) × (getD u 0 0 ≡ 69 → ⊥)
+unfolding Stops goesOn
+stops-is u h =
+    let a = by-or _ _ h in
+    let b = by-or _ _ (a .1) in
+    let c = by-or _ _ (b .1) in
+    (a .0, eqb-false _ 46 (b .0), eqb-false _ 101 (c .0), eqb-false _ 69 (c .1))
 
 -- ---- the part a of s is the text t
 pub record Is (s : List ℕ) (a : Span) (t : List ℕ) : Type 0 where

@@ -1,25 +1,25 @@
 -- What the readers of values make of texts that are known: arrays, objects, members by name, strings, whole numbers. Assumes nothing.
-use Prim.Native.Nat.{ℕ, zero, suc, _+_, _-_, _≤_, _<_}
+use Prim.Native.Nat.{ℕ, suc, _+_, _-_}
 use mathlib.Core.Path.{_≡_, refl, sym, ap, ap₂, _∙_}
-use mathlib.Core.Bool.{Bool, true, false, _&&_, _||_, cond, true≢false, and-eq-true-iff}
-use mathlib.Core.List.{List, [], _∷_, _++_, map, append-assoc}
+use mathlib.Core.Bool.{Bool, true, false, _&&_, cond, true≢false, and-eq-true-iff}
+use mathlib.Core.List.{List, [], _∷_, _++_, map}
 use native.Mathlib.Omega.{arith}
 use borrow.Author.Tests.{eq-eqb, ne-eqb, eqb-true}
 use lib.Dec.{eqb}
-use lib.ListN.{length, getD, take, drop, length-append}
+use lib.ListN.{length, take, drop}
 use lib.Seq.{take-append-seam}
-use Rattle.decimal.specs.Digits.{Reading, reads, refused}
+use Rattle.decimal.specs.Digits.{Reading, reads}
 use Rattle.json_tokens.specs.Bytes.{byteAt}
-use Rattle.json_tokens.specs.Tokens.{At, Broken, prefix, word}
-use Rattle.json.specs.Json.{Span, Pair, items, elements, members, value}
-use Rattle.json.specs.Names.{part, means, holds, hasBackslash}
+use Rattle.json_tokens.specs.Tokens.{At, prefix, word}
+use Rattle.json.specs.Json.{Span, Pair, value}
+use Rattle.json.specs.Names.{means, holds, hasBackslash}
 use Rattle.json.proofs.Names.{means-part, snoc-is, holds-append}
-use Rattle.entries.specs.Places.{andThen, isString, contents, arrayAt, objectAt, valuesOf, only, inner}
-use Rattle.writer.specs.Snapshot.{quoted, commaJoined, array}
-use Rattle.round_trip.specs.ReadBack.{Each, each-none, each-more}
+use Rattle.entries.specs.Places.{isString, contents, arrayAt, objectAt, valuesOf, inner}
+use Rattle.writer.specs.Snapshot.{quoted, array}
+use Rattle.round_trip.specs.Claims.{Each}
 use Rattle.round_trip.proofs.Places.{byte-here, past-byte, Is, part-is}
 use Rattle.round_trip.proofs.Tokens.{plain, unescaped-in, quoted-append, length-quoted}
-use Rattle.round_trip.proofs.Lists.{Matched, both-none, both-more, Read}
+use Rattle.round_trip.proofs.Lists.{Matched, both-none, both-more}
 use Rattle.round_trip.proofs.Values.{Reads, IsText, elements-read, Field, object, GoodField, IsField, members-read}
 
 -- ---- arrays and objects

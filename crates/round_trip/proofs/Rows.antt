@@ -1,29 +1,28 @@
 -- The entries that the writer writes for levels say these levels, and none breaks check 8. Assumes nothing.
-use Prim.Native.Nat.{ℕ, zero, suc, _+_, _/_, _^_, _≤_, _<_}
-use mathlib.Core.Path.{_≡_, refl, sym, ap, ap₂, _∙_}
-use mathlib.Core.Bool.{Bool, true, false, _&&_, cond}
+use Prim.Native.Nat.{ℕ, zero, suc, _/_, _^_, _≤_}
+use mathlib.Core.Path.{_≡_, refl, ap, ap₂, _∙_}
+use mathlib.Core.Bool.{Bool, true, false, _&&_}
 use mathlib.Core.List.{List, [], _∷_, _++_, map}
 use native.Mathlib.Omega.{arith}
 use borrow.Author.Tests.{ne-eqb, le-leb}
-use lib.ListN.{length}
 use Rattle.decimal.specs.Ascii.{ascii}
-use Rattle.decimal.specs.Digits.{Reading, reads, refused, written, fixed}
-use Rattle.decimal.specs.Decimal.{Number, Within, read, text, afterPoint, isZero}
+use Rattle.decimal.specs.Digits.{Reading, reads, written}
+use Rattle.decimal.specs.Decimal.{Number, read, text, afterPoint}
 use Rattle.decimal.proofs.Digits.{Digits, none, one, digit-in, written-digits, fixed-digits}
 use Rattle.decimal.proofs.RoundTrip.{read-text}
 use Rattle.json_tokens.specs.Bytes.{unescaped}
 use Rattle.json.specs.Json.{Span}
-use Rattle.entries.specs.Places.{andThen, all, isString, arrayAt, inner}
+use Rattle.entries.specs.Places.{andThen, all, arrayAt, inner}
 use Rattle.entries.specs.Rows.{Row, rowK, entryK, rowM, entryM, entriesAt, badPrice, badSize, badTexts, numberAt}
 use Rattle.layout.specs.Layout.{Listed, listedAt}
 use Rattle.message.specs.Meaning.{Quote, quoteAt}
 use Rattle.side.specs.Level.{PriceLevel}
 use Rattle.writer.specs.Snapshot.{quoted, array, kEntry, mEntry}
-use Rattle.round_trip.specs.ReadBack.{quoteOf, Positive, FineLevel, Each, each-none, each-more}
+use Rattle.round_trip.specs.Claims.{quoteOf, Positive, FineLevel, Each, each-none, each-more}
 use Rattle.round_trip.proofs.Places.{Is}
 use Rattle.round_trip.proofs.Tokens.{plain}
 use Rattle.round_trip.proofs.Lists.{Matched, both-none, both-more}
-use Rattle.round_trip.proofs.Values.{Reads, IsText, each-map, string-reads, array-reads}
+use Rattle.round_trip.proofs.Values.{Reads, IsText, string-reads, array-reads}
 use Rattle.round_trip.proofs.Readers.{Gives, array-at, is-string, inner-is}
 
 -- ---- a decimal's text is plain
@@ -97,51 +96,49 @@ pub record Entry (write : PriceLevel → List ℕ) (entry : List ℕ → Span �
 -- an entry is an array of strings, of which a dialect's `row` makes the row
 module _ (texts : PriceLevel → List (List ℕ)) (row : List ℕ → List Span → Reading Row) (strings : (l : PriceLevel) → Each (λ t. Reads 12 (quoted t)) (texts l))
     (row-at : (s : List ℕ) (parts : List Span) (l : PriceLevel) → FineLevel l → Matched (IsText quoted s) parts (texts l) → EntryAt s l (row s parts)) where
-  entry-of : (s : List ℕ) (a : Span) (l : PriceLevel) → FineLevel l → Is s a (array (map quoted (texts l))) → EntryAt s l (andThen (arrayAt 13 s a) (row s))
+  array-row : (s : List ℕ) (a : Span) (l : PriceLevel) → FineLevel l → Is s a (array (map quoted (texts l))) → EntryAt s l (andThen (arrayAt 13 s a) (row s))
   unfolding andThen
-  entry-of s a l f h =
+  array-row s a l f h =
       let g = array-at 12 quoted (texts l) (strings l) s a h in
       let e = row-at s (g .found) l f (g .matches) in
       record { row = e .row; is-row = rw (g .gives, andThen) (e .is-row); row-is = e .row-is }
+
+  entry-of : Entry (λ l. array (map quoted (texts l))) (λ s a. andThen (arrayAt 13 s a) (row s))
+  entry-of = record { entry-reads = λ l. array-reads 12 quoted (texts l) (strings l); entry-at = array-row }
+
+-- the strings of an entry: price, size and what the dialect has more
+unfoldable entryTexts : List (List ℕ) → PriceLevel → List (List ℕ)
+entryTexts more l = text (l .price) ∷ (text (l .size) ∷ more)
+
+strings-read : (more : List (List ℕ)) → Each (λ t. Reads 12 (quoted t)) more → (l : PriceLevel) → Each (λ t. Reads 12 (quoted t)) (entryTexts more l)
+unfolding entryTexts
+strings-read more each l =
+    each-more (string-reads 12 (text (l .price)) (text-plain (l .price)))
+    (each-more (string-reads 12 (text (l .size)) (text-plain (l .size))) each)
 
 -- ---- K's entries
 abbrev stamp : List ℕ
 stamp = ascii "0.000000"
 
-unfoldable k-texts : PriceLevel → List (List ℕ)
-k-texts l = text (l .price) ∷ (text (l .size) ∷ (stamp ∷ []))
+stamp-reads : Each (λ t. Reads 12 (quoted t)) (stamp ∷ [])
+unfolding plain unescaped
+stamp-reads = each-more (string-reads 12 stamp refl) each-none
 
-k-strings : (l : PriceLevel) → Each (λ t. Reads 12 (quoted t)) (k-texts l)
-unfolding k-texts plain unescaped
-k-strings l =
-    each-more (string-reads 12 (text (l .price)) (text-plain (l .price)))
-    (each-more (string-reads 12 (text (l .size)) (text-plain (l .size)))
-    (each-more (string-reads 12 stamp refl) each-none))
-
-k-row : (s : List ℕ) (parts : List Span) (l : PriceLevel) → FineLevel l → Matched (IsText quoted s) parts (k-texts l) → EntryAt s l (rowK s parts)
-unfolding k-texts rowK
-k-row s parts l f (both-more {a = p} h (both-more {a = z} k (both-more {a = t} m both-none))) = record {
+k-row : (s : List ℕ) (parts : List Span) (l : PriceLevel) → FineLevel l → Matched (IsText quoted s) parts (entryTexts (stamp ∷ []) l) → EntryAt s l (rowK s parts)
+unfolding entryTexts rowK
+k-row s parts l f (both-more {a = p} h (both-more {a = z} k (both-more m both-none))) = record {
   row = record { price = p; size = z };
   is-row = rw (is-string (text (l .price)) h, is-string (text (l .size)) k, is-string stamp m);
   row-is = level-is l f h k;
 }
 
 pub k-entry : Entry kEntry entryK
-unfolding kEntry k-texts entryK
-k-entry = record { entry-reads = λ l. array-reads 12 quoted (k-texts l) (k-strings l); entry-at = entry-of k-texts rowK k-strings k-row }
+unfolding kEntry entryTexts entryK
+k-entry = entry-of (entryTexts (stamp ∷ [])) rowK (strings-read (stamp ∷ []) stamp-reads) k-row
 
 -- ---- M's entries
-unfoldable m-texts : PriceLevel → List (List ℕ)
-m-texts l = text (l .price) ∷ (text (l .size) ∷ [])
-
-m-strings : (l : PriceLevel) → Each (λ t. Reads 12 (quoted t)) (m-texts l)
-unfolding m-texts
-m-strings l =
-    each-more (string-reads 12 (text (l .price)) (text-plain (l .price)))
-    (each-more (string-reads 12 (text (l .size)) (text-plain (l .size))) each-none)
-
-m-row : (s : List ℕ) (parts : List Span) (l : PriceLevel) → FineLevel l → Matched (IsText quoted s) parts (m-texts l) → EntryAt s l (rowM s parts)
-unfolding m-texts rowM
+m-row : (s : List ℕ) (parts : List Span) (l : PriceLevel) → FineLevel l → Matched (IsText quoted s) parts (entryTexts [] l) → EntryAt s l (rowM s parts)
+unfolding entryTexts rowM
 m-row s parts l f (both-more {a = p} h (both-more {a = z} k both-none)) = record {
   row = record { price = p; size = z };
   is-row = rw (is-string (text (l .price)) h, is-string (text (l .size)) k);
@@ -149,8 +146,8 @@ m-row s parts l f (both-more {a = p} h (both-more {a = z} k both-none)) = record
 }
 
 pub m-entry : Entry mEntry entryM
-unfolding mEntry m-texts entryM
-m-entry = record { entry-reads = λ l. array-reads 12 quoted (m-texts l) (m-strings l); entry-at = entry-of m-texts rowM m-strings m-row }
+unfolding mEntry entryTexts entryM
+m-entry = entry-of (entryTexts []) rowM (strings-read [] each-none) m-row
 
 -- ---- an array of entries
 pub each-of : {A : Type 0} {P : A → Type 0} → ((a : A) → P a) → (l : List A) → Each P l

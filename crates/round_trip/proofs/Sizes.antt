@@ -1,15 +1,15 @@
 -- How long the texts of a snapshot are: well within a message. Assumes nothing.
-use Prim.Native.Nat.{ℕ, zero, suc, _+_, _*_, _≤_, _<_, zero-le}
-use mathlib.Core.Path.{_≡_, refl, sym, ap, _∙_}
+use Prim.Native.Nat.{ℕ, suc, _+_, _*_, _≤_, zero-le}
+use mathlib.Core.Path.{_≡_, refl}
 use mathlib.Core.List.{List, [], _∷_, _++_, map}
 use native.Mathlib.Omega.{arith}
 use lib.ListN.{length, length-append}
 use Rattle.decimal.specs.Ascii.{ascii}
-use Rattle.decimal.specs.Decimal.{Number, Within, text}
+use Rattle.decimal.specs.Decimal.{Number, text}
 use Rattle.decimal.proofs.Text.{length-text}
 use Rattle.side.specs.Level.{PriceLevel}
 use Rattle.writer.specs.Snapshot.{quoted, commaJoined, array, kEntry, mEntry}
-use Rattle.round_trip.specs.ReadBack.{Positive, FineLevel, Fine, Each, each-none, each-more}
+use Rattle.round_trip.specs.Claims.{Positive, FineLevel, Fine, Each, each-none, each-more}
 use Rattle.round_trip.proofs.Tokens.{length-quoted}
 
 length-decimal : (n : Number) → Positive n → length (quoted (text n)) ≤ 22

@@ -6,15 +6,15 @@ use mathlib.Core.List.{List, [], _∷_, _++_, append-assoc}
 use native.Mathlib.Nat.{not-suc-le-zero}
 use native.Mathlib.Omega.{arith}
 use lib.Dec.{eqb}
-use borrow.Author.Tests.{eq-eqb, ne-eqb, le-ltb, leb-true, eqb-true, eqb-false, not-true}
+use borrow.Author.Tests.{ne-eqb, le-ltb, leb-true, eqb-true, eqb-false, not-true}
 use lib.ListN.{length, getD, drop, length-append}
 use Rattle.decimal.specs.Digits.{isDigit, written, significant}
 use Rattle.decimal.proofs.Digits.{Digits, none, one, digit-in, written-digits, written-positive, significant-zero, first-significant}
 use Rattle.json_tokens.specs.Bytes.{byteAt, digit, unescaped}
-use Rattle.json_tokens.specs.Tokens.{At, Broken, run, digits, blanks, closing, separator, chars, stringRest, string, minus, int, number}
+use Rattle.json_tokens.specs.Tokens.{At, Broken, run, digits, blanks, closing, separator, chars, stringRest, string, int, number}
 use Rattle.json_tokens.proofs.Laws.{closing-yes, closing-no, separator-yes, separator-no, string-yes, minus-no, int-zero, int-more, some-yes, fraction-none, exponent-none, number-is}
 use Rattle.writer.specs.Snapshot.{quoted}
-use Rattle.round_trip.proofs.Places.{byte-here, past, past-byte, no-blanks, Stops}
+use Rattle.round_trip.proofs.Places.{byte-here, past, past-byte, no-blanks, Stops, stops-is}
 
 -- ---- structural characters with no blank around them
 module _ (c : ℕ) (s : List ℕ) (i x : ℕ) (u : List ℕ) (h : drop i s ≡ x ∷ u) (l : 32 < x) where
@@ -113,37 +113,37 @@ module _ (s : List ℕ) (i c : ℕ) (w u : List ℕ) (h : drop i s ≡ (c ∷ w)
       at false e =
           int-more s i (λ q. eqb-false c 48 e (sym the-first ∙ q))
           ∙ some-yes s i (ap digit the-first ∙ first-digit d)
-          ∙ ap At (ap (λ (l : List ℕ). run digit l i) h ∙ run-digits d u i (stop .not-digit))
+          ∙ ap At (ap (λ (l : List ℕ). run digit l i) h ∙ run-digits d u i (stops-is u stop .0))
 
   pub number-here : number s i ≡ At (i + length (c ∷ w))
   unfolding ends-at
   number-here =
       number-is s i ends-at ends-at
       (ap (int s) (minus-no s i (λ e. let k = in-digits in omega arith)) ∙ the-int)
-      (fraction-none s ends-at (λ e. stop .not-point (sym after ∙ e)))
-      ∙ exponent-none s ends-at (λ e. stop .not-lower (sym after ∙ e)) (λ e. stop .not-upper (sym after ∙ e))
+      (fraction-none s ends-at (λ e. stops-is u stop .1 (sym after ∙ e)))
+      ∙ exponent-none s ends-at (λ e. stops-is u stop .2 (sym after ∙ e)) (λ e. stops-is u stop .3 (sym after ∙ e))
 
 -- a number's digits: the first, and the others; a 0 in front stands alone
-pub record Whole (t : List ℕ) : Type 0 where
+pub record Numeral (t : List ℕ) : Type 0 where
   pub first : ℕ
   pub others : List ℕ
   pub is : t ≡ first ∷ others
   pub all-digits : Digits (first ∷ others)
   pub no-needless : first ≡ 48 → others ≡ []
 
-whole-of : (t : List ℕ) → Digits t → 0 < length t → (getD t 0 0 ≡ 48 → ⊥) → Whole t
-whole-of [] d l n = absurd (not-suc-le-zero l)
-whole-of (c ∷ t) d l n = record { first = c; others = t; is = refl; all-digits = d; no-needless = λ e. absurd (n e) }
+numeral-of : (t : List ℕ) → Digits t → 0 < length t → (getD t 0 0 ≡ 48 → ⊥) → Numeral t
+numeral-of [] d l n = absurd (not-suc-le-zero l)
+numeral-of (c ∷ t) d l n = record { first = c; others = t; is = refl; all-digits = d; no-needless = λ e. absurd (n e) }
 
 some-written : (n : ℕ) → 0 < length (written n)
 unfolding written
 some-written n = rw (length-append (significant (n / 10)) ((48 + n % 10) ∷ [])) (omega arith)
 
-pub written-whole : (n : ℕ) → Whole (written n)
+pub written-numeral : (n : ℕ) → Numeral (written n)
 unfolding written
-written-whole zero =
+written-numeral zero =
     let e : written 0 ≡ 48 ∷ [] = ap (λ (l : List ℕ). l ++ (48 ∷ [])) significant-zero in
     record { first = 48; others = []; is = e; all-digits = subst Digits e (written-digits 0); no-needless = λ q. refl }
-written-whole (suc n) =
-    whole-of (written (suc n)) (written-digits (suc n)) (some-written (suc n))
+written-numeral (suc n) =
+    numeral-of (written (suc n)) (written-digits (suc n)) (some-written (suc n))
     (λ e. first-significant (suc n) (omega arith) (sym (ap (λ (l : List ℕ). getD l 0 0) (written-positive (suc n) (omega arith))) ∙ e))

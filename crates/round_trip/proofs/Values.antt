@@ -1,23 +1,23 @@
 -- Values as the writer writes them: each is read to its end wherever it stands, and the elements of an array and the members of an object are those
 -- that were written. Assumes nothing.
-use Prim.Native.Nat.{ℕ, zero, suc, _+_, _≤_, _<_}
+use Prim.Native.Nat.{ℕ, suc, _+_, _≤_, _<_}
 use mathlib.Core.Path.{_≡_, refl, sym, ap, _∙_, subst}
-use mathlib.Core.Bool.{Bool, true, false}
+use mathlib.Core.Bool.{true}
 use mathlib.Core.List.{List, [], _∷_, _++_, map, append-assoc}
 use native.Mathlib.Omega.{arith}
 use lib.ListN.{length, getD, drop, length-append}
 use Rattle.decimal.specs.Digits.{isDigit, written}
 use Rattle.decimal.proofs.Digits.{Digits, none, one, digit-in}
 use Rattle.json_tokens.specs.Bytes.{byteAt}
-use Rattle.json_tokens.specs.Tokens.{At, separator, string}
+use Rattle.json_tokens.specs.Tokens.{At}
 use Rattle.json_tokens.proofs.Laws.{scalar-number}
-use Rattle.json.specs.Json.{Span, Pair, Next, item, Items, items, listOf, itemsEnd, element, member, elements, members, value}
+use Rattle.json.specs.Json.{Span, Pair, Next, item, items, listOf, itemsEnd, element, member, elements, members, value}
 use Rattle.json.proofs.Laws.{value-array, value-object, value-scalar, value-string, element-is, member-is}
 use Rattle.writer.specs.Snapshot.{quoted, commaJoined, array}
-use Rattle.round_trip.specs.ReadBack.{Each, each-none, each-more}
+use Rattle.round_trip.specs.Claims.{Each, each-none, each-more}
 use Rattle.round_trip.proofs.Places.{byte-here, past, past-byte, Starts, starts-append, Stops, array-stops, object-stops, Is}
-use Rattle.round_trip.proofs.Tokens.{plain, quoted-append, string-here, separates, number-here, Whole, written-whole, first-digit}
-use Rattle.round_trip.proofs.Lists.{Matched, Read, Item, list-read}
+use Rattle.round_trip.proofs.Tokens.{plain, string-here, separates, number-here, written-numeral, first-digit}
+use Rattle.round_trip.proofs.Lists.{Read, Item, list-read}
 
 -- ---- a text that is a value, where arrays and objects nest at most d deep
 pub record Reads (d : ℕ) (t : List ℕ) : Type 0 where
@@ -34,12 +34,12 @@ unfolding quoted
 quoted-first t u = refl
 
 quoted-starts : (t u : List ℕ) → Starts (quoted t ++ u)
-quoted-starts t u = let e = quoted-first t u in record { seen = omega arith; not-array = λ q. omega arith; not-object = λ q. omega arith }
+quoted-starts t u = let e = quoted-first t u in omega arith
 
 pub string-reads : (d : ℕ) (t : List ℕ) → plain t ≡ true → Reads d (quoted t)
 unfolding quoted
 string-reads d t p = record {
-  starts = record { seen = omega arith; not-array = λ q. omega arith; not-object = λ q. omega arith };
+  starts = omega arith;
   ends = λ s i u h stop. value-string s i d (byte-here s i _ h) ∙ string-here s i t u p h;
 }
 
@@ -48,7 +48,7 @@ digits-read : (d c : ℕ) (w : List ℕ) → Digits (c ∷ w) → (c ≡ 48 → 
 digits-read d c w h z =
     let k : (48 ≤ c) × (c ≤ 57) = digit-in (first-digit h) in
     record {
-      starts = record { seen = omega arith; not-array = λ q. omega arith; not-object = λ q. omega arith };
+      starts = omega arith;
       ends = λ s i u h′ stop.
           let e : byteAt s i ≡ c = byte-here s i _ h′ in
           value-scalar s i d (λ q. omega arith) (λ q. omega arith)
@@ -57,7 +57,7 @@ digits-read d c w h z =
     }
 
 pub number-reads : (d n : ℕ) → Reads d (written n)
-number-reads d n = let w = written-whole n in subst (Reads d) (sym (w .is)) (digits-read d (w .first) (w .others) (w .all-digits) (w .no-needless))
+number-reads d n = let w = written-numeral n in subst (Reads d) (sym (w .is)) (digits-read d (w .first) (w .others) (w .all-digits) (w .no-needless))
 
 pub zero-reads : (d : ℕ) → Reads d (48 ∷ [])
 unfolding isDigit
@@ -90,9 +90,9 @@ module _ {A D : Type 0} (one : ℕ → Next A) (start close : ℕ) (s : List ℕ
   bracketed-end = ap itemsEnd (bracketed-read .reads-them)
 
 -- ---- arrays
-array-is : (ts : List (List ℕ)) → array ts ≡ bracketed 91 93 ts
-unfolding array bracketed
-array-is ts = refl
+-- texts as they are
+abbrev pub itself : List ℕ → List ℕ
+itself t = t
 
 -- an element is a text
 abbrev pub IsText : {D : Type 0} → (D → List ℕ) → List ℕ → Span → D → Type 0
@@ -116,7 +116,7 @@ module _ {D : Type 0} (d : ℕ) (write : D → List ℕ) where
     pub array-reads : Reads (suc d) (array (map write ds))
     unfolding array itemsEnd
     array-reads = record {
-      starts = record { seen = omega arith; not-array = λ q. omega arith; not-object = λ q. omega arith };
+      starts = omega arith;
       ends = λ s i u h stop. value-array s i d (byte-here s i _ h) ∙ ap itemsEnd (elements-read s i u h .reads-them);
     }
 
@@ -175,11 +175,11 @@ module _ (d : ℕ) where
     field-found = (
       the-pair,
       member-is (value d s) s j k (k + 1) (k + 1 + length (f .text))
-      (string-here s j (f .name) _ (g .plainly) from-name)
-      (separates 58 s k 58 _ from-colon (omega arith) refl value-seen)
-      (g .value-reads .ends s (k + 1) u from-value stop)
-      ∙ ap (item the-pair) field-end,
-      record { name-is = record { rest = _; here = from-name; ends = refl }; value-is = record { rest = u; here = from-value; ends = refl } }
+          (string-here s j (f .name) _ (g .plainly) from-name)
+          (separates 58 s k 58 _ from-colon (omega arith) refl value-seen)
+          (g .value-reads .ends s (k + 1) u from-value stop)
+          ∙ ap (item the-pair) field-end,
+      record { name-is = record { rest = _; here = from-name; ends = refl }; value-is = record { rest = u; here = from-value; ends = refl } },
     )
 
   member-item : (s : List ℕ) (f : Field) → GoodField d f → Item (member (value d s) s) 125 s fieldText (IsField s) f
@@ -194,6 +194,6 @@ module _ (d : ℕ) where
     pub object-reads : Reads (suc d) (object fs)
     unfolding object itemsEnd
     object-reads = record {
-      starts = record { seen = omega arith; not-array = λ q. omega arith; not-object = λ q. omega arith };
+      starts = omega arith;
       ends = λ s i u h stop. value-object s i d (byte-here s i _ h) ∙ ap itemsEnd (members-read s i u h .reads-them);
     }

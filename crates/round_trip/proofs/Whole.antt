@@ -1,38 +1,32 @@
 -- A text that is one value as the writer writes it, heard as a snapshot of these levels, says this snapshot. Assumes nothing.
-use Prim.Native.Nat.{ℕ, zero, suc, _+_, _≤_, _<_}
-use mathlib.Core.Path.{_≡_, refl, sym, ap, ap₂, _∙_}
-use mathlib.Core.Bool.{Bool, true, false, _||_, cond}
-use mathlib.Core.List.{List, [], _∷_, _++_, map, append-nil}
+use Prim.Native.Nat.{ℕ, _+_, _≤_}
+use mathlib.Core.Path.{_≡_, refl, sym, ap, _∙_, subst}
+use mathlib.Core.Bool.{Bool, true, false, cond}
+use mathlib.Core.List.{List, [], map, append-nil}
 use native.Mathlib.Omega.{arith}
 use borrow.Author.Tests.{eq-eqb, le-ltb}
-use lib.Dec.{ltb}
-use lib.ListN.{length, getD, drop}
+use lib.ListN.{length}
 use lib.Seq.{drop-length}
-use Rattle.decimal.specs.Digits.{Reading, reads, refused}
-use Rattle.json_tokens.specs.Bytes.{digit, blank}
-use Rattle.json_tokens.specs.Tokens.{At, Broken, run, blanks, ended}
+use Rattle.decimal.specs.Digits.{Reading, reads}
+use Rattle.json_tokens.specs.Bytes.{blank}
+use Rattle.json_tokens.specs.Tokens.{At, run, blanks, ended}
 use Rattle.json.specs.Json.{Span, value}
 use Rattle.json.specs.Json as json·
 use Rattle.json.proofs.Laws.{text-ends}
 use Rattle.settings.specs.Settings.{Terms}
 use Rattle.entries.specs.Places.{top}
-use Rattle.entries.specs.Rows.{Row, badTexts}
 use Rattle.layout.specs.Layout.{Printed, Listed, Layout, Heard}
-use Rattle.message.specs.Meaning.{Checked, fails, passes, Quote, Message, Said, says, quoteAt, tooMany, counted, laidOut, addressed, heardIn, framed, bad, decimals, alsoDecimals, checked, messageOf, saidOf, said}
+use Rattle.message.specs.Meaning.{fails, passes, says, tooMany, counted, laidOut, addressed, heardIn, framed, bad, decimals, alsoDecimals, checked, messageOf, saidOf, said}
 use Rattle.message.specs.declared.Answer.the-variants.{TooManyEntries}
 use Rattle.side.specs.Level.{PriceLevel}
-use Rattle.round_trip.specs.ReadBack.{quoteOf}
-use Rattle.round_trip.proofs.Places.{no-blanks, Stops, Is}
+use Rattle.round_trip.specs.Claims.{quoteOf}
+use Rattle.round_trip.proofs.Places.{no-blanks, nothing-stops, Is}
 use Rattle.round_trip.proofs.Lists.{Matched}
 use Rattle.round_trip.proofs.Values.{Reads}
 use Rattle.round_trip.proofs.Readers.{matched-length}
 use Rattle.round_trip.proofs.Rows.{IsLevel, quotes-are, none-bad}
 
 -- ---- the text is its own value
-nothing-stops : Stops []
-unfolding digit
-nothing-stops = record { not-digit = refl; not-point = λ e. omega arith; not-lower = λ e. omega arith; not-upper = λ e. omega arith }
-
 module _ (s : List ℕ) (r : Reads 16 s) where
   at-start : blanks s 0 ≡ 0
   at-start = no-blanks s 0 s refl (r .starts .seen)
@@ -46,7 +40,7 @@ module _ (s : List ℕ) (r : Reads 16 s) where
   unfolding blanks run
   to-the-end = ap (λ (l : List ℕ). run blank l (length s)) (drop-length s)
 
-  pub text-yes : json·.text s ≡ true
+  text-yes : json·.text s ≡ true
   unfolding ended
   text-yes = text-ends s (length s) the-value ∙ eq-eqb (blanks s (length s)) (length s) to-the-end
 
@@ -54,7 +48,7 @@ module _ (s : List ℕ) (r : Reads 16 s) where
   unfolding top
   top-at = rw (the-value, top, at-start)
 
-  pub top-is : Is s (top s) s
+  top-is : Is s (top s) s
   top-is = rw top-at record { rest = []; here = sym (append-nil s); ends = omega arith }
 
 -- ---- the checks, in their order
@@ -94,6 +88,14 @@ module _ (t : Terms) (s : List ℕ) (short : length s ≤ 32768) (r : Reads 16 s
   unfolding checked alsoDecimals decimals
   is-checked = ap (alsoDecimals s) is-framed ∙ rw (no-bad, decimals)
 
-  pub says-them : said t s ≡ says (record { snapshot = true; bids = map quoteOf bids; asks = map quoteOf asks; checksum = sum; number = number })
+  says-them : said t s ≡ says (record { snapshot = true; bids = map quoteOf bids; asks = map quoteOf asks; checksum = sum; number = number })
   unfolding said saidOf messageOf l
   says-them = ap (saidOf s) is-checked ∙ rw (quotes-are (h .bids-are), quotes-are (h .asks-are))
+
+-- the same of a text that is a tree of values
+pub says-tree : (t : Terms) (s tree : List ℕ) → s ≡ tree → length s ≤ 32768 → Reads 16 tree → (bids asks : List PriceLevel) (sum : Printed) (number : ℕ)
+    → ((a : Span) → Is s a tree → HeardAs s bids asks sum number (heardIn (t .dialect) t s a)) → length bids ≤ 100 → length asks ≤ 100
+    → said t s ≡ says (record { snapshot = true; bids = map quoteOf bids; asks = map quoteOf asks; checksum = sum; number = number })
+says-tree t s tree e short r bids asks sum number h few-bids few-asks =
+    let q : Reads 16 s = subst (Reads 16) (sym e) r in
+    says-them t s short q bids asks sum number (h (top s) (subst (Is s (top s)) e (top-is s q))) few-bids few-asks

@@ -1,2 +1,3 @@
--- In reading order: what is read back.
-pub mod ReadBack
+-- In reading order: the claims; levels that they speak of.
+pub mod Claims
+pub mod Examples

@@ -6,10 +6,10 @@ use mathlib.Core.List.{List, [], _∷_, map}
 use lib.ListN.{length}
 use Rattle.decimal.specs.Decimal.{Number, Within, isZero}
 use Rattle.side.specs.Level.{PriceLevel}
-use Rattle.settings.specs.Settings.{Terms, good}
+use Rattle.settings.specs.Settings.{good}
 use Rattle.settings.specs.declared.Dialect.the-variants.{K, M}
 use Rattle.layout.specs.Layout.{printed, unprinted}
-use Rattle.message.specs.Meaning.{Quote, Message, said, says}
+use Rattle.message.specs.Meaning.{Quote, said, says}
 use Rattle.writer.specs.Snapshot.{kSnapshot, mSnapshot}
 
 -- A level as an entry that says its price and its size.

@@ -1,4 +1,5 @@
--- In reading order: what stands at a position; tokens; lists of items; values; the readers of values; entries; how long the texts are; the whole message; what good settings say; K's snapshot; M's; the claims.
+-- In reading order: what stands at a position; tokens; lists of items; values; the readers of values; entries; how long the texts are; the whole
+-- message; what good settings say; K's snapshot; M's; the claims.
 pub mod Places
 pub mod Tokens
 pub mod Lists

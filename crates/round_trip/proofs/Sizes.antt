@@ -57,8 +57,7 @@ module _ (write : PriceLevel → List ℕ) (short : (l : PriceLevel) → FineLev
   length-joined (l ∷ (m ∷ ls)) (each-more f r) =
       let a = short l f in
       let b = length-joined (m ∷ ls) r in
-      let e : length (write l ++ (44 ∷ commaJoined (map write (m ∷ ls)))) ≡ length (write l) + suc (length (commaJoined (map write (m ∷ ls)))) =
-      length-append (write l) (44 ∷ commaJoined (map write (m ∷ ls))) in
+      let e = length-comma (write l) (write m) (map write ls) in
       omega arith
 
   pub length-side : (levels : List PriceLevel) → Fine levels → length (array (map write levels)) ≤ 5902

@@ -74,9 +74,6 @@ module _ {A D : Type 0} (one : ℕ → Next A) (start close : ℕ) (s : List ℕ
   unfolding bracketed
   opened = h ∙ ap (λ (l : List ℕ). start ∷ l) (append-assoc (commaJoined (map write ds)) (close ∷ []) u)
 
-  opens : byteAt s i ≡ start
-  opens = byte-here s i _ opened
-
   bracketed-read : Read is ds (i + length (bracketed start close (map write ds))) (listOf one close s (i + 1))
   unfolding bracketed
   bracketed-read =
@@ -85,11 +82,8 @@ module _ {A D : Type 0} (one : ℕ → Next A) (start close : ℕ) (s : List ℕ
       let n : i + 1 + (length (commaJoined (map write ds)) + 1) ≡ i + length (bracketed start close (map write ds)) = omega arith in
       record { found = r .found; reads-them = r .reads-them ∙ ap (items (r .found)) n; matches = r .matches }
 
-  bracketed-end : itemsEnd (listOf one close s (i + 1)) ≡ At (i + length (bracketed start close (map write ds)))
-  unfolding itemsEnd
-  bracketed-end = ap itemsEnd (bracketed-read .reads-them)
-
 -- ---- arrays
+
 -- texts as they are
 abbrev pub itself : List ℕ → List ℕ
 itself t = t

@@ -1,4 +1,4 @@
--- What the writer's snapshot says when it is read. Assumes nothing: these are definitions.
+-- What the writer's snapshot says when it is read: statements, each proved in `proofs/Claims`. Assumes nothing: these are definitions.
 use Prim.Native.Nat.{ℕ, _≤_, _<_, _^_}
 use mathlib.Core.Path.{_≡_}
 use mathlib.Core.Bool.{true, false}
@@ -30,7 +30,7 @@ pub data Each {A : Type 0} (P : A → Type 0) : List A → Type 0 where
   each-none : Each P []
   each-more : {a : A} {l : List A} → P a → Each P l → Each P (a ∷ l)
 
--- The levels of a side.
+-- The levels of a side, as many as a message may have.
 pub record Fine (levels : List PriceLevel) : Type 0 where
   pub few : length levels ≤ 100
   pub each : Each FineLevel levels

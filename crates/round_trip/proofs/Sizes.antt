@@ -1,0 +1,66 @@
+-- How long the texts of a snapshot are: well within a message. Assumes nothing.
+use Prim.Native.Nat.{ℕ, suc, _+_, _*_, _≤_, zero-le}
+use mathlib.Core.Path.{_≡_, refl}
+use mathlib.Core.List.{List, [], _∷_, _++_, map}
+use native.Mathlib.Omega.{arith}
+use lib.ListN.{length, length-append}
+use Rattle.decimal.specs.Ascii.{ascii}
+use Rattle.decimal.specs.Decimal.{Number, text}
+use Rattle.decimal.proofs.Text.{length-text}
+use Rattle.side.specs.Level.{PriceLevel}
+use Rattle.writer.specs.Snapshot.{quoted, commaJoined, array, kEntry, mEntry}
+use Rattle.round_trip.specs.Claims.{Positive, FineLevel, Fine, Each, each-none, each-more}
+use Rattle.round_trip.proofs.Tokens.{length-quoted}
+
+length-decimal : (n : Number) → Positive n → length (quoted (text n)) ≤ 22
+length-decimal n p = let a = length-text n (p .within) in let b = length-quoted (text n) in omega arith
+
+length-array : (ts : List (List ℕ)) → length (array ts) ≡ length (commaJoined ts) + 2
+unfolding array
+length-array ts = let e : length (commaJoined ts ++ (93 ∷ [])) ≡ length (commaJoined ts) + 1 = length-append (commaJoined ts) (93 ∷ []) in omega arith
+
+length-comma : (t u : List ℕ) (ts : List (List ℕ)) → length (commaJoined (t ∷ (u ∷ ts))) ≡ length t + 1 + length (commaJoined (u ∷ ts))
+unfolding commaJoined
+length-comma t u ts = let e : length (t ++ (44 ∷ commaJoined (u ∷ ts))) ≡ length t + suc (length (commaJoined (u ∷ ts))) = length-append t (44 ∷ commaJoined (u ∷ ts)) in omega arith
+
+length-one : (t : List ℕ) → length (commaJoined (t ∷ [])) ≡ length t
+unfolding commaJoined
+length-one t = refl
+
+-- an entry of either dialect
+pub length-k : (l : PriceLevel) → FineLevel l → length (kEntry l) ≤ 58
+unfolding kEntry
+length-k l f =
+    let p : List ℕ = quoted (text (l .price)) in
+    let z : List ℕ = quoted (text (l .size)) in
+    let t : List ℕ = quoted (ascii "0.000000") in
+    let a : length p ≤ 22 = length-decimal (l .price) (f .price) in
+    let b : length z ≤ 22 = length-decimal (l .size) (f .size) in
+    let c : length t ≡ 10 = length-quoted (ascii "0.000000") in
+    omega (arith, length-array (p ∷ (z ∷ (t ∷ []))), length-comma p z (t ∷ []), length-comma z t [], length-one t)
+
+pub length-m : (l : PriceLevel) → FineLevel l → length (mEntry l) ≤ 58
+unfolding mEntry
+length-m l f =
+    let p : List ℕ = quoted (text (l .price)) in
+    let z : List ℕ = quoted (text (l .size)) in
+    let a : length p ≤ 22 = length-decimal (l .price) (f .price) in
+    let b : length z ≤ 22 = length-decimal (l .size) (f .size) in
+    omega (arith, length-array (p ∷ (z ∷ [])), length-comma p z [], length-one z)
+
+-- a side
+module _ (write : PriceLevel → List ℕ) (short : (l : PriceLevel) → FineLevel l → length (write l) ≤ 58) where
+  length-joined : (levels : List PriceLevel) → Each FineLevel levels → length (commaJoined (map write levels)) ≤ length levels * 59
+  unfolding commaJoined
+  length-joined [] each-none = zero-le
+  length-joined (l ∷ []) (each-more f r) = let a = short l f in omega arith
+  length-joined (l ∷ (m ∷ ls)) (each-more f r) =
+      let a = short l f in
+      let b = length-joined (m ∷ ls) r in
+      let e = length-comma (write l) (write m) (map write ls) in
+      omega arith
+
+  pub length-side : (levels : List PriceLevel) → Fine levels → length (array (map write levels)) ≤ 5902
+  length-side levels f =
+      let n : length levels ≤ 100 = f .few in
+      omega (arith, length-array (map write levels), length-joined levels (f .each))

@@ -1,0 +1,257 @@
+-- M's snapshot is read back: its text is an object of six members, one of which is an object with the two sides. Assumes nothing.
+use Prim.Native.Nat.{ℕ, _^_, _≤_, _<_}
+use mathlib.Core.Path.{_≡_, refl, ap, _∙_}
+use mathlib.Core.Bool.{true, false}
+use mathlib.Core.List.{List, [], _∷_, _++_, map, append-assoc}
+use native.Mathlib.Omega.{arith}
+use lib.ListN.{length, length-append}
+use Rattle.decimal.specs.Ascii.{ascii}
+use Rattle.decimal.specs.Digits.{reads, written}
+use Rattle.decimal.specs.Whole.{readWhole, atMost, readChecksum}
+use Rattle.decimal.proofs.Digits.{length-written}
+use Rattle.decimal.proofs.WholeNumber.{below-bound}
+use Rattle.decimal.proofs.RoundTrip.{written-read}
+use Rattle.json_tokens.specs.Bytes.{unescaped}
+use Rattle.json.specs.Json.{Span, Pair}
+use Rattle.entries.specs.Places.{andThen, objectAt, valuesOf, only, wholeAt, checksumAt}
+use Rattle.entries.specs.Rows.{entryM}
+use Rattle.layout.specs.Layout.{printed, laid}
+use Rattle.message_m.specs.LayoutM.{someName, someString, escapedM, someMeans, oursM, isSnapshotAt, listedIn, layoutM, heardM}
+use Rattle.message.specs.Meaning.{heardIn, said, says}
+use Rattle.settings.specs.Settings.{Terms, good}
+use Rattle.settings.specs.declared.Dialect.the-variants.{M}
+use Rattle.side.specs.Level.{PriceLevel}
+use Rattle.writer.specs.Snapshot.{quoted, commaJoined, array, mEntry, mSnapshot}
+use Rattle.round_trip.specs.Claims.{Each, each-none, each-more, FineLevel, Fine, quoteOf}
+use Rattle.round_trip.proofs.Places.{Is, part-is}
+use Rattle.round_trip.proofs.Tokens.{plain, length-quoted}
+use Rattle.round_trip.proofs.Lists.{Matched, both-none, both-more}
+use Rattle.round_trip.proofs.Values.{Reads, string-reads, number-reads, Field, fieldText, object, GoodField, IsField, object-reads}
+use Rattle.round_trip.proofs.Readers.{Gives, object-at, is-string, no-backslash, means-it, same, named, values-named, One, the-one}
+use Rattle.round_trip.proofs.Rows.{m-entry, side-reads, SideAt, listed-at}
+use Rattle.round_trip.proofs.Sizes.{length-m, length-side}
+use Rattle.round_trip.proofs.Whole.{laidAs, HeardAs, says-tree}
+use Rattle.round_trip.proofs.Settings.{name-plain, name-short}
+
+-- ---- the text as a tree of values
+abbrev spelled : List ℕ → List ℕ → List ℕ → List ℕ → List ℕ → List ℕ
+spelled product bids asks checksum number =
+    ascii "{\"channel\":\"book\",\"product\":" ++ (product
+    ++ (ascii ",\"type\":\"snapshot\",\"data\":{\"bids\":" ++ (bids
+    ++ (ascii ",\"asks\":" ++ (asks
+    ++ (ascii "},\"checksum\":" ++ (checksum
+    ++ (ascii ",\"gsn\":" ++ (number ++ ascii "}")))))))))
+
+abbrev sides : List ℕ → List ℕ → List Field
+sides bids asks = record { name = ascii "bids"; text = bids } ∷ (record { name = ascii "asks"; text = asks } ∷ [])
+
+abbrev fields : List ℕ → List ℕ → List ℕ → List ℕ → List ℕ → List Field
+fields product bids asks checksum number =
+    record { name = ascii "channel"; text = quoted (ascii "book") } ∷
+    (record { name = ascii "product"; text = product } ∷
+    (record { name = ascii "type"; text = quoted (ascii "snapshot") } ∷
+    (record { name = ascii "data"; text = object (sides bids asks) } ∷
+    (record { name = ascii "checksum"; text = checksum } ∷
+    (record { name = ascii "gsn"; text = number } ∷ [])))))
+
+regroup : (n q b j a r k c t g e : List ℕ) →
+    n ++ (q ++ (b ++ (j ++ (a ++ (r ++ (k ++ (c ++ (t ++ (g ++ e))))))))) ≡ (n ++ (q ++ (((b ++ (j ++ a)) ++ r) ++ (k ++ (c ++ (t ++ g)))))) ++ e
+regroup n q b j a r k c t g e = simp append-assoc
+
+spelled-tree : (n b a c g : List ℕ) → spelled n b a c g ≡ object (fields n b a c g)
+unfolding object fieldText quoted commaJoined
+spelled-tree n b a c g =
+    ap (λ (l : List ℕ). ascii "{\"channel\":\"book\",\"product\":" ++ l)
+    (regroup n (ascii ",\"type\":\"snapshot\",\"data\":{\"bids\":") b (ascii ",\"asks\":") a (ascii "}") (ascii ",\"checksum\":") c (ascii ",\"gsn\":") g (ascii "}"))
+
+length-spelled : (n b a c g : List ℕ) → length n ≤ 18 → length b ≤ 5902 → length a ≤ 5902 → length c ≤ 10 → length g ≤ 19 → length (spelled n b a c g) ≤ 32768
+length-spelled n b a c g ln lb la lc lg =
+    let w : List ℕ = ascii ",\"gsn\":" ++ (g ++ ascii "}") in
+    let x : List ℕ = ascii "},\"checksum\":" ++ (c ++ w) in
+    let y : List ℕ = ascii ",\"asks\":" ++ (a ++ x) in
+    let z : List ℕ = ascii ",\"type\":\"snapshot\",\"data\":{\"bids\":" ++ (b ++ y) in
+    omega (arith, length-append g (ascii "}"), length-append c w, length-append a x, length-append b y, length-append n z)
+
+-- ---- its parts are values
+abbrev side : List PriceLevel → List ℕ
+side levels = array (map mEntry levels)
+
+module _ (bids asks : List PriceLevel) where
+  sides-good : Each (GoodField 14) (sides (side bids) (side asks))
+  unfolding plain unescaped
+  sides-good =
+      each-more (record { plainly = refl; value-reads = side-reads mEntry entryM m-entry bids })
+      (each-more (record { plainly = refl; value-reads = side-reads mEntry entryM m-entry asks }) each-none)
+
+  abbrev tree : List ℕ → ℕ → ℕ → List Field
+  tree name checksum number = fields (quoted name) (side bids) (side asks) (written checksum) (written number)
+
+  module _ (name : List ℕ) (name-is : plain name ≡ true) (checksum number : ℕ) where
+    fields-good : Each (GoodField 15) (tree name checksum number)
+    unfolding plain unescaped
+    fields-good =
+        each-more (record { plainly = refl; value-reads = string-reads 15 (ascii "book") refl })
+        (each-more (record { plainly = refl; value-reads = string-reads 15 name name-is })
+        (each-more (record { plainly = refl; value-reads = string-reads 15 (ascii "snapshot") refl })
+        (each-more (record { plainly = refl; value-reads = object-reads 14 (sides (side bids) (side asks)) sides-good })
+        (each-more (record { plainly = refl; value-reads = number-reads 15 checksum })
+        (each-more (record { plainly = refl; value-reads = number-reads 15 number }) each-none)))))
+
+    tree-reads : Reads 16 (object (tree name checksum number))
+    tree-reads = object-reads 15 (tree name checksum number) fields-good
+
+-- ---- what is read of known members
+only-one : {s : List ℕ} {parts : List Span} {t : List ℕ} (o : One (Is s) parts t) → only parts ≡ reads (o .the)
+unfolding only
+only-one o = ap only (o .alone)
+
+module _ (s : List ℕ) where
+  names-plain : {d : ℕ} {ms : List Pair} {fs : List Field} → Matched (IsField s) ms fs → Each (GoodField d) fs → someName s ms ≡ false
+  unfolding someName
+  names-plain both-none each-none = refl
+  names-plain (both-more {d = f} h m) (each-more g r) = rw (no-backslash (f .name) (h .name-is) (g .plainly)) (names-plain m r)
+
+  string-plain : (t : List ℕ) {parts : List Span} → plain t ≡ true → One (Is s) parts (quoted t) → someString s parts ≡ false
+  unfolding someString
+  string-plain t p o = rw (o .alone, someString, is-string t (o .is-it), no-backslash t (o .is-it) p)
+
+  means-one : (t : List ℕ) {parts : List Span} → One (Is s) parts (quoted t) → someMeans s t parts ≡ true
+  unfolding someMeans
+  means-one t o = rw (o .alone, someMeans, means-it t (o .is-it))
+
+  side-in : (name : List ℕ) (ms : List Pair) (levels : List PriceLevel) → Each FineLevel levels → One (Is s) (valuesOf s name ms) (side levels) → SideAt s levels (listedIn s name ms)
+  unfolding listedIn andThen
+  side-in name ms levels each o = rw (only-one o) (listed-at mEntry entryM m-entry s (o .the) levels each (o .is-it))
+
+-- ---- what is read of the message
+module _ (s : List ℕ) (bids asks : List PriceLevel) (fine-bids : Each FineLevel bids) (fine-asks : Each FineLevel asks) (name : List ℕ) (name-is : plain name ≡ true) (checksum number : ℕ)
+    (low : checksum ≤ 4294967295) (few : number < 10 ^ 19) where
+  abbrev the-tree : List Field
+  the-tree = tree bids asks name checksum number
+
+  abbrev the-sides : List Field
+  the-sides = sides (side bids) (side asks)
+
+  module _ (ms : List Pair) (m : Matched (IsField s) ms the-tree) where
+    channel : One (Is s) (valuesOf s (ascii "channel") ms) (quoted (ascii "book"))
+    unfolding named same
+    channel = the-one (values-named s (ascii "channel") m)
+
+    product : One (Is s) (valuesOf s (ascii "product") ms) (quoted name)
+    unfolding named same
+    product = the-one (values-named s (ascii "product") m)
+
+    kind : One (Is s) (valuesOf s (ascii "type") ms) (quoted (ascii "snapshot"))
+    unfolding named same
+    kind = the-one (values-named s (ascii "type") m)
+
+    data-in : One (Is s) (valuesOf s (ascii "data") ms) (object the-sides)
+    unfolding named same
+    data-in = the-one (values-named s (ascii "data") m)
+
+    sum-in : One (Is s) (valuesOf s (ascii "checksum") ms) (written checksum)
+    unfolding named same
+    sum-in = the-one (values-named s (ascii "checksum") m)
+
+    number-in : One (Is s) (valuesOf s (ascii "gsn") ms) (written number)
+    unfolding named same
+    number-in = the-one (values-named s (ascii "gsn") m)
+
+    -- check 4
+    not-escaped : escapedM s ms ≡ false
+    unfolding escapedM plain unescaped
+    not-escaped =
+        rw (names-plain s m (fields-good bids asks name name-is checksum number), string-plain s (ascii "book") refl channel, string-plain s name name-is product)
+
+    -- check 5
+    ours : oursM name s ms ≡ true
+    unfolding oursM
+    ours = rw (means-one s (ascii "book") channel, means-one s name product)
+
+    -- check 6
+    a-snapshot : isSnapshotAt s (kind .the) ≡ reads true
+    unfolding isSnapshotAt
+    a-snapshot = rw (means-it (ascii "snapshot") (kind .is-it))
+
+    the-sum : checksumAt s (sum-in .the) ≡ reads checksum
+    unfolding checksumAt readChecksum
+    the-sum = ap readChecksum (part-is (sum-in .is-it)) ∙ ap (atMost 4294967295) (written-read checksum (omega arith)) ∙ below-bound 4294967295 checksum low
+
+    the-number : wholeAt s (number-in .the) ≡ reads number
+    unfolding wholeAt
+    the-number = ap readWhole (part-is (number-in .is-it)) ∙ written-read number few
+
+    the-data : Gives (IsField s) the-sides (objectAt 15 s (data-in .the))
+    the-data = object-at 14 the-sides (sides-good bids asks) s (data-in .the) (data-in .is-it)
+
+    bids-at : SideAt s bids (listedIn s (ascii "bids") (the-data .found))
+    unfolding named same
+    bids-at = side-in s (ascii "bids") (the-data .found) bids fine-bids (the-one (values-named s (ascii "bids") (the-data .matches)))
+
+    asks-at : SideAt s asks (listedIn s (ascii "asks") (the-data .found))
+    unfolding named same
+    asks-at = side-in s (ascii "asks") (the-data .found) asks fine-asks (the-one (values-named s (ascii "asks") (the-data .matches)))
+
+    layout : layoutM s ms ≡ reads (laidAs (bids-at .listed) (asks-at .listed) (printed checksum) number)
+    unfolding layoutM andThen laid
+    layout =
+        rw (
+          only-one channel,
+          only-one product,
+          only-one kind,
+          a-snapshot,
+          only-one data-in,
+          the-data .gives,
+          only-one sum-in,
+          the-sum,
+          only-one number-in,
+          the-number,
+          bids-at .is-listed,
+          asks-at .is-listed,
+        )
+
+    heard : (a : Span) → objectAt 16 s a ≡ reads ms → HeardAs s bids asks (printed checksum) number (heardM name s a)
+    unfolding heardM andThen
+    heard a e = record {
+      the-bids = bids-at .listed;
+      the-asks = asks-at .listed;
+      is-heard = rw (e, not-escaped, ours, layout);
+      bids-are = bids-at .rows-are;
+      asks-are = asks-at .rows-are;
+    }
+
+  heard-tree : (a : Span) → Is s a (object the-tree) → HeardAs s bids asks (printed checksum) number (heardM name s a)
+  heard-tree a h = let g = object-at 15 the-tree (fields-good bids asks name name-is checksum number) s a h in heard (g .found) (g .matches) a (g .gives)
+
+-- ---- the claim
+module _ (name : List ℕ) (bids asks : List PriceLevel) (checksum number : ℕ) (g : good (record { dialect = M; depth = 100; name = name }) ≡ true) (fine-bids : Fine bids)
+    (fine-asks : Fine asks) (low : checksum ≤ 4294967295) (few : number < 10 ^ 19) where
+  abbrev terms : Terms
+  terms = record { dialect = M; depth = 100; name = name }
+
+  abbrev the-text : List ℕ
+  the-text = spelled (quoted name) (side bids) (side asks) (written checksum) (written number)
+
+  snapshot-spelled : mSnapshot name bids asks checksum number ≡ the-text
+  unfolding mSnapshot
+  snapshot-spelled = refl
+
+  short : length the-text ≤ 32768
+  short =
+      length-spelled (quoted name) (side bids) (side asks) (written checksum) (written number)
+      (omega (arith, length-quoted name, name-short terms g))
+      (length-side mEntry length-m bids fine-bids)
+      (length-side mEntry length-m asks fine-asks)
+      (length-written 9 checksum (omega arith))
+      (length-written 18 number few)
+
+  pub said-m : said terms (mSnapshot name bids asks checksum number)
+      ≡ says (record { snapshot = true; bids = map quoteOf bids; asks = map quoteOf asks; checksum = printed checksum; number = number })
+  unfolding heardIn
+  said-m =
+      ap (said terms) snapshot-spelled
+      ∙ says-tree terms the-text (object (tree bids asks name checksum number))
+      (spelled-tree (quoted name) (side bids) (side asks) (written checksum) (written number)) short
+      (tree-reads bids asks name (name-plain terms g) checksum number) bids asks (printed checksum) number
+      (heard-tree the-text bids asks (fine-bids .each) (fine-asks .each) name (name-plain terms g) checksum number low few)
+      (fine-bids .few) (fine-asks .few)

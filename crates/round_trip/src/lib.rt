@@ -1,0 +1,1 @@
+// What the writer writes is read back: laws alone, no code.

@@ -1,0 +1,255 @@
+-- What a reference book does with a message: it refuses it and keeps all but its status, or takes it, and takes it exactly when it is acceptable.
+-- Assumes nothing.
+use mathlib.Core.Path.{_≡_, refl, sym, ap, _∙_, subst}
+use mathlib.Core.List.{List, [], _∷_}
+use mathlib.Core.Bool.{Bool, true, false, true≢false, false≢true, _&&_, _||_, not, cond}
+use Prim.Native.Nat.{ℕ, _≤_, _<_}
+use native.Mathlib.Omega.{arith}
+use borrow.Author.Tests.{ltb-false, le-ltb, leb-false, lt-leb, eqb-true, eq-eqb, not-false}
+use lib.Dec.{leb, ltb, eqb}
+use lib.ListN.{length}
+use Rattle.decimal.specs.Digits.{Reading, reads, refused}
+use Rattle.json.specs.Json.{Span, text}
+use Rattle.settings.specs.Settings.{Terms}
+use Rattle.settings.specs.declared.Dialect.{Dialect}
+use Rattle.settings.specs.declared.Dialect.the-variants.{K, M, Unknown}
+use Rattle.side.specs.Side.{namesTwice}
+use Rattle.entries.specs.Places.{top}
+use Rattle.layout.specs.Layout.{Printed, printed, unprinted, Layout, Heard}
+use Rattle.message.specs.Answers.{number}
+use Rattle.message.specs.Meaning.{Message, Said, refuses, says, said, Checked, fails, passes, tooMany, counted, laidOut, addressed, heardIn, framed, bad, decimals, alsoDecimals, checked, saidOf, maxMessage}
+use Rattle.message.specs.declared.Answer.{Answer}
+use Rattle.message.specs.declared.Answer.the-variants.{Taken, Shut, TooLong, NotJson, Escaped, NotOurs, BadLayout, TooManyEntries, BadDecimal, PriceTwice, NoSnapshot, OldNumber, TooManyLevels, WrongChecksum, NoLevel, NoRoom}
+use Rattle.book.specs.Reference.{Status, shut, waiting, live, isShut, isLive, Reference, isM, checksumOf, pricesOf, namesPriceTwice, lacksSnapshot, isOld, hasTooMany, differs, hasWrongChecksum, bidsAfter, asksAfter, verdict, After, taken, leavesStatus, setWaiting, refusedBy, isTaken, answered, hearing, hear}
+use Rattle.book.specs.Claims.{statusAfter, Ready, is-live, restarts, Agrees, carries-none, the-same, Acceptable, withStatus}
+
+-- ---- no message is refused with the answer of a taken one
+
+abbrev Refusal : Checked → Type 0
+Refusal (fails a) = isTaken a ≡ false
+Refusal (passes l) = Unit {0}
+
+laid-refusal : (x : Reading Layout) → Refusal (laidOut x)
+unfolding laidOut counted isTaken number
+laid-refusal (reads l) = at (tooMany l)
+  where
+    at : (b : Bool) → Refusal (cond b (fails TooManyEntries) (passes l))
+    at true = refl
+    at false = tt
+laid-refusal refused = refl
+
+addressed-refusal : (x : Reading Heard) → Refusal (addressed x)
+unfolding addressed isTaken number
+addressed-refusal (reads h) = at (h .escaped) (h .ours)
+  where
+    at : (a b : Bool) → Refusal (cond a (fails Escaped) (cond b (laidOut (h .layout)) (fails NotOurs)))
+    at true b = refl
+    at false true = laid-refusal (h .layout)
+    at false false = refl
+addressed-refusal refused = refl
+
+framed-refusal : (t : Terms) (s : List ℕ) → Refusal (framed t s)
+unfolding framed isTaken number
+framed-refusal t s = at (ltb maxMessage (length s)) (text s)
+  where
+    at : (a b : Bool) → Refusal (cond a (fails TooLong) (cond b (addressed (heardIn (t .dialect) t s (top s))) (fails NotJson)))
+    at true b = refl
+    at false true = addressed-refusal (heardIn (t .dialect) t s (top s))
+    at false false = refl
+
+decimals-refusal : (s : List ℕ) (x : Checked) → Refusal x → Refusal (alsoDecimals s x)
+unfolding alsoDecimals decimals isTaken number
+decimals-refusal s (fails a) h = h
+decimals-refusal s (passes l) h = at (bad s l)
+  where
+    at : (x : List Span) → Refusal (elim x [ [] ↦ passes l | a ∷ rest ↦ fails BadDecimal ])
+    at [] = tt
+    at (a ∷ x) = refl
+
+said-refusal : (t : Terms) (s : List ℕ) (a : Answer) → said t s ≡ refuses a → isTaken a ≡ false
+unfolding said saidOf checked
+said-refusal t s a h = go (checked t s) (decimals-refusal s (framed t s) (framed-refusal t s)) h
+  where
+    go : (x : Checked) → Refusal x → saidOf s x ≡ refuses a → isTaken a ≡ false
+    go (fails b) r g = let e : b ≡ a = cc in rw e at r
+    go (passes l) r g = let z : _≡_ {A = ℕ} 0 1 = cc in absurd (omega arith)
+
+-- ---- an answer is that of a taken message, or another
+
+pub taken-answer : (a : Answer) → isTaken a ≡ true → a ≡ Taken
+unfolding isTaken number
+taken-answer Taken h = refl
+taken-answer Shut h = absurd (false≢true h)
+taken-answer TooLong h = absurd (false≢true h)
+taken-answer NotJson h = absurd (false≢true h)
+taken-answer Escaped h = absurd (false≢true h)
+taken-answer NotOurs h = absurd (false≢true h)
+taken-answer BadLayout h = absurd (false≢true h)
+taken-answer TooManyEntries h = absurd (false≢true h)
+taken-answer BadDecimal h = absurd (false≢true h)
+taken-answer PriceTwice h = absurd (false≢true h)
+taken-answer NoSnapshot h = absurd (false≢true h)
+taken-answer OldNumber h = absurd (false≢true h)
+taken-answer TooManyLevels h = absurd (false≢true h)
+taken-answer WrongChecksum h = absurd (false≢true h)
+taken-answer NoLevel h = absurd (false≢true h)
+taken-answer NoRoom h = absurd (false≢true h)
+
+pub is-taken : (a : Answer) → a ≡ Taken → isTaken a ≡ true
+unfolding isTaken number
+is-taken a h = rw (h, isTaken, number)
+
+pub not-taken : (a : Answer) → isTaken a ≡ false → a ≡ Taken → ⊥
+not-taken a h e = true≢false (sym (is-taken a e) ∙ h)
+
+-- ---- the checks 9 to 13, each as a test and as a statement
+
+or-false : (a b : Bool) → (a || b) ≡ false → (a ≡ false) × (b ≡ false)
+or-false true b h = absurd (true≢false h)
+or-false false b h = (refl, h)
+
+neither : (a b : Bool) → a ≡ false → b ≡ false → (a || b) ≡ false
+neither a b h k = rw (h, k)
+
+-- a test that counts only in M
+in-m : (d : Dialect) (b : Bool) → (isM d && b) ≡ false → d ≡ M → b ≡ false
+unfolding isM
+in-m d b h e = rw (e, isM) at h
+
+only-m : (d : Dialect) (b : Bool) → (d ≡ M → b ≡ false) → (isM d && b) ≡ false
+unfolding isM
+only-m K b h = refl
+only-m M b h = h refl
+only-m Unknown b h = refl
+
+differs-none : (c : Printed) (sum : ℕ) → differs c sum ≡ false → Agrees c sum
+unfolding differs
+differs-none (printed n) sum h = the-same (ap printed (eqb-true n sum (not-false (eqb n sum) h)))
+differs-none unprinted sum h = carries-none refl
+
+agrees-same : (c : Printed) (sum : ℕ) → Agrees c sum → differs c sum ≡ false
+unfolding differs
+agrees-same c sum (carries-none e) = rw (e, differs)
+agrees-same c sum (the-same e) = rw (e, differs, eq-eqb sum sum refl)
+
+-- whichever test holds, the first gives the verdict
+none-fits : (a b c d e : Bool)
+    → isTaken (cond a PriceTwice (cond b NoSnapshot (cond c OldNumber (cond d TooManyLevels (cond e WrongChecksum Taken))))) ≡ true
+    → (a ≡ false) × (b ≡ false) × (c ≡ false) × (d ≡ false) × (e ≡ false)
+unfolding isTaken number
+none-fits true b c d e h = absurd (false≢true h)
+none-fits false true c d e h = absurd (false≢true h)
+none-fits false false true d e h = absurd (false≢true h)
+none-fits false false false true e h = absurd (false≢true h)
+none-fits false false false false true h = absurd (false≢true h)
+none-fits false false false false false h = (refl, refl, refl, refl, refl)
+
+module _ (p : Reference) (m : Message) where
+  ready-from : isShut (p .status) ≡ false → lacksSnapshot p m ≡ false → Ready p m
+  unfolding lacksSnapshot isShut isLive
+  ready-from u h = go (p .status) (m .snapshot) refl refl u h
+    where
+      go : (st : Status) (b : Bool) → p .status ≡ st → m .snapshot ≡ b → isShut st ≡ false → (not b && not (isLive st)) ≡ false → Ready p m
+      go shut b e k u h = absurd (true≢false u)
+      go waiting true e k u h = restarts e k
+      go waiting false e k u h = absurd (true≢false h)
+      go live b e k u h = is-live e
+
+  pub ready-open : Ready p m → isShut (p .status) ≡ false
+  unfolding isShut
+  ready-open (is-live e) = rw (e, isShut)
+  ready-open (restarts e k) = rw (e, isShut)
+
+  ready-has : Ready p m → lacksSnapshot p m ≡ false
+  unfolding lacksSnapshot isLive
+  ready-has (is-live e) = rw (e, lacksSnapshot, isLive) (at (m .snapshot))
+    where
+      at : (b : Bool) → (not b && false) ≡ false
+      at true = refl
+      at false = refl
+  ready-has (restarts e k) = rw (k, lacksSnapshot)
+
+  verdict-acceptable : isShut (p .status) ≡ false → isTaken (verdict p m) ≡ true → Acceptable p m
+  unfolding verdict namesPriceTwice isOld hasTooMany hasWrongChecksum
+  verdict-acceptable u h =
+      let f = none-fits (namesPriceTwice m) (lacksSnapshot p m) (isOld p m) (hasTooMany p m) (hasWrongChecksum p m) h in
+      let d : Dialect = p .terms .dialect in
+      record {
+        ready = ready-from u (f .1);
+        once = λ k. or-false (namesTwice (pricesOf (m .bids))) (namesTwice (pricesOf (m .asks))) (rw k at (f .0));
+        newer = λ e k. leb-false (m .number) (p .number) (rw k at (in-m d (not (m .snapshot) && leb (m .number) (p .number)) (f .2) e));
+        few = λ e.
+            let o = or-false (ltb 100 (length (bidsAfter p m))) (ltb 100 (length (asksAfter p m))) (in-m d _ (f .3) e) in
+            (ltb-false 100 (length (bidsAfter p m)) (o .0), ltb-false 100 (length (asksAfter p m)) (o .1));
+        checksum = differs-none (m .checksum) (checksumOf d (bidsAfter p m) (asksAfter p m)) (f .4);
+      }
+
+  acceptable-once : Acceptable p m → namesPriceTwice m ≡ false
+  unfolding namesPriceTwice
+  acceptable-once a = at (m .snapshot) refl
+    where
+      at : (b : Bool) → m .snapshot ≡ b → (b && (namesTwice (pricesOf (m .bids)) || namesTwice (pricesOf (m .asks)))) ≡ false
+      at true k = neither _ _ (a .once k .0) (a .once k .1)
+      at false k = refl
+
+  acceptable-newer : Acceptable p m → isOld p m ≡ false
+  unfolding isOld
+  acceptable-newer a = only-m (p .terms .dialect) _ (λ e. at (m .snapshot) refl e)
+    where
+      at : (b : Bool) → m .snapshot ≡ b → p .terms .dialect ≡ M → (not b && leb (m .number) (p .number)) ≡ false
+      at true k e = refl
+      at false k e = lt-leb (m .number) (p .number) (a .newer e k)
+
+  acceptable-few : Acceptable p m → hasTooMany p m ≡ false
+  unfolding hasTooMany
+  acceptable-few a =
+      only-m (p .terms .dialect) _ (λ e. neither _ _ (le-ltb 100 (length (bidsAfter p m)) (a .few e .0)) (le-ltb 100 (length (asksAfter p m)) (a .few e .1)))
+
+  acceptable-verdict : Acceptable p m → verdict p m ≡ Taken
+  unfolding verdict hasWrongChecksum
+  acceptable-verdict a =
+      let h = agrees-same (m .checksum) (checksumOf (p .terms .dialect) (bidsAfter p m) (asksAfter p m)) (a .checksum) in
+      rw (acceptable-once a, ready-has (a .ready), acceptable-newer a, acceptable-few a, h)
+
+-- ---- a message is refused or taken
+
+pub data Hears (p : Reference) (s : List ℕ) : Type 0 where
+  refuses-it : isTaken (hear p s .answer) ≡ false → hear p s .book ≡ withStatus (statusAfter (hear p s .answer) (p .status)) p → Hears p s
+  takes-it : (m : Message) → said (p .terms) s ≡ says m → Acceptable p m → hear p s ≡ record { book = taken p m; answer = Taken } → Hears p s
+
+refused-book : (p : Reference) (a : Answer) → refusedBy p a .book ≡ withStatus (statusAfter a (p .status)) p
+unfolding refusedBy withStatus statusAfter setWaiting
+refused-book p a = at (leavesStatus a)
+  where
+    at : (b : Bool) → cond b p (setWaiting p) ≡ withStatus (cond b (p .status) waiting) p
+    at true = refl
+    at false = refl
+
+module _ (p : Reference) (s : List ℕ) where
+  refusing : (a : Answer) → isTaken a ≡ false → hear p s ≡ refusedBy p a → Hears p s
+  unfolding refusedBy
+  refusing a h e = refuses-it (rw e h) (rw e (refused-book p a))
+
+  pub acceptable-taken : (m : Message) → said (p .terms) s ≡ says m → Acceptable p m → hear p s ≡ record { book = taken p m; answer = Taken }
+  unfolding hear hearing answered isTaken number
+  acceptable-taken m q a = rw (ready-open p m (a .ready), q, hear, hearing, acceptable-verdict p m a, answered, isTaken, number)
+
+  shut-out : isShut (p .status) ≡ true → Hears p s
+  unfolding hear isTaken number refusedBy leavesStatus
+  shut-out u = refusing Shut refl (rw (u, hear))
+
+  pub hears : Hears p s
+  unfolding hear hearing answered
+  hears = open-or-shut (isShut (p .status)) refl
+    where
+      weighed : (m : Message) → isShut (p .status) ≡ false → said (p .terms) s ≡ says m → (b : Bool) → isTaken (verdict p m) ≡ b → Hears p s
+      weighed m u q true h = let a = verdict-acceptable p m u h in takes-it m q a (acceptable-taken m q a)
+      weighed m u q false h = refusing (verdict p m) h (rw (u, q, hear, hearing, answered, h))
+
+      heard : isShut (p .status) ≡ false → (x : Said) → said (p .terms) s ≡ x → Hears p s
+      heard u (refuses a) q = refusing a (said-refusal (p .terms) s a q) (rw (u, q, hear, hearing))
+      heard u (says m) q = weighed m u q (isTaken (verdict p m)) refl
+
+      open-or-shut : (b : Bool) → isShut (p .status) ≡ b → Hears p s
+      open-or-shut true u = shut-out u
+      open-or-shut false u = heard u (said (p .terms) s) refl

@@ -214,7 +214,8 @@ module _ (p : Reference) (m : Message) where
 -- ---- a message is refused or taken
 
 pub data Hears (p : Reference) (s : List ℕ) : Type 0 where
-  refuses-it : isTaken (hear p s .answer) ≡ false → hear p s .book ≡ withStatus (statusAfter (hear p s .answer) (p .status)) p → Hears p s
+  refuses-it : isTaken (hear p s .answer) ≡ false → isShut (statusAfter (hear p s .answer) (p .status)) ≡ isShut (p .status)
+      → hear p s .book ≡ withStatus (statusAfter (hear p s .answer) (p .status)) p → Hears p s
   takes-it : (m : Message) → said (p .terms) s ≡ says m → Acceptable p m → hear p s ≡ record { book = taken p m; answer = Taken } → Hears p s
 
 refused-book : (p : Reference) (a : Answer) → refusedBy p a .book ≡ withStatus (statusAfter a (p .status)) p
@@ -225,18 +226,26 @@ refused-book p a = at (leavesStatus a)
     at true = refl
     at false = refl
 
+stays-open : (a : Answer) (status : Status) → isShut status ≡ false → isShut (statusAfter a status) ≡ isShut status
+unfolding statusAfter isShut
+stays-open a status u = at (leavesStatus a)
+  where
+    at : (b : Bool) → isShut (cond b status waiting) ≡ isShut status
+    at true = refl
+    at false = sym u
+
 module _ (p : Reference) (s : List ℕ) where
-  refusing : (a : Answer) → isTaken a ≡ false → hear p s ≡ refusedBy p a → Hears p s
+  refusing : (a : Answer) → isTaken a ≡ false → isShut (statusAfter a (p .status)) ≡ isShut (p .status) → hear p s ≡ refusedBy p a → Hears p s
   unfolding refusedBy
-  refusing a h e = refuses-it (rw e h) (rw e (refused-book p a))
+  refusing a h k e = refuses-it (rw e h) (rw e k) (rw e (refused-book p a))
 
   pub acceptable-taken : (m : Message) → said (p .terms) s ≡ says m → Acceptable p m → hear p s ≡ record { book = taken p m; answer = Taken }
   unfolding hear hearing answered isTaken number
   acceptable-taken m q a = rw (ready-open p m (a .ready), q, hear, hearing, acceptable-verdict p m a, answered, isTaken, number)
 
   shut-out : isShut (p .status) ≡ true → Hears p s
-  unfolding hear isTaken number refusedBy leavesStatus
-  shut-out u = refusing Shut refl (rw (u, hear))
+  unfolding hear isTaken number refusedBy leavesStatus statusAfter
+  shut-out u = refusing Shut refl refl (rw (u, hear))
 
   pub hears : Hears p s
   unfolding hear hearing answered
@@ -244,10 +253,10 @@ module _ (p : Reference) (s : List ℕ) where
     where
       weighed : (m : Message) → isShut (p .status) ≡ false → said (p .terms) s ≡ says m → (b : Bool) → isTaken (verdict p m) ≡ b → Hears p s
       weighed m u q true h = let a = verdict-acceptable p m u h in takes-it m q a (acceptable-taken m q a)
-      weighed m u q false h = refusing (verdict p m) h (rw (u, q, hear, hearing, answered, h))
+      weighed m u q false h = refusing (verdict p m) h (stays-open (verdict p m) (p .status) u) (rw (u, q, hear, hearing, answered, h))
 
       heard : isShut (p .status) ≡ false → (x : Said) → said (p .terms) s ≡ x → Hears p s
-      heard u (refuses a) q = refusing a (said-refusal (p .terms) s a q) (rw (u, q, hear, hearing))
+      heard u (refuses a) q = refusing a (said-refusal (p .terms) s a q) (stays-open a (p .status) u) (rw (u, q, hear, hearing))
       heard u (says m) q = weighed m u q (isTaken (verdict p m)) refl
 
       open-or-shut : (b : Bool) → isShut (p .status) ≡ b → Hears p s

@@ -196,17 +196,21 @@ opened-ready t m u k = restarts (at (good t) u) k
     at false h = absurd (true≢false h)
 
 module _ (t : Terms) (p : Reference) (r : Reached t p) (s : List ℕ) (m : Message) (q : said (kept t) s ≡ says m) (k : m .snapshot ≡ true) where
-  hear-fresh : hear p s .answer ≡ Taken → hear p s ≡ hear (opened t) s
+  hear-new : Acceptable p m → hear p s ≡ hear (opened t) s
   unfolding opened
-  hear-fresh h =
-      let q′ : said (p .terms) s ≡ says m = rw (r .terms) q in
-      let d = demand-2 p s .only-when h in
-      let same : d .0 ≡ m = cc in
-      let a : Acceptable p m = rw same at (d .2) in
-      let e : p .terms ≡ opened t .terms = r .terms in
-      let y = opened-ready t m (sym (r .shut) ∙ ready-open p m (a .ready)) k in
-      acceptable-taken p s m q′ a ∙ ap (λ (b : Reference). record { book = b; answer = Taken }) (taken-fresh p (opened t) m k e)
-      ∙ sym (acceptable-taken (opened t) s m q (acceptable-fresh p (opened t) m k e y a))
+  hear-new a =
+      acceptable-taken p s m (rw (r .terms) q) a
+      ∙ ap (λ (b : Reference). record { book = b; answer = Taken }) (taken-fresh p (opened t) m k (r .terms))
+      ∙ sym
+      (acceptable-taken (opened t) s m q
+        (acceptable-fresh p (opened t) m k (r .terms) (opened-ready t m (sym (r .shut) ∙ ready-open p m (a .ready)) k) a))
+
+  hear-fresh : hear p s .answer ≡ Taken → hear p s ≡ hear (opened t) s
+  hear-fresh h = go (hears p s)
+    where
+      go : Hears p s → hear p s ≡ hear (opened t) s
+      go (refuses-it n k e) = absurd (not-taken (hear p s .answer) n h)
+      go (takes-it n d a e) = let same : n ≡ m = cc (sym (r .terms)) in hear-new (rw same at a)
 
 pub from-snapshot : From-snapshot
 unfolding run does
@@ -255,4 +259,94 @@ latest-snapshot t cs =
       last-good = last-good t cs;
       ever = ever-live t cs;
       current = current t cs;
+    }
+
+-- ---- no current price
+
+asked-waits : (p : Reference) → isLive (p .status) ≡ false → isTaken (asked Current p) ≡ false
+unfolding asked stands isTaken number
+asked-waits p h = rw (h, asked, stands) (at (isShut (p .status)))
+  where
+    at : (b : Bool) → isTaken (cond b Shut NoSnapshot) ≡ false
+    at true = refl
+    at false = refl
+
+then-waits : (a b : Answer) → isTaken a ≡ false → isTaken (ifTaken a b a) ≡ false
+then-waits a b h = rw (if-refused a b a h) h
+
+in-scope : (scope : Scope) (f : Scope → Answer) → isTaken (f Current) ≡ false → (isCurrent scope && isTaken (f scope)) ≡ false
+unfolding isCurrent
+in-scope Current f h = h
+in-scope LastGood f h = refl
+
+no-answer : (p : Reference) (ask : Ask) (buffer : List ℕ) → isLive (p .status) ≡ false → (asksPrice ask && isTaken (does p ask buffer .answer)) ≡ false
+unfolding asksPrice does askedLevel askedWriting
+no-answer p (message s) buffer h = refl
+no-answer p (howMany scope) buffer h = in-scope scope (λ x. asked x p) (asked-waits p h)
+no-answer p (levelAt scope side i) buffer h = in-scope scope (λ x. askedLevel x side i p) (then-waits (asked Current p) (placeAnswer (placeAt i (sideOf side p))) (asked-waits p h))
+no-answer p (whichNumber scope) buffer h = in-scope scope (λ x. asked x p) (asked-waits p h)
+no-answer p (howManyUpdates scope) buffer h = in-scope scope (λ x. asked x p) (asked-waits p h)
+no-answer p write buffer h = then-waits (asked Current p) (cond (ltb (length buffer) (length (snapshotText p))) NoRoom Taken) (asked-waits p h)
+
+-- a book that is not live takes only a snapshot
+needs-snapshot : (p : Reference) (m : Message) → isLive (p .status) ≡ false → Acceptable p m → m .snapshot ≡ true
+needs-snapshot p m h a = go (a .ready)
+  where
+    go : Ready p m → m .snapshot ≡ true
+    go (is-live e) = absurd (true≢false (sym (is-live-true (p .status) e) ∙ h))
+    go (restarts e k) = k
+
+no-update : (p : Reference) (s : List ℕ) (m : Message) → isLive (p .status) ≡ false → said (p .terms) s ≡ says m → m .snapshot ≡ false → hear p s .answer ≡ Taken → ⊥
+no-update p s m h q k t = go (hears p s)
+  where
+    go : Hears p s → ⊥
+    go (refuses-it n l e) = not-taken (hear p s .answer) n t
+    go (takes-it n d a e) = let same : n ≡ m = cc in true≢false (sym (needs-snapshot p m h (rw same at a)) ∙ k)
+
+-- and stays so until then
+or-none : (a b : Bool) → (a || b) ≡ false → (a ≡ false) × (b ≡ false)
+or-none true b h = absurd (true≢false h)
+or-none false b h = (refl, h)
+
+module _ (p q : Reference) (ask : Ask) (ms : List Message) (h : isLive (p .status) ≡ false) (n : anySnapshot (takenIn p ask ++ ms) ≡ false) where
+  still-waits : Steps p ask q → (isLive (q .status) ≡ false) × (anySnapshot ms ≡ false)
+  unfolding withStatus anySnapshot
+  still-waits (stays status k l t e) = (rw e (dark (isLive status) l), rw t at n)
+    where
+      dark : (b : Bool) → (b ≡ true → isLive (p .status) ≡ true) → b ≡ false
+      dark true g = absurd (true≢false (sym (g refl) ∙ h))
+      dark false g = refl
+  still-waits (moves m a t e) = absurd (true≢false (sym (needs-snapshot p m h a) ∙ or-none (m .snapshot) (anySnapshot ms) (rw t at n) .0))
+
+not-live : (p : Reference) (cs : List Call) → isLive (p .status) ≡ false → anySnapshot (takenOf p cs) ≡ false → prices p cs ≡ []
+unfolding prices takenOf
+not-live p [] h n = refl
+not-live p (c ∷ cs) h n =
+    let q : Reference = does p (c .ask) (c .buffer) .after in
+    let w = still-waits p q (c .ask) (takenOf q cs) h n (steps p (c .ask) (c .buffer)) in
+    rw (no-answer p (c .ask) (c .buffer) h) (not-live q cs (w .0) (w .1))
+
+opened-waits : (t : Terms) → isLive (opened t .status) ≡ false
+unfolding opened isLive
+opened-waits t = at (good t)
+  where
+    at : (b : Bool) → isLive (cond b waiting shut) ≡ false
+    at true = refl
+    at false = refl
+
+refusal-waits : (p : Reference) (s : List ℕ) → (hear p s .answer ≡ Taken → ⊥) → leavesStatus (hear p s .answer) ≡ false → isLive (hear p s .book .status) ≡ false
+unfolding withStatus statusAfter isLive
+refusal-waits p s h l = go (hears p s)
+  where
+    go : Hears p s → isLive (hear p s .book .status) ≡ false
+    go (refuses-it n k e) = rw (e, withStatus, statusAfter, l)
+    go (takes-it m q a e) = absurd (h (ap (λ (x : After). x .answer) e))
+
+pub no-price : No-price
+no-price =
+    record {
+      update = no-update;
+      not-live = not-live;
+      at-first = λ t cs n. not-live (opened t) cs (opened-waits t) n;
+      after-refusal = λ p s cs h l n. not-live (hear p s .book) cs (refusal-waits p s h l) n;
     }

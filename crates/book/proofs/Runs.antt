@@ -2,7 +2,7 @@
 -- Assumes nothing.
 use mathlib.Core.Path.{_≡_, refl, sym, ap, _∙_, subst}
 use mathlib.Core.List.{List, [], _∷_, _++_}
-use mathlib.Core.Bool.{Bool, true, false, true≢false, false≢true, _&&_, _||_, not, cond}
+use mathlib.Core.Bool.{Bool, true, false, true≢false, false≢true, _||_, cond, or-true, or-assoc, or-comm}
 use Prim.Native.Nat.{ℕ}
 use native.Mathlib.Omega.{arith}
 use Rattle.settings.specs.Settings.{Terms, kept, good}
@@ -11,7 +11,7 @@ use Rattle.message.specs.declared.Answer.{Answer}
 use Rattle.message.specs.declared.Answer.the-variants.{Taken}
 use Rattle.book.specs.Reference.{Status, shut, waiting, live, isShut, isLive, Reference, opened, bidsAfter, asksAfter, taken, leavesStatus, isTaken, After, hear, Reply, Ask, message, howMany, levelAt, whichNumber, howManyUpdates, write, does, Call, run, final}
 use Rattle.book.specs.Claims.{statusAfter, Ready, is-live, restarts, Acceptable, withStatus, ifAnswered, takenIn, takenOf, anySnapshot, sinceSnapshot, Begins, begins, rebuilt}
-use Rattle.book.proofs.Hearing.{Hears, refuses-it, takes-it, hears, ready-open, taken-answer, is-taken}
+use Rattle.book.proofs.Outcome.{Outcome, is-refused, is-accepted, outcome, ready-open, is-taken}
 
 -- ---- a step: the book is as it was but for its status, or a message was taken
 
@@ -32,12 +32,12 @@ none-taken a (says m) h = rw h
 
 pub steps : (p : Reference) (ask : Ask) (buffer : List ℕ) → Steps p ask (does p ask buffer .after)
 unfolding does takenIn withStatus statusAfter ifAnswered isTaken
-steps p (message s) buffer = go (hears p s)
+steps p (message s) buffer = go (outcome p s)
   where
-    go : Hears p s → Steps p (message s) (hear p s .book)
-    go (refuses-it h k e) =
+    go : Outcome p s → Steps p (message s) (hear p s .book)
+    go (is-refused h n k e) =
         stays (statusAfter (hear p s .answer) (p .status)) k (refused-live (leavesStatus (hear p s .answer)) (p .status)) (none-taken (hear p s .answer) (said (p .terms) s) h) e
-    go (takes-it m q a e) = moves m a (rw (e, q, is-taken Taken refl)) (ap (λ (x : After). x .book) e)
+    go (is-accepted m q a e) = moves m a (rw (e, q, is-taken Taken refl)) (ap (λ (x : After). x .book) e)
 steps p (howMany scope) buffer = stays (p .status) refl (λ h. h) refl refl
 steps p (levelAt scope side i) buffer = stays (p .status) refl (λ h. h) refl refl
 steps p (whichNumber scope) buffer = stays (p .status) refl (λ h. h) refl refl
@@ -55,10 +55,6 @@ reached-taken : (t : Terms) (p : Reference) (m : Message) → Acceptable p m →
 unfolding taken isShut isLive
 reached-taken t p m a r = record { terms = r .terms; shut = sym (ready-open p m (a .ready)) ∙ r .shut; ever = λ h. go (a .ready) }
   where
-    or-true : (b : Bool) → (b || true) ≡ true
-    or-true true = refl
-    or-true false = refl
-
     go : Ready p m → (m .snapshot || p .ever) ≡ true
     go (is-live e) = rw (r .ever (rw e)) (or-true (m .snapshot))
     go (restarts e k) = rw k
@@ -137,16 +133,10 @@ final-rebuilt p (c ∷ cs) =
     let q : Reference = does p (c .ask) (c .buffer) .after in
     final-rebuilt q cs ∙ rebuilt-step (final q cs .status) p q (c .ask) (takenOf q cs) (steps p (c .ask) (c .buffer))
 
-or-swap : (a b c : Bool) → (a || (b || c)) ≡ ((b || a) || c)
-or-swap true true c = refl
-or-swap true false c = refl
-or-swap false true c = refl
-or-swap false false c = refl
-
 pub rebuilt-ever : (p : Reference) (ms : List Message) → rebuilt p ms .ever ≡ (anySnapshot ms || p .ever)
 unfolding rebuilt anySnapshot taken
 rebuilt-ever p [] = refl
-rebuilt-ever p (m ∷ ms) = rebuilt-ever (taken p m) ms ∙ or-swap (anySnapshot ms) (m .snapshot) (p .ever)
+rebuilt-ever p (m ∷ ms) = rebuilt-ever (taken p m) ms ∙ sym (or-assoc (anySnapshot ms) (m .snapshot) (p .ever)) ∙ ap (λ (b : Bool). b || p .ever) (or-comm (anySnapshot ms) (m .snapshot))
 
 pub since-begins : (ms : List Message) → anySnapshot ms ≡ true → Begins (sinceSnapshot ms)
 unfolding anySnapshot sinceSnapshot

@@ -4,6 +4,7 @@ use Prim.Native.Nat.{ℕ, _≤_, _<_}
 use mathlib.Core.Path.{_≡_}
 use mathlib.Core.Bool.{Bool, true, false, _&&_, _||_, cond}
 use mathlib.Core.List.{List, [], _∷_, _++_}
+use lib.Dec.{eqb}
 use lib.ListN.{length}
 use Rattle.settings.specs.Settings.{Terms, kept}
 use Rattle.settings.specs.declared.Dialect.the-variants.{M}
@@ -62,8 +63,15 @@ pub record Refused (p : Reference) (ask : Ask) (lent : List ℕ) (r : Reply) : T
   pub value : r .value ≡ zeros ask
   pub buffer : r .buffer ≡ lent
 
+unfoldable pub oneOf : List ℕ → ℕ → Bool
+oneOf [] n = false
+oneOf (k ∷ ks) n = eqb n k || oneOf ks n
+
 pub record Demand1 (p : Reference) (ask : Ask) (buffer : List ℕ) : Type 0 where
   pub in-table : numberOf (does p ask buffer .answer) ≤ 15
+  -- "Questions and the writer use 1, 10, 14, 15", and a message the checks before 14.
+  pub of-question : isMessage ask ≡ false → oneOf (0 ∷ 1 ∷ 10 ∷ 14 ∷ 15 ∷ []) (numberOf (does p ask buffer .answer)) ≡ true
+  pub of-message : isMessage ask ≡ true → numberOf (does p ask buffer .answer) ≤ 13
   pub refused : (does p ask buffer .answer ≡ Taken → ⊥) → Refused p ask buffer (does p ask buffer)
   -- "Questions and the writer .. change no book", answered or not.
   pub question : isMessage ask ≡ false → does p ask buffer .after ≡ p
@@ -157,7 +165,7 @@ withStatus status p = record { terms = p .terms; status = status; bids = p .bids
 -- A live book is the one that the rules make of the latest taken snapshot and the messages taken after it, and of nothing else in the list. A book that
 -- waits after a snapshot is that one too, but for its status. Rules out a book that applies only the first message, or drops one, or keeps an invented count.
 pub record Latest (t : Terms) (cs : List Call) : Type 0 where
-  pub begin : final (opened t) cs .ever ≡ true → Begins (sinceSnapshot (takenOf (opened t) cs))
+  pub snapshot-first : final (opened t) cs .ever ≡ true → Begins (sinceSnapshot (takenOf (opened t) cs))
   pub last-good : final (opened t) cs .ever ≡ true
       → final (opened t) cs ≡ withStatus (final (opened t) cs .status) (rebuilt (opened t) (sinceSnapshot (takenOf (opened t) cs)))
   pub ever : final (opened t) cs .status ≡ live → final (opened t) cs .ever ≡ true

@@ -5,7 +5,7 @@ use mathlib.Core.List.{List, [], _∷_}
 use mathlib.Core.Bool.{Bool, true, false, true≢false, false≢true, _&&_, _||_, not, cond}
 use Prim.Native.Nat.{ℕ, _≤_, _<_}
 use native.Mathlib.Omega.{arith}
-use borrow.Author.Tests.{ltb-false, le-ltb, leb-false, lt-leb, eqb-true, eq-eqb, not-false}
+use borrow.Author.Tests.{ltb-false, le-ltb, leb-true, leb-false, lt-leb, eqb-true, eq-eqb, not-false}
 use lib.Dec.{leb, ltb, eqb}
 use lib.ListN.{length}
 use Rattle.decimal.specs.Digits.{Reading, reads, refused}
@@ -23,14 +23,18 @@ use Rattle.message.specs.declared.Answer.the-variants.{Taken, Shut, TooLong, No
 use Rattle.book.specs.Reference.{Status, shut, waiting, live, isShut, isLive, Reference, isM, checksumOf, pricesOf, namesPriceTwice, lacksSnapshot, isOld, hasTooMany, differs, hasWrongChecksum, bidsAfter, asksAfter, verdict, After, taken, leavesStatus, setWaiting, refusedBy, isTaken, answered, hearing, hear}
 use Rattle.book.specs.Claims.{statusAfter, Ready, is-live, restarts, Agrees, carries-none, the-same, Acceptable, withStatus}
 
--- ---- no message is refused with the answer of a taken one
+-- ---- what a message is refused with: checks 2 to 8
+
+-- a refusal that a message can get
+refusal : Answer → Bool
+refusal a = not (isTaken a) && leb (number a) 13
 
 abbrev Refusal : Checked → Type 0
-Refusal (fails a) = isTaken a ≡ false
+Refusal (fails a) = refusal a ≡ true
 Refusal (passes l) = Unit {0}
 
 laid-refusal : (x : Reading Layout) → Refusal (laidOut x)
-unfolding laidOut counted isTaken number
+unfolding laidOut counted refusal isTaken number
 laid-refusal (reads l) = at (tooMany l)
   where
     at : (b : Bool) → Refusal (cond b (fails TooManyEntries) (passes l))
@@ -39,7 +43,7 @@ laid-refusal (reads l) = at (tooMany l)
 laid-refusal refused = refl
 
 addressed-refusal : (x : Reading Heard) → Refusal (addressed x)
-unfolding addressed isTaken number
+unfolding addressed refusal isTaken number
 addressed-refusal (reads h) = at (h .escaped) (h .ours)
   where
     at : (a b : Bool) → Refusal (cond a (fails Escaped) (cond b (laidOut (h .layout)) (fails NotOurs)))
@@ -49,7 +53,7 @@ addressed-refusal (reads h) = at (h .escaped) (h .ours)
 addressed-refusal refused = refl
 
 framed-refusal : (t : Terms) (s : List ℕ) → Refusal (framed t s)
-unfolding framed isTaken number
+unfolding framed refusal isTaken number
 framed-refusal t s = at (ltb maxMessage (length s)) (text s)
   where
     at : (a b : Bool) → Refusal (cond a (fails TooLong) (cond b (addressed (heardIn (t .dialect) t s (top s))) (fails NotJson)))
@@ -58,7 +62,7 @@ framed-refusal t s = at (ltb maxMessage (length s)) (text s)
     at false false = refl
 
 decimals-refusal : (s : List ℕ) (x : Checked) → Refusal x → Refusal (alsoDecimals s x)
-unfolding alsoDecimals decimals isTaken number
+unfolding alsoDecimals decimals refusal isTaken number
 decimals-refusal s (fails a) h = h
 decimals-refusal s (passes l) h = at (bad s l)
   where
@@ -66,11 +70,11 @@ decimals-refusal s (passes l) h = at (bad s l)
     at [] = tt
     at (a ∷ x) = refl
 
-said-refusal : (t : Terms) (s : List ℕ) (a : Answer) → said t s ≡ refuses a → isTaken a ≡ false
+said-refusal : (t : Terms) (s : List ℕ) (a : Answer) → said t s ≡ refuses a → refusal a ≡ true
 unfolding said saidOf checked
 said-refusal t s a h = go (checked t s) (decimals-refusal s (framed t s) (framed-refusal t s)) h
   where
-    go : (x : Checked) → Refusal x → saidOf s x ≡ refuses a → isTaken a ≡ false
+    go : (x : Checked) → Refusal x → saidOf s x ≡ refuses a → refusal a ≡ true
     go (fails b) r g = let e : b ≡ a = cc in rw e at r
     go (passes l) r g = let z : _≡_ {A = ℕ} 0 1 = cc in absurd (omega arith)
 
@@ -99,14 +103,26 @@ pub is-taken : (a : Answer) → a ≡ Taken → isTaken a ≡ true
 unfolding isTaken number
 is-taken a h = rw (h, isTaken, number)
 
+refusal-other : (a : Answer) → refusal a ≡ true → isTaken a ≡ false
+unfolding refusal
+refusal-other a h = at (isTaken a) h
+  where
+    at : (b : Bool) → (not b && leb (number a) 13) ≡ true → b ≡ false
+    at true h = absurd (false≢true h)
+    at false h = refl
+
+refusal-number : (a : Answer) → refusal a ≡ true → number a ≤ 13
+unfolding refusal
+refusal-number a h = leb-true (number a) 13 (rw (refusal-other a h) at h)
+
 pub not-taken : (a : Answer) → isTaken a ≡ false → a ≡ Taken → ⊥
 not-taken a h e = true≢false (sym (is-taken a e) ∙ h)
 
 -- ---- the checks 9 to 13, each as a test and as a statement
 
-or-false : (a b : Bool) → (a || b) ≡ false → (a ≡ false) × (b ≡ false)
-or-false true b h = absurd (true≢false h)
-or-false false b h = (refl, h)
+pub or-none : (a b : Bool) → (a || b) ≡ false → (a ≡ false) × (b ≡ false)
+or-none true b h = absurd (true≢false h)
+or-none false b h = (refl, h)
 
 neither : (a b : Bool) → a ≡ false → b ≡ false → (a || b) ≡ false
 neither a b h k = rw (h, k)
@@ -144,7 +160,22 @@ none-fits false false false true e h = absurd (false≢true h)
 none-fits false false false false true h = absurd (false≢true h)
 none-fits false false false false false h = (refl, refl, refl, refl, refl)
 
+some-fits : (a b c d e : Bool)
+    → isTaken (cond a PriceTwice (cond b NoSnapshot (cond c OldNumber (cond d TooManyLevels (cond e WrongChecksum Taken))))) ≡ false
+    → refusal (cond a PriceTwice (cond b NoSnapshot (cond c OldNumber (cond d TooManyLevels (cond e WrongChecksum Taken))))) ≡ true
+unfolding refusal isTaken number
+some-fits true b c d e h = refl
+some-fits false true c d e h = refl
+some-fits false false true d e h = refl
+some-fits false false false true e h = refl
+some-fits false false false false true h = refl
+some-fits false false false false false h = absurd (true≢false h)
+
 module _ (p : Reference) (m : Message) where
+  verdict-refusal : isTaken (verdict p m) ≡ false → refusal (verdict p m) ≡ true
+  unfolding verdict
+  verdict-refusal h = some-fits (namesPriceTwice m) (lacksSnapshot p m) (isOld p m) (hasTooMany p m) (hasWrongChecksum p m) h
+
   ready-from : isShut (p .status) ≡ false → lacksSnapshot p m ≡ false → Ready p m
   unfolding lacksSnapshot isShut isLive
   ready-from u h = go (p .status) (m .snapshot) refl refl u h
@@ -176,10 +207,10 @@ module _ (p : Reference) (m : Message) where
       let d : Dialect = p .terms .dialect in
       record {
         ready = ready-from u (f .1);
-        once = λ k. or-false (namesTwice (pricesOf (m .bids))) (namesTwice (pricesOf (m .asks))) (rw k at (f .0));
+        once = λ k. or-none (namesTwice (pricesOf (m .bids))) (namesTwice (pricesOf (m .asks))) (rw k at (f .0));
         newer = λ e k. leb-false (m .number) (p .number) (rw k at (in-m d (not (m .snapshot) && leb (m .number) (p .number)) (f .2) e));
         few = λ e.
-            let o = or-false (ltb 100 (length (bidsAfter p m))) (ltb 100 (length (asksAfter p m))) (in-m d _ (f .3) e) in
+            let o = or-none (ltb 100 (length (bidsAfter p m))) (ltb 100 (length (asksAfter p m))) (in-m d _ (f .3) e) in
             (ltb-false 100 (length (bidsAfter p m)) (o .0), ltb-false 100 (length (asksAfter p m)) (o .1));
         checksum = differs-none (m .checksum) (checksumOf d (bidsAfter p m) (asksAfter p m)) (f .4);
       }
@@ -213,10 +244,10 @@ module _ (p : Reference) (m : Message) where
 
 -- ---- a message is refused or taken
 
-pub data Hears (p : Reference) (s : List ℕ) : Type 0 where
-  refuses-it : isTaken (hear p s .answer) ≡ false → isShut (statusAfter (hear p s .answer) (p .status)) ≡ isShut (p .status)
-      → hear p s .book ≡ withStatus (statusAfter (hear p s .answer) (p .status)) p → Hears p s
-  takes-it : (m : Message) → said (p .terms) s ≡ says m → Acceptable p m → hear p s ≡ record { book = taken p m; answer = Taken } → Hears p s
+pub data Outcome (p : Reference) (s : List ℕ) : Type 0 where
+  is-refused : isTaken (hear p s .answer) ≡ false → number (hear p s .answer) ≤ 13 → isShut (statusAfter (hear p s .answer) (p .status)) ≡ isShut (p .status)
+      → hear p s .book ≡ withStatus (statusAfter (hear p s .answer) (p .status)) p → Outcome p s
+  is-accepted : (m : Message) → said (p .terms) s ≡ says m → Acceptable p m → hear p s ≡ record { book = taken p m; answer = Taken } → Outcome p s
 
 refused-book : (p : Reference) (a : Answer) → refusedBy p a .book ≡ withStatus (statusAfter a (p .status)) p
 unfolding refusedBy withStatus statusAfter setWaiting
@@ -235,30 +266,30 @@ stays-open a status u = at (leavesStatus a)
     at false = sym u
 
 module _ (p : Reference) (s : List ℕ) where
-  refusing : (a : Answer) → isTaken a ≡ false → isShut (statusAfter a (p .status)) ≡ isShut (p .status) → hear p s ≡ refusedBy p a → Hears p s
+  refusing : (a : Answer) → refusal a ≡ true → isShut (statusAfter a (p .status)) ≡ isShut (p .status) → hear p s ≡ refusedBy p a → Outcome p s
   unfolding refusedBy
-  refusing a h k e = refuses-it (rw e h) (rw e k) (rw e (refused-book p a))
+  refusing a h k e = is-refused (rw e (refusal-other a h)) (rw e (refusal-number a h)) (rw e k) (rw e (refused-book p a))
 
   pub acceptable-taken : (m : Message) → said (p .terms) s ≡ says m → Acceptable p m → hear p s ≡ record { book = taken p m; answer = Taken }
   unfolding hear hearing answered isTaken number
   acceptable-taken m q a = rw (ready-open p m (a .ready), q, hear, hearing, acceptable-verdict p m a, answered, isTaken, number)
 
-  shut-out : isShut (p .status) ≡ true → Hears p s
-  unfolding hear isTaken number refusedBy leavesStatus statusAfter
+  shut-out : isShut (p .status) ≡ true → Outcome p s
+  unfolding hear refusal isTaken number refusedBy leavesStatus statusAfter
   shut-out u = refusing Shut refl refl (rw (u, hear))
 
-  pub hears : Hears p s
+  pub outcome : Outcome p s
   unfolding hear hearing answered
-  hears = open-or-shut (isShut (p .status)) refl
+  outcome = open-or-shut (isShut (p .status)) refl
     where
-      weighed : (m : Message) → isShut (p .status) ≡ false → said (p .terms) s ≡ says m → (b : Bool) → isTaken (verdict p m) ≡ b → Hears p s
-      weighed m u q true h = let a = verdict-acceptable p m u h in takes-it m q a (acceptable-taken m q a)
-      weighed m u q false h = refusing (verdict p m) h (stays-open (verdict p m) (p .status) u) (rw (u, q, hear, hearing, answered, h))
+      weighed : (m : Message) → isShut (p .status) ≡ false → said (p .terms) s ≡ says m → (b : Bool) → isTaken (verdict p m) ≡ b → Outcome p s
+      weighed m u q true h = let a = verdict-acceptable p m u h in is-accepted m q a (acceptable-taken m q a)
+      weighed m u q false h = refusing (verdict p m) (verdict-refusal p m h) (stays-open (verdict p m) (p .status) u) (rw (u, q, hear, hearing, answered, h))
 
-      heard : isShut (p .status) ≡ false → (x : Said) → said (p .terms) s ≡ x → Hears p s
-      heard u (refuses a) q = refusing a (said-refusal (p .terms) s a q) (stays-open a (p .status) u) (rw (u, q, hear, hearing))
-      heard u (says m) q = weighed m u q (isTaken (verdict p m)) refl
+      by-text : isShut (p .status) ≡ false → (x : Said) → said (p .terms) s ≡ x → Outcome p s
+      by-text u (refuses a) q = refusing a (said-refusal (p .terms) s a q) (stays-open a (p .status) u) (rw (u, q, hear, hearing))
+      by-text u (says m) q = weighed m u q (isTaken (verdict p m)) refl
 
-      open-or-shut : (b : Bool) → isShut (p .status) ≡ b → Hears p s
+      open-or-shut : (b : Bool) → isShut (p .status) ≡ b → Outcome p s
       open-or-shut true u = shut-out u
-      open-or-shut false u = heard u (said (p .terms) s) refl
+      open-or-shut false u = by-text u (said (p .terms) s) refl

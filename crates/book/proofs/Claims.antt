@@ -2,7 +2,7 @@
 -- Assumes nothing.
 use mathlib.Core.Path.{_≡_, refl, sym, ap, _∙_}
 use mathlib.Core.List.{List, [], _∷_, _++_}
-use mathlib.Core.Bool.{Bool, true, false, true≢false, false≢true, _||_, cond, or-false}
+use mathlib.Core.Bool.{Bool, true, false, true≢false, false≢true, cond, or-false}
 use Prim.Native.Nat.{ℕ, _≤_}
 use native.Mathlib.Omega.{arith}
 use Rattle.settings.specs.Settings.{Terms, kept, good}
@@ -10,9 +10,9 @@ use Rattle.message.specs.Answers.{number}
 use Rattle.message.specs.Meaning.{Message, says, said}
 use Rattle.message.specs.declared.Answer.{Answer}
 use Rattle.message.specs.declared.Answer.the-variants.{Taken}
-use Rattle.book.specs.Reference.{Status, shut, waiting, live, isShut, isLive, Reference, opened, taken, leavesStatus, isTaken, After, hear, asked, sideOf, placeAt, askedLevel, levelAsked, askedWriting, level, amount, Reply, Ask, message, howMany, levelAt, whichNumber, howManyUpdates, write, does, Call, run, final}
-use Rattle.book.specs.Claims.{zeros, statusAfter, isMessage, isWrite, oneOf, Refused, Demand-1, Ready, is-live, restarts, Acceptable, Demand-2, call, From-snapshot, takenIn, takenOf, anySnapshot, sinceSnapshot, rebuilt, withStatus, Latest-snapshot, prices, No-price}
-use Rattle.book.proofs.Outcome.{Outcome, is-refused, is-accepted, outcome, acceptable-taken, ready-open, taken-answer, is-taken, not-taken, or-none}
+use Rattle.book.specs.Reference.{Status, shut, waiting, live, isShut, isLive, Reference, opened, taken, isTaken, After, hear, asked, sideOf, placeAt, askedLevel, levelAsked, askedWriting, level, amount, Reply, Ask, message, howMany, levelAt, whichNumber, howManyUpdates, write, does, Call, run, final}
+use Rattle.book.specs.Claims.{zeros, statusAfter, isMessage, isWrite, oneOf, unchanging, Refused, Demand-1, Ready, is-live, restarts, Acceptable, Demand-2, call, From-snapshot, takenIn, takenOf, anySnapshot, sinceSnapshot, rebuilt, withStatus, Latest-snapshot, prices, No-price}
+use Rattle.book.proofs.Outcome.{Outcome, is-refused, is-accepted, outcome, acceptable-taken, ready-open, taken-answer, not-taken, or-none}
 use Rattle.book.proofs.Questions.{question-one, if-refused, no-level, no-answer}
 use Rattle.book.proofs.Runs.{Steps, stays, moves, steps, Reached, reached, run-append, taken-fresh, acceptable-fresh, final-rebuilt, rebuilt-ever, since-begins, since-rebuilt, begins-live}
 
@@ -35,9 +35,9 @@ module _ (p : Reference) (ask : Ask) (buffer : List ℕ) (h : isMessage ask ≡ 
   of-question = question-one (λ a. oneOf (0 ∷ 1 ∷ 10 ∷ 14 ∷ 15 ∷ []) (number a) ≡ true) refl refl refl refl refl p ask buffer h
 
   -- a refused question leaves the status
-  leaves : isTaken (does p ask buffer .answer) ≡ false → leavesStatus (does p ask buffer .answer) ≡ true
-  unfolding leavesStatus isTaken number
-  leaves = question-one (λ a. isTaken a ≡ false → leavesStatus a ≡ true) (λ k. absurd (true≢false k)) (λ k. refl) (λ k. refl) (λ k. refl) (λ k. refl) p ask buffer h
+  leaves : isTaken (does p ask buffer .answer) ≡ false → oneOf unchanging (number (does p ask buffer .answer)) ≡ true
+  unfolding oneOf isTaken number
+  leaves = question-one (λ a. isTaken a ≡ false → oneOf unchanging (number a) ≡ true) (λ k. absurd (true≢false k)) (λ k. refl) (λ k. refl) (λ k. refl) (λ k. refl) p ask buffer h
 
 of-message : (p : Reference) (ask : Ask) (buffer : List ℕ) → isMessage ask ≡ true → number (does p ask buffer .answer) ≤ 13
 unfolding does isMessage number
@@ -248,7 +248,7 @@ opened-waits t = at (good t)
     at true = refl
     at false = refl
 
-refusal-waits : (p : Reference) (s : List ℕ) → (hear p s .answer ≡ Taken → ⊥) → leavesStatus (hear p s .answer) ≡ false → isLive (hear p s .book .status) ≡ false
+refusal-waits : (p : Reference) (s : List ℕ) → (hear p s .answer ≡ Taken → ⊥) → oneOf unchanging (number (hear p s .answer)) ≡ false → isLive (hear p s .book .status) ≡ false
 unfolding withStatus statusAfter isLive
 refusal-waits p s h w = go (outcome p s)
   where

@@ -1,9 +1,9 @@
 -- What a reference book does with a message: it refuses it and keeps all but its status, or takes it, and takes it exactly when it is acceptable.
 -- Assumes nothing.
-use mathlib.Core.Path.{_≡_, refl, sym, ap, _∙_, subst}
+use mathlib.Core.Path.{_≡_, refl, sym, ap, _∙_}
 use mathlib.Core.List.{List, [], _∷_}
 use mathlib.Core.Bool.{Bool, true, false, true≢false, false≢true, _&&_, _||_, not, cond}
-use Prim.Native.Nat.{ℕ, _≤_, _<_}
+use Prim.Native.Nat.{ℕ, _≤_}
 use native.Mathlib.Omega.{arith}
 use borrow.Author.Tests.{ltb-false, le-ltb, leb-true, leb-false, lt-leb, eqb-true, eq-eqb, not-false}
 use lib.Dec.{leb, ltb, eqb}
@@ -20,8 +20,8 @@ use Rattle.message.specs.Answers.{number}
 use Rattle.message.specs.Meaning.{Message, Said, refuses, says, said, Checked, fails, passes, tooMany, counted, laidOut, addressed, heardIn, framed, bad, decimals, alsoDecimals, checked, saidOf, maxMessage}
 use Rattle.message.specs.declared.Answer.{Answer}
 use Rattle.message.specs.declared.Answer.the-variants.{Taken, Shut, TooLong, NotJson, Escaped, NotOurs, BadLayout, TooManyEntries, BadDecimal, PriceTwice, NoSnapshot, OldNumber, TooManyLevels, WrongChecksum, NoLevel, NoRoom}
-use Rattle.book.specs.Reference.{Status, shut, waiting, live, isShut, isLive, Reference, isM, checksumOf, pricesOf, namesPriceTwice, lacksSnapshot, isOld, hasTooMany, differs, hasWrongChecksum, bidsAfter, asksAfter, verdict, After, taken, leavesStatus, setWaiting, refusedBy, isTaken, answered, hearing, hear}
-use Rattle.book.specs.Claims.{statusAfter, Ready, is-live, restarts, Agrees, carries-none, the-same, Acceptable, withStatus}
+use Rattle.book.specs.Reference.{Status, shut, waiting, live, isShut, isLive, Reference, isM, checksumOf, pricesOf, namesPriceTwice, lacksSnapshot, isOld, hasTooMany, differs, hasWrongChecksum, bidsAfter, asksAfter, verdict, taken, leavesStatus, setWaiting, refusedBy, isTaken, answered, hearing, hear}
+use Rattle.book.specs.Claims.{oneOf, unchanging, statusAfter, Ready, is-live, restarts, Agrees, carries-none, the-same, Acceptable, withStatus}
 
 -- ---- what a message is refused with: checks 2 to 8
 
@@ -249,9 +249,29 @@ pub data Outcome (p : Reference) (s : List ℕ) : Type 0 where
       → hear p s .book ≡ withStatus (statusAfter (hear p s .answer) (p .status)) p → Outcome p s
   is-accepted : (m : Message) → said (p .terms) s ≡ says m → Acceptable p m → hear p s ≡ record { book = taken p m; answer = Taken } → Outcome p s
 
+-- the table's last column, by number
+leaves-number : (a : Answer) → leavesStatus a ≡ oneOf unchanging (number a)
+unfolding leavesStatus oneOf number
+leaves-number Taken = refl
+leaves-number Shut = refl
+leaves-number TooLong = refl
+leaves-number NotJson = refl
+leaves-number Escaped = refl
+leaves-number NotOurs = refl
+leaves-number BadLayout = refl
+leaves-number TooManyEntries = refl
+leaves-number BadDecimal = refl
+leaves-number PriceTwice = refl
+leaves-number NoSnapshot = refl
+leaves-number OldNumber = refl
+leaves-number TooManyLevels = refl
+leaves-number WrongChecksum = refl
+leaves-number NoLevel = refl
+leaves-number NoRoom = refl
+
 refused-book : (p : Reference) (a : Answer) → refusedBy p a .book ≡ withStatus (statusAfter a (p .status)) p
 unfolding refusedBy withStatus statusAfter setWaiting
-refused-book p a = at (leavesStatus a)
+refused-book p a = rw (leaves-number a) (at (oneOf unchanging (number a)))
   where
     at : (b : Bool) → cond b p (setWaiting p) ≡ withStatus (cond b (p .status) waiting) p
     at true = refl
@@ -259,7 +279,7 @@ refused-book p a = at (leavesStatus a)
 
 stays-open : (a : Answer) (status : Status) → isShut status ≡ false → isShut (statusAfter a status) ≡ isShut status
 unfolding statusAfter isShut
-stays-open a status u = at (leavesStatus a)
+stays-open a status u = at (oneOf unchanging (number a))
   where
     at : (b : Bool) → isShut (cond b status waiting) ≡ isShut status
     at true = refl
@@ -275,7 +295,7 @@ module _ (p : Reference) (s : List ℕ) where
   acceptable-taken m q a = rw (ready-open p m (a .ready), q, hear, hearing, acceptable-verdict p m a, answered, isTaken, number)
 
   shut-out : isShut (p .status) ≡ true → Outcome p s
-  unfolding hear refusal isTaken number refusedBy leavesStatus statusAfter
+  unfolding hear refusal isTaken number oneOf refusedBy leavesStatus statusAfter
   shut-out u = refusing Shut refl refl (rw (u, hear))
 
   pub outcome : Outcome p s

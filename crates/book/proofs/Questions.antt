@@ -6,7 +6,6 @@ use mathlib.Core.Bool.{Bool, true, false, true≢false, _&&_, cond}
 use Prim.Native.Nat.{ℕ}
 use lib.Dec.{ltb}
 use lib.ListN.{length}
-use Rattle.side.specs.declared.Side.{Side}
 use Rattle.message.specs.Answers.{number}
 use Rattle.message.specs.declared.Answer.{Answer}
 use Rattle.message.specs.declared.Answer.the-variants.{Taken, Shut, NoSnapshot, NoLevel, NoRoom}

@@ -9,13 +9,12 @@ use lib.ListN.{length}
 use Rattle.settings.specs.Settings.{Terms, kept}
 use Rattle.settings.specs.declared.Dialect.the-variants.{M}
 use Rattle.side.specs.Side.{namesTwice}
-use Rattle.side.specs.declared.Side.{Side}
 use Rattle.layout.specs.Layout.{Printed, printed, unprinted}
 use Rattle.message.specs.Answers.{number as numberOf}
 use Rattle.message.specs.Meaning.{Message, Said, refuses, says, said}
 use Rattle.message.specs.declared.Answer.{Answer}
 use Rattle.message.specs.declared.Answer.the-variants.{Taken}
-use Rattle.book.specs.Reference.{Status, waiting, live, Reference, isLive, opened, bidsAfter, asksAfter, maxLevels, pricesOf, checksumOf, taken, leavesStatus, isTaken, After, hear, Value, nothing, counts, level, amount, Reply, noLevel, Ask, message, howMany, levelAt, whichNumber, howManyUpdates, write, does, Call, run, final}
+use Rattle.book.specs.Reference.{Status, waiting, live, Reference, isLive, opened, bidsAfter, asksAfter, maxLevels, pricesOf, checksumOf, taken, isTaken, hear, Value, nothing, counts, level, amount, Reply, noLevel, Ask, message, howMany, levelAt, whichNumber, howManyUpdates, write, does, Call, run, final}
 use Rattle.book.specs.declared.Scope.{Scope}
 use Rattle.book.specs.declared.Scope.the-variants.{Current, LastGood}
 
@@ -31,9 +30,16 @@ zeros (whichNumber scope) = amount 0
 zeros (howManyUpdates scope) = amount 0
 zeros write = amount 0
 
--- The table's last column.
+unfoldable pub oneOf : List ℕ → ℕ → Bool
+oneOf [] n = false
+oneOf (k ∷ ks) n = eqb n k || oneOf ks n
+
+-- The table's last column: the refusals that leave the book unchanged; the others set it waiting.
+abbrev pub unchanging : List ℕ
+unchanging = 1 ∷ 5 ∷ 10 ∷ 14 ∷ 15 ∷ []
+
 unfoldable pub statusAfter : Answer → Status → Status
-statusAfter a status = cond (leavesStatus a) status waiting
+statusAfter a status = cond (oneOf unchanging (numberOf a)) status waiting
 
 unfoldable pub isMessage : Ask → Bool
 isMessage (message s) = true
@@ -62,10 +68,6 @@ pub record Refused (p : Reference) (ask : Ask) (lent : List ℕ) (r : Reply) : T
   pub ever : r .after .ever ≡ p .ever
   pub value : r .value ≡ zeros ask
   pub buffer : r .buffer ≡ lent
-
-unfoldable pub oneOf : List ℕ → ℕ → Bool
-oneOf [] n = false
-oneOf (k ∷ ks) n = eqb n k || oneOf ks n
 
 pub record Demand1 (p : Reference) (ask : Ask) (buffer : List ℕ) : Type 0 where
   pub in-table : numberOf (does p ask buffer .answer) ≤ 15
@@ -203,5 +205,5 @@ pub record No-price : Type 0 where
       → hear p s .answer ≡ Taken → ⊥
   pub not-live : (p : Reference) (cs : List Call) → isLive (p .status) ≡ false → anySnapshot (takenOf p cs) ≡ false → prices p cs ≡ []
   pub at-first : (t : Terms) (cs : List Call) → anySnapshot (takenOf (opened t) cs) ≡ false → prices (opened t) cs ≡ []
-  pub after-refusal : (p : Reference) (s : List ℕ) (cs : List Call) → (hear p s .answer ≡ Taken → ⊥) → leavesStatus (hear p s .answer) ≡ false
+  pub after-refusal : (p : Reference) (s : List ℕ) (cs : List Call) → (hear p s .answer ≡ Taken → ⊥) → oneOf unchanging (numberOf (hear p s .answer)) ≡ false
       → anySnapshot (takenOf (hear p s .book) cs) ≡ false → prices (hear p s .book) cs ≡ []

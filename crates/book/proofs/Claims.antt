@@ -150,7 +150,7 @@ module _ (t : Terms) (p : Reference) (r : Reached t p) (s : List ℕ) (m : Messa
       ∙ ap (λ (b : Reference). record { book = b; answer = Taken }) (taken-fresh p (opened t) m k (r .terms))
       ∙ sym
       (acceptable-taken (opened t) s m q
-        (acceptable-fresh p (opened t) m k (r .terms) (opened-ready t m (sym (r .shut) ∙ ready-open p m (a .ready)) k) a))
+      (acceptable-fresh p (opened t) m k (r .terms) (opened-ready t m (sym (r .shut) ∙ ready-open p m (a .ready)) k) a))
 
   hear-fresh : hear p s .answer ≡ Taken → hear p s ≡ hear (opened t) s
   hear-fresh h = go (outcome p s)

@@ -11,7 +11,8 @@ use Rattle.message.specs.Meaning.{Message, says, said}
 use Rattle.message.specs.declared.Answer.{Answer}
 use Rattle.message.specs.declared.Answer.the-variants.{Taken}
 use Rattle.book.specs.Reference.{Status, shut, waiting, live, isShut, isLive, Reference, opened, taken, isTaken, After, hear, asked, sideOf, placeAt, askedLevel, levelAsked, askedWriting, level, amount, Reply, Ask, message, howMany, levelAt, whichNumber, howManyUpdates, write, does, Call, run, final}
-use Rattle.book.specs.Claims.{zeros, statusAfter, isMessage, isWrite, oneOf, unchanging, Refused, Demand-1, Ready, is-live, restarts, Acceptable, Demand-2, call, From-snapshot, takenIn, takenOf, anySnapshot, sinceSnapshot, rebuilt, withStatus, Latest-snapshot, prices, No-price}
+use Rattle.book.specs.Claims.{zeros, statusAfter, isMessage, isWrite, oneOf, unchanging, Refused, Demand-1, Ready, is-live, restarts, Acceptable, Demand-2, All-compared, call, From-snapshot, takenIn, takenOf, anySnapshot, sinceSnapshot, rebuilt, withStatus, Latest-snapshot, K-number, prices, No-price}
+use Rattle.book.proofs.Carried.{said-carries}
 use Rattle.book.proofs.Outcome.{Outcome, is-refused, is-accepted, outcome, acceptable-taken, ready-open, taken-answer, not-taken, or-none}
 use Rattle.book.proofs.Questions.{question-one, if-refused, no-level, no-answer}
 use Rattle.book.proofs.Runs.{Steps, stays, moves, steps, Reached, reached, run-append, taken-fresh, acceptable-fresh, final-rebuilt, rebuilt-ever, since-begins, since-rebuilt, begins-live}
@@ -132,6 +133,9 @@ demand-2 p s =
     taken-then m q h (is-refused n l k e) = absurd (not-taken (hear p s .answer) n h)
     taken-then m q h (is-accepted n r a e) = let same : n ≡ m = cc in ap (λ (x : After). x .book) e ∙ ap (taken p) same
 
+pub all-compared : All-compared
+all-compared = said-carries
+
 -- ---- from a taken snapshot on
 
 opened-ready : (t : Terms) (m : Message) → isShut (opened t .status) ≡ false → m .snapshot ≡ true → Ready (opened t) m
@@ -204,6 +208,9 @@ latest-snapshot t cs =
       current = current t cs;
     }
 
+pub k-number : K-number
+k-number t cs h = reached t cs .number h
+
 -- ---- no current price
 
 -- a book that is not live takes only a snapshot
@@ -230,7 +237,7 @@ module _ (p q : Reference) (ask : Ask) (ms : List Message) (h : isLive (p .statu
       dark : (b : Bool) → (b ≡ true → isLive (p .status) ≡ true) → b ≡ false
       dark true g = absurd (true≢false (sym (g refl) ∙ h))
       dark false g = refl
-  still-waits (moves m a t e) = absurd (true≢false (sym (needs-snapshot p m h a) ∙ or-none (m .snapshot) (anySnapshot ms) (rw t at n) .0))
+  still-waits (moves s m d a t e) = absurd (true≢false (sym (needs-snapshot p m h a) ∙ or-none (m .snapshot) (anySnapshot ms) (rw t at n) .0))
 
 not-live : (p : Reference) (cs : List Call) → isLive (p .status) ≡ false → anySnapshot (takenOf p cs) ≡ false → prices p cs ≡ []
 unfolding prices takenOf

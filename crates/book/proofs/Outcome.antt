@@ -1,7 +1,7 @@
 -- What a reference book does with a message: it refuses it and keeps all but its status, or takes it, and takes it exactly when it is acceptable.
 -- Assumes nothing.
 use mathlib.Core.Path.{_≡_, refl, sym, ap, _∙_}
-use mathlib.Core.List.{List, [], _∷_}
+use mathlib.Core.List.{List}
 use mathlib.Core.Bool.{Bool, true, false, true≢false, false≢true, _&&_, _||_, not, cond}
 use Prim.Native.Nat.{ℕ, _≤_}
 use native.Mathlib.Omega.{arith}
@@ -9,7 +9,6 @@ use borrow.Author.Tests.{ltb-false, le-ltb, leb-true, leb-false, lt-leb, eqb-tru
 use lib.Dec.{leb, ltb, eqb}
 use lib.ListN.{length}
 use Rattle.decimal.specs.Digits.{Reading, reads, refused}
-use Rattle.json.specs.Json.{Span, text}
 use Rattle.settings.specs.Settings.{Terms}
 use Rattle.settings.specs.declared.Dialect.{Dialect}
 use Rattle.settings.specs.declared.Dialect.the-variants.{K, M, Unknown}
@@ -17,10 +16,11 @@ use Rattle.side.specs.Side.{namesTwice}
 use Rattle.entries.specs.Places.{top}
 use Rattle.layout.specs.Layout.{Printed, printed, unprinted, Layout, Heard}
 use Rattle.message.specs.Answers.{number}
-use Rattle.message.specs.Meaning.{Message, Said, refuses, says, said, Checked, fails, passes, tooMany, counted, laidOut, addressed, heardIn, framed, bad, decimals, alsoDecimals, checked, saidOf, maxMessage}
+use Rattle.message.specs.Meaning.{Message, Said, refuses, says, said, Checked, fails, passes, heardIn, checked, saidOf}
 use Rattle.message.specs.declared.Answer.{Answer}
 use Rattle.message.specs.declared.Answer.the-variants.{Taken, Shut, TooLong, NotJson, Escaped, NotOurs, BadLayout, TooManyEntries, BadDecimal, PriceTwice, NoSnapshot, OldNumber, TooManyLevels, WrongChecksum, NoLevel, NoRoom}
 use Rattle.book.specs.Reference.{Status, shut, waiting, live, isShut, isLive, Reference, isM, checksumOf, pricesOf, namesPriceTwice, lacksSnapshot, isOld, hasTooMany, differs, hasWrongChecksum, bidsAfter, asksAfter, verdict, taken, leavesStatus, setWaiting, refusedBy, isTaken, answered, hearing, hear}
+use Rattle.book.proofs.Checks.{Refusals, Read, Either, checked-either}
 use Rattle.book.specs.Claims.{oneOf, unchanging, statusAfter, Ready, is-live, restarts, Agrees, carries-none, the-same, Acceptable, withStatus}
 
 -- ---- what a message is refused with: checks 2 to 8
@@ -29,52 +29,25 @@ use Rattle.book.specs.Claims.{oneOf, unchanging, statusAfter, Ready, is-
 refusal : Answer → Bool
 refusal a = not (isTaken a) && leb (number a) 13
 
-abbrev Refusal : Checked → Type 0
-Refusal (fails a) = refusal a ≡ true
-Refusal (passes l) = Unit {0}
-
-laid-refusal : (x : Reading Layout) → Refusal (laidOut x)
-unfolding laidOut counted refusal isTaken number
-laid-refusal (reads l) = at (tooMany l)
-  where
-    at : (b : Bool) → Refusal (cond b (fails TooManyEntries) (passes l))
-    at true = refl
-    at false = tt
-laid-refusal refused = refl
-
-addressed-refusal : (x : Reading Heard) → Refusal (addressed x)
-unfolding addressed refusal isTaken number
-addressed-refusal (reads h) = at (h .escaped) (h .ours)
-  where
-    at : (a b : Bool) → Refusal (cond a (fails Escaped) (cond b (laidOut (h .layout)) (fails NotOurs)))
-    at true b = refl
-    at false true = laid-refusal (h .layout)
-    at false false = refl
-addressed-refusal refused = refl
-
-framed-refusal : (t : Terms) (s : List ℕ) → Refusal (framed t s)
-unfolding framed refusal isTaken number
-framed-refusal t s = at (ltb maxMessage (length s)) (text s)
-  where
-    at : (a b : Bool) → Refusal (cond a (fails TooLong) (cond b (addressed (heardIn (t .dialect) t s (top s))) (fails NotJson)))
-    at true b = refl
-    at false true = addressed-refusal (heardIn (t .dialect) t s (top s))
-    at false false = refl
-
-decimals-refusal : (s : List ℕ) (x : Checked) → Refusal x → Refusal (alsoDecimals s x)
-unfolding alsoDecimals decimals refusal isTaken number
-decimals-refusal s (fails a) h = h
-decimals-refusal s (passes l) h = at (bad s l)
-  where
-    at : (x : List Span) → Refusal (elim x [ [] ↦ passes l | a ∷ rest ↦ fails BadDecimal ])
-    at [] = tt
-    at (a ∷ x) = refl
-
 said-refusal : (t : Terms) (s : List ℕ) (a : Answer) → said t s ≡ refuses a → refusal a ≡ true
-unfolding said saidOf checked
-said-refusal t s a h = go (checked t s) (decimals-refusal s (framed t s) (framed-refusal t s)) h
+unfolding said saidOf refusal isTaken number
+said-refusal t s a h = go (checked t s) (checked-either F (λ l. Unit {0}) every t s (any (heardIn (t .dialect) t s (top s)))) h
   where
-    go : (x : Checked) → Refusal x → saidOf s x ≡ refuses a → refusal a ≡ true
+    F : Answer → Type 0
+    F b = refusal b ≡ true
+
+    every : Refusals F
+    every = record { long = refl; not-json = refl; escaped = refl; not-ours = refl; layout = refl; entries = refl; decimal = refl }
+
+    any-layout : (x : Reading Layout) → Read (λ l. Unit {0}) x
+    any-layout (reads l) = tt
+    any-layout refused = tt
+
+    any : (x : Reading Heard) → Read (λ k. Read (λ l. Unit {0}) (k .layout)) x
+    any (reads k) = any-layout (k .layout)
+    any refused = tt
+
+    go : (x : Checked) → Either F (λ l. Unit {0}) x → saidOf s x ≡ refuses a → refusal a ≡ true
     go (fails b) r g = let e : b ≡ a = cc in rw e at r
     go (passes l) r g = let z : _≡_ {A = ℕ} 0 1 = cc in absurd (omega arith)
 

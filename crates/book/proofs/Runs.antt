@@ -5,12 +5,14 @@ use mathlib.Core.List.{List, [], _∷_, _++_}
 use mathlib.Core.Bool.{Bool, true, false, true≢false, false≢true, _||_, cond, or-true, or-assoc, or-comm}
 use Prim.Native.Nat.{ℕ}
 use Rattle.settings.specs.Settings.{Terms, kept, good}
+use Rattle.settings.specs.declared.Dialect.the-variants.{K}
 use Rattle.message.specs.Answers.{number}
 use Rattle.message.specs.Meaning.{Message, Said, refuses, says, said}
 use Rattle.message.specs.declared.Answer.{Answer}
 use Rattle.message.specs.declared.Answer.the-variants.{Taken}
 use Rattle.book.specs.Reference.{Status, shut, waiting, live, isShut, isLive, Reference, opened, bidsAfter, asksAfter, taken, isTaken, After, hear, Reply, Ask, message, howMany, levelAt, whichNumber, howManyUpdates, write, does, Call, run, final}
 use Rattle.book.specs.Claims.{oneOf, unchanging, statusAfter, Ready, is-live, restarts, Acceptable, withStatus, ifAnswered, takenIn, takenOf, anySnapshot, sinceSnapshot, Begins, begins, rebuilt}
+use Rattle.book.proofs.Carried.{said-carries}
 use Rattle.book.proofs.Outcome.{Outcome, is-refused, is-accepted, outcome, ready-open, is-taken}
 
 -- ---- a step: the book is as it was but for its status, or a message was taken
@@ -18,7 +20,7 @@ use Rattle.book.proofs.Outcome.{Outcome, is-refused, is-accepted, outco
 pub data Steps (p : Reference) (ask : Ask) : Reference → Type 0 where
   stays : {q : Reference} (status : Status) → isShut status ≡ isShut (p .status) → (isLive status ≡ true → isLive (p .status) ≡ true)
       → takenIn p ask ≡ [] → q ≡ withStatus status p → Steps p ask q
-  moves : {q : Reference} (m : Message) → Acceptable p m → takenIn p ask ≡ m ∷ [] → q ≡ taken p m → Steps p ask q
+  moves : {q : Reference} (s : List ℕ) (m : Message) → said (p .terms) s ≡ says m → Acceptable p m → takenIn p ask ≡ m ∷ [] → q ≡ taken p m → Steps p ask q
 
 refused-live : (b : Bool) (s : Status) → isLive (cond b s waiting) ≡ true → isLive s ≡ true
 unfolding isLive
@@ -37,23 +39,30 @@ steps p (message s) buffer = go (outcome p s)
     go : Outcome p s → Steps p (message s) (hear p s .book)
     go (is-refused h n k e) =
         stays (statusAfter (hear p s .answer) (p .status)) k (refused-live (oneOf unchanging (number (hear p s .answer))) (p .status)) (none-taken (hear p s .answer) (said (p .terms) s) h) e
-    go (is-accepted m q a e) = moves m a (rw (e, q, is-taken Taken refl)) (ap (λ (x : After). x .book) e)
+    go (is-accepted m q a e) = moves s m q a (rw (e, q, is-taken Taken refl)) (ap (λ (x : After). x .book) e)
 steps p (howMany scope) buffer = stays (p .status) refl (λ h. h) refl refl
 steps p (levelAt scope side i) buffer = stays (p .status) refl (λ h. h) refl refl
 steps p (whichNumber scope) buffer = stays (p .status) refl (λ h. h) refl refl
 steps p (howManyUpdates scope) buffer = stays (p .status) refl (λ h. h) refl refl
 steps p write buffer = stays (p .status) refl (λ h. h) refl refl
 
--- ---- what every book that is reached has: the settings it was opened with, shut or not as it was opened, and live only after a snapshot
+-- ---- what every book that is reached has: the settings it was opened with, shut or not as it was opened, live only after a snapshot, in K no number
 
 pub record Reached (t : Terms) (p : Reference) : Type 0 where
   pub terms : p .terms ≡ kept t
   pub shut : isShut (p .status) ≡ isShut (opened t .status)
   pub ever : isLive (p .status) ≡ true → p .ever ≡ true
+  pub number : kept t .dialect ≡ K → p .number ≡ 0
 
-reached-taken : (t : Terms) (p : Reference) (m : Message) → Acceptable p m → Reached t p → Reached t (taken p m)
+reached-taken : (t : Terms) (p : Reference) (s : List ℕ) (m : Message) → said (p .terms) s ≡ says m → Acceptable p m → Reached t p → Reached t (taken p m)
 unfolding taken isShut isLive
-reached-taken t p m a r = record { terms = r .terms; shut = sym (ready-open p m (a .ready)) ∙ r .shut; ever = λ h. go (a .ready) }
+reached-taken t p s m q a r =
+    record {
+      terms = r .terms;
+      shut = sym (ready-open p m (a .ready)) ∙ r .shut;
+      ever = λ h. go (a .ready);
+      number = λ k. said-carries (p .terms) s m q .number (rw (r .terms) k);
+    }
   where
     go : Ready p m → (m .snapshot || p .ever) ≡ true
     go (is-live e) = rw (r .ever (rw e)) (or-true (m .snapshot))
@@ -61,8 +70,8 @@ reached-taken t p m a r = record { terms = r .terms; shut = sym (ready-open p m 
 
 reached-step : (t : Terms) (p : Reference) (ask : Ask) (q : Reference) → Steps p ask q → Reached t p → Reached t q
 unfolding withStatus
-reached-step t p ask q (stays status k l n e) r = rw e (record { terms = r .terms; shut = k ∙ r .shut; ever = λ h. r .ever (l h) })
-reached-step t p ask q (moves m a n e) r = rw e (reached-taken t p m a r)
+reached-step t p ask q (stays status k l n e) r = rw e (record { terms = r .terms; shut = k ∙ r .shut; ever = λ h. r .ever (l h); number = r .number })
+reached-step t p ask q (moves s m d a n e) r = rw e (reached-taken t p s m d a r)
 
 reached-final : (t : Terms) (p : Reference) (cs : List Call) → Reached t p → Reached t (final p cs)
 unfolding final
@@ -72,7 +81,7 @@ reached-final t p (c ∷ cs) r =
 
 reached-opened : (t : Terms) → Reached t (opened t)
 unfolding opened isLive
-reached-opened t = record { terms = refl; shut = refl; ever = λ h. absurd (false≢true (not-yet (good t) ∙ h)) }
+reached-opened t = record { terms = refl; shut = refl; ever = λ h. absurd (false≢true (not-yet (good t) ∙ h)); number = λ k. refl }
   where
     not-yet : (b : Bool) → false ≡ isLive (cond b waiting shut)
     not-yet true = refl
@@ -124,7 +133,7 @@ rebuilt-step : (x : Status) (p q : Reference) (ask : Ask) (ms : List Message) �
     → withStatus x (rebuilt q ms) ≡ withStatus x (rebuilt p (takenIn p ask ++ ms))
 unfolding rebuilt
 rebuilt-step x p q ask ms (stays status k l n e) = rw (n, e) (rebuilt-status x status p ms)
-rebuilt-step x p q ask ms (moves m a n e) = rw (n, e)
+rebuilt-step x p q ask ms (moves s m d a n e) = rw (n, e)
 
 pub final-rebuilt : (p : Reference) (cs : List Call) → final p cs ≡ withStatus (final p cs .status) (rebuilt p (takenOf p cs))
 unfolding final takenOf rebuilt withStatus

@@ -1,5 +1,5 @@
--- What is claimed of reference books, as statements; `proofs/Claims` proves each under its own name. The code's book shows a reference book at
--- every step, so each holds of it too. Assumes nothing: these are definitions.
+-- What is claimed of reference books, as statements; `proofs/Claims` proves each under its own name. No code enters here: the contracts say that the
+-- code's book shows a reference book at every step. Assumes nothing: these are definitions.
 use Prim.Native.Nat.{ℕ, _≤_, _<_}
 use mathlib.Core.Path.{_≡_}
 use mathlib.Core.Bool.{Bool, true, false, _&&_, _||_, cond}
@@ -7,7 +7,8 @@ use mathlib.Core.List.{List, [], _∷_, _++_}
 use lib.Dec.{eqb}
 use lib.ListN.{length}
 use Rattle.settings.specs.Settings.{Terms, kept}
-use Rattle.settings.specs.declared.Dialect.the-variants.{M}
+use Rattle.settings.specs.declared.Dialect.{Dialect}
+use Rattle.settings.specs.declared.Dialect.the-variants.{K, M}
 use Rattle.side.specs.Side.{namesTwice}
 use Rattle.layout.specs.Layout.{Printed, printed, unprinted}
 use Rattle.message.specs.Answers.{number as numberOf}
@@ -115,6 +116,15 @@ pub record Demand2 (p : Reference) (s : List ℕ) : Type 0 where
 abbrev pub Demand-2 : Type 0
 Demand-2 = (p : Reference) (s : List ℕ) → Demand2 p s
 
+-- "K snapshots carry no checksum; all others are compared", and a K message has no sequence number. Rules out a message that gets by for want of a checksum.
+pub record Carries (d : Dialect) (snapshot : Bool) (checksum : Printed) (sequence : ℕ) : Type 0 where
+  pub compared : checksum ≡ unprinted → (d ≡ K) × (snapshot ≡ true)
+  pub none : d ≡ K → snapshot ≡ true → checksum ≡ unprinted
+  pub number : d ≡ K → sequence ≡ 0
+
+abbrev pub All-compared : Type 0
+All-compared = (t : Terms) (s : List ℕ) (m : Message) → said t s ≡ says m → Carries (t .dialect) (m .snapshot) (m .checksum) (m .number)
+
 -- ---- demand 3, of lists of calls
 
 abbrev pub call : Ask → List ℕ → Call
@@ -175,6 +185,10 @@ pub record Latest (t : Terms) (cs : List Call) : Type 0 where
 
 abbrev pub Latest-snapshot : Type 0
 Latest-snapshot = (t : Terms) (cs : List Call) → Latest t cs
+
+-- "A K book's number is always 0."
+abbrev pub K-number : Type 0
+K-number = (t : Terms) (cs : List Call) → kept t .dialect ≡ K → final (opened t) cs .number ≡ 0
 
 -- "A current price is what the writer, or any of these questions but those on the last good book, gives with answer number 0."
 unfoldable pub isCurrent : Scope → Bool

@@ -15,7 +15,7 @@ use Rattle.book.specs.Claims.{zeros, statusAfter, isMessage, isWrite, on
 use Rattle.book.proofs.Carried.{said-carries}
 use Rattle.book.proofs.Outcome.{Outcome, is-refused, is-accepted, outcome, acceptable-taken, ready-open, taken-answer, not-taken, or-none}
 use Rattle.book.proofs.Questions.{question-one, if-refused, no-level, no-answer}
-use Rattle.book.proofs.Runs.{Steps, stays, moves, steps, Reached, reached, run-append, taken-fresh, acceptable-fresh, final-rebuilt, rebuilt-ever, since-begins, since-rebuilt, begins-live}
+use Rattle.book.proofs.Runs.{Steps, stays, moves, steps, Reached, opened-waits, reached, run-append, taken-fresh, acceptable-fresh, final-rebuilt, rebuilt-ever, since-begins, since-rebuilt, begins-live}
 
 -- ---- demand 1
 
@@ -246,14 +246,6 @@ not-live p (c ∷ cs) h n =
     let q : Reference = does p (c .ask) (c .buffer) .after in
     let w = still-waits p q (c .ask) (takenOf q cs) h n (steps p (c .ask) (c .buffer)) in
     rw (no-answer p (c .ask) (c .buffer) h) (not-live q cs (w .0) (w .1))
-
-opened-waits : (t : Terms) → isLive (opened t .status) ≡ false
-unfolding opened isLive
-opened-waits t = at (good t)
-  where
-    at : (b : Bool) → isLive (cond b waiting shut) ≡ false
-    at true = refl
-    at false = refl
 
 refusal-waits : (p : Reference) (s : List ℕ) → (hear p s .answer ≡ Taken → ⊥) → oneOf unchanging (number (hear p s .answer)) ≡ false → isLive (hear p s .book .status) ≡ false
 unfolding withStatus statusAfter isLive

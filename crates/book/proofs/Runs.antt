@@ -79,13 +79,17 @@ reached-final t p [] r = r
 reached-final t p (c ∷ cs) r =
     reached-final t (does p (c .ask) (c .buffer) .after) cs (reached-step t p (c .ask) (does p (c .ask) (c .buffer) .after) (steps p (c .ask) (c .buffer)) r)
 
-reached-opened : (t : Terms) → Reached t (opened t)
+pub opened-waits : (t : Terms) → isLive (opened t .status) ≡ false
 unfolding opened isLive
-reached-opened t = record { terms = refl; shut = refl; ever = λ h. absurd (false≢true (not-yet (good t) ∙ h)); number = λ k. refl }
+opened-waits t = at (good t)
   where
-    not-yet : (b : Bool) → false ≡ isLive (cond b waiting shut)
-    not-yet true = refl
-    not-yet false = refl
+    at : (b : Bool) → isLive (cond b waiting shut) ≡ false
+    at true = refl
+    at false = refl
+
+reached-opened : (t : Terms) → Reached t (opened t)
+unfolding opened
+reached-opened t = record { terms = refl; shut = refl; ever = λ h. absurd (true≢false (sym h ∙ opened-waits t)); number = λ k. refl }
 
 pub reached : (t : Terms) (cs : List Call) → Reached t (final (opened t) cs)
 reached t cs = reached-final t (opened t) cs (reached-opened t)

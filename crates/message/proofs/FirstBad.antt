@@ -120,8 +120,8 @@ module _ {d : Dialect} (r : Readable d) (s : List ℕ) (snapshot : Bool) (l : Li
       let q′ : entriesAt (entryFor (isM d)) s (record { from = l .at; to = to }) ≡ reads (l .rows) = subst (λ (e : List ℕ → Span → Reading Row). entriesAt e s (record { from = l .at; to = to }) ≡ reads (l .rows)) (entry-same r) q in
       let x = shifted-rows (l .at) s (drop (l .at) s) refl (entryFor (isM d)) (entry-even (l .at) s r) to (l .rows) q′ in
       let w : movedBy (l .at) (placeOf (badTexts snapshot (drop (l .at) s) (rowsAt (entryFor (isM d)) (drop (l .at) s)))) ≡ placeOf (badTexts snapshot s (l .rows)) =
-          moved-place (l .at) (badTexts snapshot (drop (l .at) s) (rowsAt (entryFor (isM d)) (drop (l .at) s)))
-          ∙ ap placeOf (sym (texts-shift (l .at) s snapshot (rowsAt (entryFor (isM d)) (drop (l .at) s))) ∙ ap (badTexts snapshot s) (sym x)) in
+      moved-place (l .at) (badTexts snapshot (drop (l .at) s) (rowsAt (entryFor (isM d)) (drop (l .at) s)))
+      ∙ ap placeOf (sym (texts-shift (l .at) s snapshot (rowsAt (entryFor (isM d)) (drop (l .at) s))) ∙ ap (badTexts snapshot s) (sym x)) in
       at (l .rows) refl w
     where
       at : (rows : List Row) → l .rows ≡ rows → movedBy (l .at) (placeOf (badTexts snapshot (drop (l .at) s) (rowsAt (entryFor (isM d)) (drop (l .at) s)))) ≡ placeOf (badTexts snapshot s (l .rows))

@@ -33,10 +33,7 @@ pub fn bad_place(dialect: Dialect, depth: usize, name: &[u8], s: &[u8]) -> Part
     if settings::is_good(dialect, depth, name) {
         return bad_in_frame(dialect, depth, name, s);
     }
-    Part {
-        from: 0,
-        to: 0,
-    }
+    Part { from: 0, to: 0 }
 }
 
 fn bad_in_frame(dialect: Dialect, depth: usize, name: &[u8], s: &[u8]) -> Part
@@ -44,10 +41,7 @@ fn bad_in_frame(dialect: Dialect, depth: usize, name: &[u8], s: &[u8]) -> Part
     ensures { λ r. ⌜ PartIs (now (s .entry)) (partOf (firstBadOf (now (s .entry)) (framed (record { dialect = dialect; depth = depth; name = now (name .entry) }) (now (s .entry))))) r ⌝ }
 {
     match read_frame(dialect, depth, name, s) {
-        Verdict::Fails(_) => Part {
-            from: 0,
-            to: 0,
-        },
+        Verdict::Fails(_) => Part { from: 0, to: 0 },
         Verdict::Passes(outline) => bad_in(s, is_m(dialect), outline),
     }
 }

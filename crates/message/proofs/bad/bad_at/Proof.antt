@@ -1,45 +1,45 @@
+-- `bad_at` meets its contract: no entries, a bad text among them, or none.
+use Rattle.message.proofs.FirstBad.{bad-none, bad-found, bad-missed}
+use denote.Ref.{now}
+use Rattle.loader.proofs.Shift.{part-is}
 use borrow.Author.Needs.{needs}
 use Rattle.message.proofs.bad.bad_at.Statement.{statement}
 use Rattle.message.proofs.bad.bad_at.Tie as tie
-use Rattle.message.proofs.bad.bad_at.Reads as reads
-use Rattle.message.proofs.bad.bad_at.Lts as lts
-use Rattle.first_bad.proofs.first_bad.Reads as first-bad-reads
 
--- src/bad.rt:98:9
 returns : tie.Need-returns
-returns c = ?
+returns c =
+    let a = c .before .before .args in
+    bad-none (a .m) (now (a .s)) (a .at) (a .count) (a .snapshot) (c .if1 .taken)
 
--- src/bad.rt:104:27
 sub-first-bad : tie.Need-sub-first-bad
-sub-first-bad c = ?
+sub-first-bad c = c .before .before .pre .inside (c .if1 .left)
 
--- src/bad.rt:104:27
 part-first-bad-start : tie.Need-part-first-bad-start
-part-first-bad-start c = ?
+part-first-bad-start c = c .before .before .pre .inside (c .if1 .left)
 
--- src/bad.rt:104:27
 part-first-bad-end : tie.Need-part-first-bad-end
 part-first-bad-end c = search needs
 
--- src/bad.rt:104:9
 first-bad-requires : tie.Need-first-bad-requires
-first-bad-requires c κs = ?
+first-bad-requires c κs =
+    let a = c .before .before .before .args in
+    rw (part-is (a .at) (now (a .s))) (c .before .before .before .pre .loadable (c .before .if1 .left))
 
--- src/bad.rt:108:19
 add-t12 : tie.Need-add-t12
 add-t12 c = search needs
 
--- src/bad.rt:109:17
 add-t13 : tie.Need-add-t13
 add-t13 c = search needs
 
--- src/bad.rt:106:9
 returns-2 : tie.Need-returns-2
-returns-2 c = ?
+returns-2 c =
+    let a = c .before .before .before .before .before .before .before .args in
+    bad-found (a .m) (now (a .s)) (a .at) (a .count) (a .snapshot) (c .before .before .before .before .before .if1 .left) (c .before .before .before .first-bad .result) (rw (part-is (a .at) (now (a .s))) at (c .before .before .before .first-bad .ensures)) (c .before .before .if2 .taken) (c .before .before .before .before .before .before .before .pre .inside (c .before .before .before .before .before .if1 .left))
 
--- src/bad.rt:93:1
 returns-3 : tie.Need-returns-3
-returns-3 c = ?
+returns-3 c =
+    let a = c .before .before .before .before .before .args in
+    bad-missed (a .m) (now (a .s)) (a .at) (a .count) (a .snapshot) (c .before .before .before .if1 .left) (c .before .first-bad .result) (rw (part-is (a .at) (now (a .s))) at (c .before .first-bad .ensures)) (c .if2 .left)
 
 pub bad-at-spec : {M : Type 1} → statement M
 bad-at-spec =

@@ -1,29 +1,33 @@
+-- `bad_decimal` meets its contract: the part of the message that `bad_place` tells.
+use mathlib.Core.Path.{ap, ap₂}
+use denote.Ref.{now}
+use Prim.Native.Nat.{ℕ, _-_}
+use lib.ListN.{take, drop}
+use Rattle.message.specs.declared.Part.{Part}
+use Rattle.message.specs.Bad.{partOf}
+use Rattle.json.specs.Names.{part}
 use borrow.Author.Needs.{needs}
 use Rattle.message.proofs.bad.bad_decimal.Statement.{statement}
 use Rattle.message.proofs.bad.bad_decimal.Tie as tie
-use Rattle.message.proofs.bad.bad_decimal.Reads as reads
-use Rattle.message.proofs.bad.bad_decimal.Lts as lts
-use Rattle.message.proofs.bad.bad_place.Reads as bad-place-reads
 
--- src/bad.rt:23:9
 bad-place-requires : tie.Need-bad-place-requires
 bad-place-requires c κs = search needs
 
--- src/bad.rt:26:5
 sub-result : tie.Need-sub-result
 sub-result c = search needs
 
--- src/bad.rt:26:5
 part-result-start : tie.Need-part-result-start
 part-result-start c = search needs
 
--- src/bad.rt:26:5
 part-result-end : tie.Need-part-result-end
 part-result-end c = search needs
 
--- src/bad.rt:20:1
 returns : tie.Need-returns
-returns c = ?
+unfolding part partOf
+returns c =
+    let a = c .before .before .before .before .args in
+    let e = c .before .bad-place .ensures .is in
+    ap₂ (λ (x y : ℕ). take (y - x) (drop x (now (a .s)))) (ap (λ (p : Part). p .from) e) (ap (λ (p : Part). p .to) e)
 
 pub bad-decimal-spec : {M : Type 1} → statement M
 bad-decimal-spec =

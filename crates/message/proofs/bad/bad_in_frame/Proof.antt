@@ -1,39 +1,38 @@
+-- `bad_in_frame` meets its contract: a message that another check refuses has none.
+use Rattle.message.proofs.FirstBad.{frame-fails, frame-ready, frame-bad}
+use mathlib.Core.Path.{_∙_}
+use denote.Ref.{now}
 use borrow.Author.Needs.{needs}
 use Rattle.message.proofs.bad.bad_in_frame.Statement.{statement}
 use Rattle.message.proofs.bad.bad_in_frame.Tie as tie
-use Rattle.message.proofs.bad.bad_in_frame.Reads as reads
-use Rattle.message.proofs.bad.bad_in_frame.Lts as lts
-use Rattle.message.proofs.bad.bad_in.Reads as bad-in-reads
-use Rattle.message.proofs.read_frame.Reads as read-frame-reads
-use Rattle.settings.proofs.is_m.Reads as is-m-reads
 
--- src/bad.rt:46:11
 read-frame-requires : tie.Need-read-frame-requires
 read-frame-requires c κs = search needs
 
--- src/bad.rt:47:30
 enum-told : tie.Need-enum-told
 enum-told c = search needs
 
--- src/bad.rt:51:25
 enum-known-outline : tie.Need-enum-known-outline
 enum-known-outline c = search needs
 
--- src/bad.rt:51:47
 is-m-requires : tie.Need-is-m-requires
 is-m-requires c κs = search needs
 
--- src/bad.rt:51:37
 bad-in-requires : tie.Need-bad-in-requires
-bad-in-requires c κs = ?
+bad-in-requires c κs =
+    let a = c .before .before .before .before .before .before .before .args in
+    frame-ready (record { dialect = a .dialect; depth = a .depth; name = now (a .name) }) (now (a .s)) (c .before .before .before .before .before .before .before .pre) (c .before .before .before .before .read-frame .result) (c .before .before .before .before .read-frame .ensures) (c .before .before .outline .given .0 .0) (c .before .before .outline .given .1) (c .is-m .result) (c .is-m .ensures)
 
--- src/bad.rt:42:1
 returns : tie.Need-returns
-returns c = ?
+returns c =
+    let a = c .before .before .before .before .before .args in
+    frame-fails (record { dialect = a .dialect; depth = a .depth; name = now (a .name) }) (now (a .s)) (c .before .before .before .before .before .pre) (c .before .before .read-frame .result) (c .before .before .read-frame .ensures) (c .enum-told .given .0 .0) (c .enum-told .given .1)
 
--- src/bad.rt:42:1
 returns-2 : tie.Need-returns-2
-returns-2 c = ?
+returns-2 c =
+    let a = c .before .before .before .before .before .before .before .before .args in
+    let e = c .bad-in .ensures in
+    record { is = e .is ∙ frame-bad (record { dialect = a .dialect; depth = a .depth; name = now (a .name) }) (now (a .s)) (c .before .before .before .before .before .before .before .before .pre) (c .before .before .before .before .before .read-frame .result) (c .before .before .before .before .before .read-frame .ensures) (c .before .before .before .outline .given .0 .0) (c .before .before .before .outline .given .1) (c .before .is-m .result) (c .before .is-m .ensures); within = e .within }
 
 pub bad-in-frame-spec : {M : Type 1} → statement M
 bad-in-frame-spec =

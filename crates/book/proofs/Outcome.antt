@@ -19,7 +19,8 @@ use Rattle.message.specs.Answers.{number}
 use Rattle.message.specs.Meaning.{Message, Said, refuses, says, said, Checked, fails, passes, heardIn, checked, saidOf}
 use Rattle.message.specs.declared.Answer.{Answer}
 use Rattle.message.specs.declared.Answer.the-variants.{Taken, Shut, TooLong, NotJson, Escaped, NotOurs, BadLayout, TooManyEntries, BadDecimal, PriceTwice, NoSnapshot, OldNumber, TooManyLevels, WrongChecksum, NoLevel, NoRoom}
-use Rattle.book.specs.Reference.{Status, shut, waiting, live, isShut, isLive, Reference, isM, checksumOf, pricesOf, namesPriceTwice, lacksSnapshot, isOld, hasTooMany, differs, hasWrongChecksum, bidsAfter, asksAfter, verdict, taken, leavesStatus, setWaiting, refusedBy, isTaken, answered, hearing, hear}
+use Rattle.book.specs.Reference.{Status, shut, waiting, live, isShut, isLive, Reference, checksumOf, pricesOf, namesPriceTwice, lacksSnapshot, isOld, hasTooMany, differs, hasWrongChecksum, bidsAfter, asksAfter, verdict, taken, leavesStatus, setWaiting, refusedBy, isTaken, answered, hearing, hear}
+use Rattle.settings.specs.Settings.{isM}
 use Rattle.book.proofs.Checks.{Refusals, Read, Either, checked-either}
 use Rattle.book.specs.Claims.{oneOf, unchanging, statusAfter, Ready, is-live, restarts, Agrees, carries-none, the-same, Acceptable, withStatus}
 

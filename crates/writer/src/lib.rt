@@ -1,1 +1,2 @@
-// Writes a book as a snapshot.
+// A book written out as a snapshot.
+mod laying;

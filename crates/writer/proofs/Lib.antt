@@ -1,0 +1,2 @@
+-- Laws, each file about the definitions that it is named after.
+pub mod Owed

@@ -1,0 +1,40 @@
+-- Parts of a snapshot's text, and a part laid into a buffer that has room for it. Assumes nothing: these are definitions.
+use Prim.Native.Nat.{ℕ, _+_, _≤_}
+use mathlib.Core.Path.{_≡_}
+use mathlib.Core.Bool.{Bool, cond}
+use mathlib.Core.List.{List, map}
+use lib.ListN.{length}
+use Rattle.decimal.specs.Decimal.{Within}
+use Rattle.decimal.specs.Buffer.{overlaid}
+use Rattle.side.specs.declared.Level.{Level}
+use Rattle.side.specs.declared.Levels.{Levels}
+use Rattle.side.specs.Level.{PriceLevel, levelPrice, levelSize, shown}
+use Rattle.side.specs.Side.{All}
+use Rattle.side.specs.Kept.{maxLevels, held}
+use Rattle.writer.specs.Snapshot.{commaJoined, kEntry, mEntry}
+
+-- A level as an entry; `stamped` says that a timestamp follows, as in K.
+unfoldable pub entry : Bool → Level → List ℕ
+entry stamped level = cond stamped (kEntry (shown level)) (mEntry (shown level))
+
+-- The entries of a side, best first.
+unfoldable pub entries : Bool → Levels → List ℕ
+entries stamped kept = commaJoined (map (entry stamped) (held kept))
+
+-- What the text of a level needs, and that of a side.
+pub record Writable (level : Level) : Type 0 where
+  pub price : Within (levelPrice level)
+  pub size : Within (levelSize level)
+
+pub record Kept (kept : Levels) : Type 0 where
+  pub few : kept .count ≤ maxLevels
+  pub room : length (kept .items) ≡ maxLevels
+  pub levels : All Writable (held kept)
+
+abbrev pub Room : List ℕ → ℕ → List ℕ → Type 0
+Room buffer at text = at + length text ≤ length buffer
+
+-- The buffer with a text laid at a position, and the position past it.
+pub record Put (before : List ℕ) (at : ℕ) (text : List ℕ) (after : List ℕ) (past : ℕ) : Type 0 where
+  pub bytes : after ≡ overlaid before at text
+  pub end : past ≡ at + length text

@@ -1,0 +1,63 @@
+// Texts laid into a lent buffer that has room for them, one after another.
+ghost use mathlib.Core.Path.{_≡_};
+ghost use Prim.Native.Nat.{_+_, _≤_};
+ghost use lib.ListN.{length};
+ghost use Rattle.decimal.specs.Digits.{written};
+ghost use Rattle.decimal.specs.Decimal.{number, text, Within};
+ghost use Rattle.side.specs.declared.Level.{Level};
+ghost use Rattle.writer.specs.Parts.{Room, Put, Writable, entry};
+use decimal::Decimal;
+use decimal::Written;
+use side::Level;
+
+// Lays a text into a buffer at a position, and answers the position past it.
+pub fn lay(bytes: &[u8], buffer: &mut [u8], at: usize) -> usize
+    requires { ⌜ Room (now buffer) at (now bytes) ⌝ }
+    ensures { λ r. ⌜ Put (now (buffer .entry)) at (now (bytes .entry)) (now (buffer .exit)) r ⌝ }
+{
+    let mut i = 0;
+    let mut end = at;
+    while i < bytes.len() {
+        buffer[end] = bytes[i];
+        i += 1;
+        end += 1;
+    }
+    end
+}
+
+// Lays a decimal.
+fn lay_decimal(a: Decimal, buffer: &mut [u8], at: usize) -> usize
+    requires { ⌜ Within (number a) × Room (now buffer) at (text (number a)) ⌝ }
+    ensures { λ r. ⌜ Put (now (buffer .entry)) at (text (number a)) (now (buffer .exit)) r ⌝ }
+{
+    match decimal::write(a, buffer, at) {
+        Written::To(end) => end,
+        Written::Full => at,
+    }
+}
+
+// Lays the digits of a whole number.
+pub fn lay_whole(n: u64, buffer: &mut [u8], at: usize) -> usize
+    requires { ⌜ Room (now buffer) at (written n) ⌝ }
+    ensures { λ r. ⌜ Put (now (buffer .entry)) at (written n) (now (buffer .exit)) r ⌝ }
+{
+    match decimal::write_whole(n, buffer, at) {
+        Written::To(end) => end,
+        Written::Full => at,
+    }
+}
+
+// Lays a level as an entry; `stamped` says that a timestamp follows.
+fn lay_entry(stamped: bool, level: Level, buffer: &mut [u8], at: usize) -> usize
+    requires { ⌜ Writable level × Room (now buffer) at (entry stamped level) ⌝ }
+    ensures { λ r. ⌜ Put (now (buffer .entry)) at (entry stamped level) (now (buffer .exit)) r ⌝ }
+{
+    let price = lay(b"[\"", buffer, at);
+    let between = lay_decimal(side::price_of(level), buffer, price);
+    let size = lay(b"\",\"", buffer, between);
+    let after = lay_decimal(side::size_of(level), buffer, size);
+    if stamped {
+        return lay(b"\",\"0.000000\"]", buffer, after);
+    }
+    lay(b"\"]", buffer, after)
+}

@@ -1,2 +1,3 @@
 -- Laws, each file about the definitions that it is named after.
 pub mod Owed
+pub mod Entries

@@ -60,8 +60,11 @@ pub record Owed (final : List ℕ) (past : ℕ) (b : List ℕ) (at : ℕ) (text 
 abbrev pub Whole : List ℕ → ℕ → List ℕ → List ℕ → ℕ → List ℕ → Type 0
 Whole b₀ at₀ text₀ b at text = Owed (overlaid b₀ at₀ text₀) (at₀ + length text₀) b at text
 
+pub owed-as : {b : List ℕ} {at : ℕ} {text text' : List ℕ} → text ≡ text' → Room b at text → Whole b at text b at text'
+owed-as {b} {at} {text} e room = subst (Whole b at text b at) e (record { bytes = refl; end = refl; room = room })
+
 pub owed-all : {b : List ℕ} {at : ℕ} {text : List ℕ} → Room b at text → Whole b at text b at text
-owed-all room = record { bytes = refl; end = refl; room = room }
+owed-all room = owed-as refl room
 
 module _ {final : List ℕ} {past : ℕ} {b : List ℕ} {at : ℕ} (t u : List ℕ) (owed : Owed final past b at (t ++ u)) where
   pub room-first : at + length t ≤ length b
@@ -81,12 +84,24 @@ module _ {final : List ℕ} {past : ℕ} {b : List ℕ} {at : ℕ} (t u : List �
         room = omega arith;
       }
 
+  -- the first text as its callee names it
+  pub room-first-as : {t' : List ℕ} → t' ≡ t → at + length t' ≤ length b
+  room-first-as e = rw e room-first
+
+  pub owed-rest-as : {t' b' : List ℕ} {e : ℕ} → t' ≡ t → Put b at t' b' e → Owed final past b' e u
+  owed-rest-as {t'} {b'} {e} is put = owed-rest (subst (λ (l : List ℕ). Put b at l b' e) is put)
+
 -- the last text that was owed
-pub put-last : {b₀ : List ℕ} {at₀ : ℕ} {text₀ b : List ℕ} {at : ℕ} {text b' : List ℕ} {e : ℕ} → Whole b₀ at₀ text₀ b at text → Put b at text b' e → Put b₀ at₀ text₀ b' e
-put-last owed put = record { bytes = put .bytes ∙ owed .bytes; end = put .end ∙ owed .end }
+pub put-last : {b₀ : List ℕ} {at₀ : ℕ} {text₀ b : List ℕ} {at : ℕ} {text t b' : List ℕ} {e : ℕ} → Whole b₀ at₀ text₀ b at text → text ≡ t → Put b at t b' e → Put b₀ at₀ text₀ b' e
+put-last {b₀} {at₀} {text₀} {b} {at} owed is put =
+    let o = subst (Whole b₀ at₀ text₀ b at) is owed in
+    record { bytes = put .bytes ∙ o .bytes; end = put .end ∙ o .end }
+
+pub room-all : {final : List ℕ} {past : ℕ} {b : List ℕ} {at : ℕ} {text t : List ℕ} → Owed final past b at text → text ≡ t → at + length t ≤ length b
+room-all owed is = rw is at (owed .room)
 
 pub put-none : {b₀ : List ℕ} {at₀ : ℕ} {text₀ b : List ℕ} {at : ℕ} → Whole b₀ at₀ text₀ b at [] → Put b₀ at₀ text₀ b at
-put-none {b = b} {at = at} owed = put-last owed (record { bytes = sym (overlaid-none b at); end = sym (add-zero at) })
+put-none {b = b} {at = at} owed = put-last owed refl (record { bytes = sym (overlaid-none b at); end = sym (add-zero at) })
 
 -- one byte
 pub owed-byte : {final : List ℕ} {past : ℕ} {b : List ℕ} {at x : ℕ} {u : List ℕ} → Owed final past b at (x ∷ u) → Owed final past (set b at x) (at + 1) u

@@ -26,7 +26,7 @@ pub record Writable (level : Level) : Type 0 where
   pub price : Within (levelPrice level)
   pub size : Within (levelSize level)
 
-pub record Kept (kept : Levels) : Type 0 where
+pub record WritableSide (kept : Levels) : Type 0 where
   pub few : kept .count ≤ maxLevels
   pub room : length (kept .items) ≡ maxLevels
   pub levels : All Writable (held kept)

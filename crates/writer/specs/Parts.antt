@@ -2,8 +2,9 @@
 use Prim.Native.Nat.{ℕ, _+_, _≤_}
 use mathlib.Core.Path.{_≡_}
 use mathlib.Core.Bool.{Bool, cond}
-use mathlib.Core.List.{List, map}
+use mathlib.Core.List.{List, _++_, map}
 use lib.ListN.{length}
+use Rattle.decimal.specs.Ascii.{ascii}
 use Rattle.decimal.specs.Decimal.{Within}
 use Rattle.decimal.specs.Buffer.{overlaid}
 use Rattle.side.specs.declared.Level.{Level}
@@ -16,6 +17,10 @@ use Rattle.writer.specs.Snapshot.{commaJoined, kEntry, mEntry}
 -- A level as an entry; `stamped` says that a timestamp follows, as in K.
 unfoldable pub entry : Bool → Level → List ℕ
 entry stamped level = cond stamped (kEntry (shown level)) (mEntry (shown level))
+
+-- The same, with the comma that parts it from the one before it.
+unfoldable pub nextEntry : Bool → Level → List ℕ
+nextEntry stamped level = ascii "," ++ entry stamped level
 
 -- The entries of a side, best first.
 unfoldable pub entries : Bool → Levels → List ℕ
@@ -30,6 +35,13 @@ pub record WritableSide (kept : Levels) : Type 0 where
   pub few : kept .count ≤ maxLevels
   pub room : length (kept .items) ≡ maxLevels
   pub levels : All Writable (held kept)
+
+-- The longest that such texts are.
+abbrev pub maxEntry : ℕ
+maxEntry = 58
+
+abbrev pub maxSide : ℕ
+maxSide = 5900
 
 abbrev pub Room : List ℕ → ℕ → List ℕ → Type 0
 Room buffer at text = at + length text ≤ length buffer

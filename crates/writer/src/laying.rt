@@ -5,10 +5,11 @@ ghost use lib.ListN.{length};
 ghost use Rattle.decimal.specs.Digits.{written};
 ghost use Rattle.decimal.specs.Decimal.{number, text, Within};
 ghost use Rattle.side.specs.declared.Level.{Level};
-ghost use Rattle.writer.specs.Parts.{Room, Put, Writable, entry};
+ghost use Rattle.writer.specs.Parts.{Room, Put, Writable, WritableSide, entry, nextEntry, entries};
 use decimal::Decimal;
 use decimal::Written;
 use side::Level;
+use side::Levels;
 
 // Lays a text into a buffer at a position, and answers the position past it.
 pub fn lay(bytes: &[u8], buffer: &mut [u8], at: usize) -> usize
@@ -60,4 +61,31 @@ fn lay_entry(stamped: bool, level: Level, buffer: &mut [u8], at: usize) -> usize
         return lay(b"\",\"0.000000\"]", buffer, after);
     }
     lay(b"\"]", buffer, after)
+}
+
+// Lays a comma and a level as an entry.
+fn lay_next(stamped: bool, level: Level, buffer: &mut [u8], at: usize) -> usize
+    requires { ⌜ Writable level × Room (now buffer) at (nextEntry stamped level) ⌝ }
+    ensures { λ r. ⌜ Put (now (buffer .entry)) at (nextEntry stamped level) (now (buffer .exit)) r ⌝ }
+{
+    let past_comma = lay(b",", buffer, at);
+    lay_entry(stamped, level, buffer, past_comma)
+}
+
+// Lays the entries of a side.
+pub fn lay_side(stamped: bool, levels: Levels, buffer: &mut [u8], at: usize) -> usize
+    requires { ⌜ WritableSide levels × Room (now buffer) at (entries stamped levels) ⌝ }
+    ensures { λ r. ⌜ Put (now (buffer .entry)) at (entries stamped levels) (now (buffer .exit)) r ⌝ }
+{
+    let count = levels.count;
+    if count == 0 {
+        return at;
+    }
+    let mut end = lay_entry(stamped, levels.items[0], buffer, at);
+    let mut i = 1;
+    while i < count {
+        end = lay_next(stamped, levels.items[i], buffer, end);
+        i += 1;
+    }
+    end
 }

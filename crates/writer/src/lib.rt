@@ -1,2 +1,3 @@
 // A book written out as a snapshot.
 mod laying;
+mod measuring;

@@ -12,7 +12,7 @@ use Rattle.side.specs.declared.Levels.{Levels}
 use Rattle.side.specs.Level.{PriceLevel, levelPrice, levelSize, shown}
 use Rattle.side.specs.Side.{All}
 use Rattle.side.specs.Kept.{maxLevels, held}
-use Rattle.writer.specs.Snapshot.{commaJoined, kEntry, mEntry}
+use Rattle.writer.specs.Snapshot.{commaJoined, kEntry, mEntry, kSnapshot, mSnapshot}
 
 -- A level as an entry; `stamped` says that a timestamp follows, as in K.
 unfoldable pub entry : Bool → Level → List ℕ
@@ -25,6 +25,13 @@ nextEntry stamped level = ascii "," ++ entry stamped level
 -- The entries of a side, best first.
 unfoldable pub entries : Bool → Levels → List ℕ
 entries stamped kept = commaJoined (map (entry stamped) (held kept))
+
+-- The text of a book.
+unfoldable pub kText : ℕ → List ℕ → Levels → Levels → List ℕ
+kText depth name bids asks = kSnapshot depth name (map shown (held bids)) (map shown (held asks))
+
+unfoldable pub mText : List ℕ → Levels → Levels → ℕ → ℕ → List ℕ
+mText name bids asks checksum number = mSnapshot name (map shown (held bids)) (map shown (held asks)) checksum number
 
 -- What the text of a level needs, and that of a side.
 pub record Writable (level : Level) : Type 0 where
@@ -42,6 +49,14 @@ maxEntry = 58
 
 abbrev pub maxSide : ℕ
 maxSide = 5900
+
+-- The longest that a name is.
+abbrev pub maxName : ℕ
+maxName = 16
+
+-- The sizes of a side's levels keep the limits of decimals, as its prices do.
+abbrev pub Sized : Levels → Type 0
+Sized kept = All (λ level. Within (levelSize level)) (held kept)
 
 abbrev pub Room : List ℕ → ℕ → List ℕ → Type 0
 Room buffer at text = at + length text ≤ length buffer

@@ -1,7 +1,7 @@
 // Texts laid into a lent buffer that has room for them, one after another.
 ghost use mathlib.Core.Path.{_≡_};
 ghost use Prim.Native.Nat.{_+_, _≤_};
-ghost use lib.ListN.{length};
+ghost use mathlib.Core.List.{_++_};
 ghost use Rattle.decimal.specs.Digits.{written};
 ghost use Rattle.decimal.specs.Decimal.{number, text, Within};
 ghost use Rattle.side.specs.declared.Level.{Level};
@@ -38,7 +38,7 @@ fn lay_decimal(a: Decimal, buffer: &mut [u8], at: usize) -> usize
 }
 
 // Lays the digits of a whole number.
-pub fn lay_whole(n: u64, buffer: &mut [u8], at: usize) -> usize
+fn lay_whole(n: u64, buffer: &mut [u8], at: usize) -> usize
     requires { ⌜ Room (now buffer) at (written n) ⌝ }
     ensures { λ r. ⌜ Put (now (buffer .entry)) at (written n) (now (buffer .exit)) r ⌝ }
 {
@@ -73,7 +73,7 @@ fn lay_next(stamped: bool, level: Level, buffer: &mut [u8], at: usize) -> usize
 }
 
 // Lays the entries of a side.
-pub fn lay_side(stamped: bool, levels: Levels, buffer: &mut [u8], at: usize) -> usize
+fn lay_side(stamped: bool, levels: Levels, buffer: &mut [u8], at: usize) -> usize
     requires { ⌜ WritableSide levels × Room (now buffer) at (entries stamped levels) ⌝ }
     ensures { λ r. ⌜ Put (now (buffer .entry)) at (entries stamped levels) (now (buffer .exit)) r ⌝ }
 {
@@ -88,4 +88,22 @@ pub fn lay_side(stamped: bool, levels: Levels, buffer: &mut [u8], at: usize) -> 
         i += 1;
     }
     end
+}
+
+// Lays a text and the entries of a side.
+pub fn lay_listed(before: &[u8], stamped: bool, levels: Levels, buffer: &mut [u8], at: usize) -> usize
+    requires { ⌜ WritableSide levels × Room (now buffer) at (now before ++ entries stamped levels) ⌝ }
+    ensures { λ r. ⌜ Put (now (buffer .entry)) at (now (before .entry) ++ entries stamped levels) (now (buffer .exit)) r ⌝ }
+{
+    let start = lay(before, buffer, at);
+    lay_side(stamped, levels, buffer, start)
+}
+
+// Lays a text and the digits of a whole number.
+pub fn lay_number(before: &[u8], n: u64, buffer: &mut [u8], at: usize) -> usize
+    requires { ⌜ Room (now buffer) at (now before ++ written n) ⌝ }
+    ensures { λ r. ⌜ Put (now (buffer .entry)) at (now (before .entry) ++ written n) (now (buffer .exit)) r ⌝ }
+{
+    let start = lay(before, buffer, at);
+    lay_whole(n, buffer, start)
 }

@@ -12,7 +12,7 @@ use lib.Seq.{set-split, take-at, drop-at, drop-drop, length-take-le}
 use Rattle.decimal.specs.Buffer.{overlaid, fits, Laid}
 use Rattle.decimal.specs.declared.Written.{Written}
 use Rattle.decimal.specs.declared.Written.the-variants.{To, Full}
-use Rattle.decimal.proofs.Buffer.{overlaid-none}
+use Rattle.decimal.proofs.Buffer.{overlaid-none, laid-to}
 use Rattle.writer.specs.Parts.{Room, Put}
 
 -- ---- one text after another is one text
@@ -49,6 +49,9 @@ length-overlaid b at t room =
     let r = length-drop (at + length t) b in
     omega arith
 
+pub put-length : {b : List ℕ} {at : ℕ} {text b' : List ℕ} {e : ℕ} → Room b at text → Put b at text b' e → length b' ≡ length b
+put-length {b} {at} {text} room put = ap length (put .bytes) ∙ length-overlaid b at text room
+
 -- ---- what is still to be laid
 
 -- A text that is still to be laid at a position, after which the buffer is `final` and the position `past`.
@@ -75,7 +78,7 @@ module _ {final : List ℕ} {past : ℕ} {b : List ℕ} {at : ℕ} (t u : List �
       let h = owed .room in
       let l = length-append t u in
       let i : at ≤ length b = omega arith in
-      let q : length b' ≡ length b = ap length (put .bytes) ∙ length-overlaid b at t room-first in
+      let q : length b' ≡ length b = put-length room-first put in
       let z = put .end in
       let y = owed .end in
       record {
@@ -127,3 +130,8 @@ module _ {b : List ℕ} {at : ℕ} {text b' : List ℕ} {w : Written} (room : Ro
       let p : w ≡ To (at + length text) = laid .end ∙ rw it-fits in
       let z : _≡_ {A = ℕ} 0 1 = cc in
       omega arith
+
+-- ---- the text of the whole, as a caller is told of it
+
+pub put-laid : {b : List ℕ} {at : ℕ} {text b' : List ℕ} {e : ℕ} → Room b at text → Put b at text b' e → Laid b at text b' (To e)
+put-laid {b} {at} {text} room put = laid-to b at text room (put .bytes) (put .end)

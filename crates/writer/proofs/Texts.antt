@@ -9,11 +9,12 @@ use lib.Dec.{lit≤}
 use lib.ListN.{length, length-append}
 use Rattle.decimal.specs.Ascii.{ascii}
 use Rattle.decimal.specs.Digits.{written}
+use Rattle.decimal.specs.Decimal.{Within}
 use Rattle.decimal.proofs.Digits.{length-written}
 use Rattle.side.specs.declared.Side.{Side}
 use Rattle.side.specs.declared.Level.{Level}
 use Rattle.side.specs.declared.Levels.{Levels}
-use Rattle.side.specs.Level.{shown}
+use Rattle.side.specs.Level.{levelPrice, levelSize, shown}
 use Rattle.side.specs.Side.{All}
 use Rattle.side.specs.Kept.{held, Good}
 use Rattle.writer.specs.Snapshot.{quoted, commaJoined, array, kEntry, mEntry, kSnapshot, mSnapshot}
@@ -104,5 +105,15 @@ module _ (name : List ℕ) (bids asks : Levels) (checksum number : ℕ) where
 pub whole-short : (n : ℕ) → n < 2 ^ 64 → length (written n) ≤ 20
 whole-short n low = length-written 19 n (lt-of-lt-of-le low (lit≤ tt))
 
+pub checksum-short : (n : ℕ) → n < 2 ^ 32 → length (written n) ≤ 20
+checksum-short n low = whole-short n (lt-of-lt-of-le low (lit≤ tt))
 
+-- ---- a good side whose sizes keep the limits
 
+writable : (levels : List Level) → All (λ level. Within (levelPrice level)) levels → All (λ level. Within (levelSize level)) levels → All Writable levels
+unfolding All
+writable [] p s = tt
+writable (level ∷ levels) p s = (record { price = p .0; size = s .0 }, writable levels (p .1) (s .1))
+
+pub good-writable : {side : Side} {kept : Levels} → Good side kept → Sized kept → WritableSide kept
+good-writable {kept = kept} good sized = record { few = good .few; room = good .room; levels = writable (held kept) (good .within) sized }

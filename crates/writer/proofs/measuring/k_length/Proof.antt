@@ -1,3 +1,6 @@
+-- `k_length` meets its contract: the lengths of its texts, summed.
+use native.Mathlib.Omega.{arith}
+use Rattle.writer.proofs.Texts.{length-k, whole-short}
 use borrow.Author.Needs.{needs}
 use Rattle.writer.proofs.measuring.k_length.Statement.{statement}
 use Rattle.writer.proofs.measuring.k_length.Tie as tie
@@ -28,15 +31,33 @@ whole-length-requires c κs = search needs
 
 -- src/measuring.rt:25:5
 add-result-2 : tie.Need-add-result-2
-add-result-2 c = ?
+add-result-2 c =
+    let k = length-k (c .before .before .before .before .args .depth) (c .before .before .before .before .args .name .now) (c .before .before .before .before .args .bids) (c .before .before .before .before .args .asks) in
+    let w = whole-short (c .before .before .before .before .args .depth) (c .before .before .before .before .fits .depth .fits) in
+    let e = c .whole-length .ensures in
+    let a = c .before .before .side-length .ensures in
+    let d = c .before .side-length2 .ensures in
+    omega arith
 
 -- src/measuring.rt:25:5
 add-result-3 : tie.Need-add-result-3
-add-result-3 c = ?
+add-result-3 c =
+    let k = length-k (c .before .before .before .before .args .depth) (c .before .before .before .before .args .name .now) (c .before .before .before .before .args .bids) (c .before .before .before .before .args .asks) in
+    let w = whole-short (c .before .before .before .before .args .depth) (c .before .before .before .before .fits .depth .fits) in
+    let e = c .whole-length .ensures in
+    let a = c .before .before .side-length .ensures in
+    let d = c .before .side-length2 .ensures in
+    omega arith
 
 -- src/measuring.rt:20:1
 returns : tie.Need-returns
-returns c = ?
+returns c =
+    let k = length-k (c .before .before .before .before .args .depth) (c .before .before .before .before .args .name .now) (c .before .before .before .before .args .bids) (c .before .before .before .before .args .asks) in
+    let w = whole-short (c .before .before .before .before .args .depth) (c .before .before .before .before .fits .depth .fits) in
+    let e = c .whole-length .ensures in
+    let a = c .before .before .side-length .ensures in
+    let d = c .before .side-length2 .ensures in
+    omega arith
 
 pub k-length-spec : {M : Type 1} → statement M
 k-length-spec =

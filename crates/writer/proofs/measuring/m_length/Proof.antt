@@ -1,3 +1,6 @@
+-- `m_length` meets its contract: the lengths of its texts, summed.
+use native.Mathlib.Omega.{arith}
+use Rattle.writer.proofs.Texts.{length-m, whole-short, checksum-short}
 use borrow.Author.Needs.{needs}
 use Rattle.writer.proofs.measuring.m_length.Statement.{statement}
 use Rattle.writer.proofs.measuring.m_length.Tie as tie
@@ -28,7 +31,15 @@ whole-length-requires-2 c κs = search needs
 
 -- src/measuring.rt:34:19
 add-numbers : tie.Need-add-numbers
-add-numbers c = ?
+add-numbers c =
+    let k = length-m (c .before .before .before .before .before .args .name .now) (c .before .before .before .before .before .args .bids) (c .before .before .before .before .before .args .asks) (c .before .before .before .before .before .args .checksum) (c .before .before .before .before .before .args .number) in
+    let w = checksum-short (c .before .before .before .before .before .args .checksum) (c .before .before .before .before .before .fits .checksum .fits) in
+    let x = whole-short (c .before .before .before .before .before .args .number) (c .before .before .before .before .before .fits .number .fits) in
+    let e = c .before .whole-length .ensures in
+    let f = c .whole-length2 .ensures in
+    let d = c .before .before .before .side-length .ensures in
+    let a = c .before .before .side-length2 .ensures in
+    omega arith
 
 -- src/measuring.rt:35:5
 add-result : tie.Need-add-result
@@ -36,15 +47,39 @@ add-result c = search needs
 
 -- src/measuring.rt:35:5
 add-result-2 : tie.Need-add-result-2
-add-result-2 c = ?
+add-result-2 c =
+    let k = length-m (c .before .before .before .before .before .args .name .now) (c .before .before .before .before .before .args .bids) (c .before .before .before .before .before .args .asks) (c .before .before .before .before .before .args .checksum) (c .before .before .before .before .before .args .number) in
+    let w = checksum-short (c .before .before .before .before .before .args .checksum) (c .before .before .before .before .before .fits .checksum .fits) in
+    let x = whole-short (c .before .before .before .before .before .args .number) (c .before .before .before .before .before .fits .number .fits) in
+    let e = c .before .whole-length .ensures in
+    let f = c .whole-length2 .ensures in
+    let d = c .before .before .before .side-length .ensures in
+    let a = c .before .before .side-length2 .ensures in
+    omega arith
 
 -- src/measuring.rt:35:5
 add-result-3 : tie.Need-add-result-3
-add-result-3 c = ?
+add-result-3 c =
+    let k = length-m (c .before .before .before .before .before .args .name .now) (c .before .before .before .before .before .args .bids) (c .before .before .before .before .before .args .asks) (c .before .before .before .before .before .args .checksum) (c .before .before .before .before .before .args .number) in
+    let w = checksum-short (c .before .before .before .before .before .args .checksum) (c .before .before .before .before .before .fits .checksum .fits) in
+    let x = whole-short (c .before .before .before .before .before .args .number) (c .before .before .before .before .before .fits .number .fits) in
+    let e = c .before .whole-length .ensures in
+    let f = c .whole-length2 .ensures in
+    let d = c .before .before .before .side-length .ensures in
+    let a = c .before .before .side-length2 .ensures in
+    omega arith
 
 -- src/measuring.rt:29:1
 returns : tie.Need-returns
-returns c = ?
+returns c =
+    let k = length-m (c .before .before .before .before .before .args .name .now) (c .before .before .before .before .before .args .bids) (c .before .before .before .before .before .args .asks) (c .before .before .before .before .before .args .checksum) (c .before .before .before .before .before .args .number) in
+    let w = checksum-short (c .before .before .before .before .before .args .checksum) (c .before .before .before .before .before .fits .checksum .fits) in
+    let x = whole-short (c .before .before .before .before .before .args .number) (c .before .before .before .before .before .fits .number .fits) in
+    let e = c .before .whole-length .ensures in
+    let f = c .whole-length2 .ensures in
+    let d = c .before .before .before .side-length .ensures in
+    let a = c .before .before .side-length2 .ensures in
+    omega arith
 
 pub m-length-spec : {M : Type 1} → statement M
 m-length-spec =

@@ -1,7 +1,7 @@
 -- Laws of the text of a book: the texts that it is laid from, and its length. Assumes nothing.
 use mathlib.Core.Path.{_≡_, refl, sym, ap, ap₂, _∙_}
 use mathlib.Core.Bool.{Bool, true, false}
-use mathlib.Core.List.{List, [], _∷_, _++_, map, append-assoc}
+use mathlib.Core.List.{List, [], _∷_, _++_, map, map-map, append-assoc}
 use Prim.Native.Nat.{ℕ, _+_, _≤_, _<_, _^_}
 use native.Mathlib.Nat.{lt-of-lt-of-le}
 use native.Mathlib.Omega.{arith}
@@ -22,23 +22,13 @@ use Rattle.writer.specs.Parts.{entry, entries, kText, mText, Writable, W
 
 -- ---- entries of levels as they are shown
 
-k-entries : (levels : List Level) → map kEntry (map shown levels) ≡ map (entry true) levels
-unfolding entry
-k-entries [] = refl
-k-entries (level ∷ levels) = ap (λ (l : List (List ℕ)). kEntry (shown level) ∷ l) (k-entries levels)
-
-m-entries : (levels : List Level) → map mEntry (map shown levels) ≡ map (entry false) levels
-unfolding entry
-m-entries [] = refl
-m-entries (level ∷ levels) = ap (λ (l : List (List ℕ)). mEntry (shown level) ∷ l) (m-entries levels)
-
 k-side : (kept : Levels) → commaJoined (map kEntry (map shown (held kept))) ≡ entries true kept
-unfolding entries
-k-side kept = ap commaJoined (k-entries (held kept))
+unfolding entries entry
+k-side kept = ap commaJoined (map-map kEntry shown (held kept))
 
 m-side : (kept : Levels) → commaJoined (map mEntry (map shown (held kept))) ≡ entries false kept
-unfolding entries
-m-side kept = ap commaJoined (m-entries (held kept))
+unfolding entries entry
+m-side kept = ap commaJoined (map-map mEntry shown (held kept))
 
 -- what follows a text goes with what follows that
 moved : {x x' : List ℕ} → x ≡ x' → (c : List ℕ) {r r' : List ℕ} → r ≡ r' → (x ++ c) ++ r ≡ x' ++ (c ++ r')

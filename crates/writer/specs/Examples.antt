@@ -1,11 +1,10 @@
 -- Worked examples of the definitions, from document 01. Assumes nothing.
 use mathlib.Core.Path.{_≡_, refl}
-use mathlib.Core.List.{List, [], _∷_}
+use mathlib.Core.List.{[], _∷_}
 use Prim.Native.Nat.{ℕ}
 use Rattle.decimal.specs.Ascii.{ascii}
 use Rattle.decimal.specs.Digits.{fixed, significantIn, significant, written}
 use Rattle.decimal.specs.Decimal.{Number, text, afterPoint}
-use Rattle.side.specs.Level.{PriceLevel}
 use Rattle.writer.specs.Snapshot.{quoted, commaJoined, array, kEntry, kSnapshot, mEntry, mSnapshot}
 
 unfoldable decimal : ℕ → ℕ → Number

@@ -9,7 +9,7 @@ use Rattle.decimal.specs.Decimal.{Within}
 use Rattle.decimal.specs.Buffer.{overlaid}
 use Rattle.side.specs.declared.Level.{Level}
 use Rattle.side.specs.declared.Levels.{Levels}
-use Rattle.side.specs.Level.{PriceLevel, levelPrice, levelSize, shown}
+use Rattle.side.specs.Level.{levelPrice, levelSize, shown}
 use Rattle.side.specs.Side.{All}
 use Rattle.side.specs.Kept.{maxLevels, held}
 use Rattle.writer.specs.Snapshot.{commaJoined, kEntry, mEntry, kSnapshot, mSnapshot}

@@ -3,19 +3,14 @@ use Prim.Native.Nat.{ℕ}
 use mathlib.Core.Path.{refl}
 use mathlib.Core.List.{List, _++_}
 use mathlib.Core.Bool.{true}
+use borrow.Author.Needs.{needs}
 use Rattle.decimal.specs.Ascii.{ascii}
 use Rattle.decimal.specs.Digits.{written}
 use Rattle.writer.specs.Parts.{entries, kText}
 use Rattle.writer.proofs.Owed.{Whole, owed-as, owed-rest, room-first, put-last}
 use Rattle.writer.proofs.Texts.{kFromBids, kFromDepth, kFromNames, k-parts}
-use borrow.Author.Needs.{needs}
 use Rattle.writer.proofs.lay_k.Statement.{statement}
 use Rattle.writer.proofs.lay_k.Tie as tie
-use Rattle.writer.proofs.lay_k.Reads as reads
-use Rattle.writer.proofs.lay_k.Lts as lts
-use Rattle.writer.proofs.laying.lay.Reads as lay-reads
-use Rattle.writer.proofs.laying.lay_listed.Reads as lay-listed-reads
-use Rattle.writer.proofs.laying.lay_number.Reads as lay-number-reads
 
 -- ---- what is owed after each text
 
@@ -40,55 +35,42 @@ before-name c = owed-rest (ascii "\",\"") (c .before .before .before .before .be
 after-name : (c : tie.After-lay2) → Left (c .before .before .before .before .before .before .before .before .before .before .before .before .before .before .before .before .before .before .before .before .before .before .before .before) (c .lay2 .last .1 .0) (c .lay2 .result) (ascii "\"]")
 after-name c = owed-rest (c .before .before .before .before .before .before .before .before .before .before .before .before .before .before .before .before .before .before .before .before .before .before .before .before .args .name .now) (ascii "\"]") (before-name (c .before .before .before .before)) (c .lay2 .ensures)
 
--- src/lib.rt:54:33
 slice-aggregate-lay-listed : tie.Need-slice-aggregate-lay-listed
 slice-aggregate-lay-listed c = search needs
 
--- src/lib.rt:54:9
 lay-listed-requires : tie.Need-lay-listed-requires
 lay-listed-requires c κs = (c .before .before .before .before .pre .1, room-first (ascii "[0,{\"as\":[" ++ entries true (c .before .before .before .before .args .asks)) (kFromBids (c .before .before .before .before .args .depth) (c .before .before .before .before .args .name .now) (c .before .before .before .before .args .bids) (c .before .before .before .before .args .asks)) (left (c .before .before .before .before)))
 
--- src/lib.rt:55:33
 slice-aggregate-lay-listed-2 : tie.Need-slice-aggregate-lay-listed-2
 slice-aggregate-lay-listed-2 c = search needs
 
--- src/lib.rt:55:9
 lay-listed-requires-2 : tie.Need-lay-listed-requires-2
 lay-listed-requires-2 c κs = (c .before .before .before .before .before .before .before .before .before .pre .0, room-first (ascii "],\"bs\":[" ++ entries true (c .before .before .before .before .before .before .before .before .before .args .bids)) (kFromDepth (c .before .before .before .before .before .before .before .before .before .args .depth) (c .before .before .before .before .before .before .before .before .before .args .name .now) (c .before .before .before .before .before .before .before .before .before .args .bids) (c .before .before .before .before .before .before .before .before .before .args .asks)) (after-asks (c .before .before .before .before)))
 
--- src/lib.rt:56:34
 slice-aggregate-lay-number : tie.Need-slice-aggregate-lay-number
 slice-aggregate-lay-number c = search needs
 
--- src/lib.rt:56:9
 lay-number-requires : tie.Need-lay-number-requires
 lay-number-requires c κs = room-first (ascii "]},\"book-" ++ written (c .before .before .before .before .before .before .before .before .before .before .before .before .before .before .args .depth)) (kFromNames (c .before .before .before .before .before .before .before .before .before .before .before .before .before .before .args .depth) (c .before .before .before .before .before .before .before .before .before .before .before .before .before .before .args .name .now) (c .before .before .before .before .before .before .before .before .before .before .before .before .before .before .args .bids) (c .before .before .before .before .before .before .before .before .before .before .before .before .before .before .args .asks)) (after-bids (c .before .before .before .before))
 
--- src/lib.rt:57:27
 slice-aggregate-lay : tie.Need-slice-aggregate-lay
 slice-aggregate-lay c = search needs
 
--- src/lib.rt:57:9
 lay-requires : tie.Need-lay-requires
 lay-requires c κs = room-first (ascii "\",\"") (c .before .before .before .before .before .before .before .before .before .before .before .before .before .before .before .before .before .before .before .args .name .now ++ ascii "\"]") (after-depth (c .before .before .before .before))
 
--- src/lib.rt:58:9
 lay-requires-2 : tie.Need-lay-requires-2
 lay-requires-2 c κs = room-first (c .before .before .before .before .before .before .before .before .before .before .before .before .before .before .before .before .before .before .before .before .before .before .before .args .name .now) (ascii "\"]") (before-name (c .before .before .before))
 
--- src/lib.rt:59:9
 slice-aggregate-lay-2 : tie.Need-slice-aggregate-lay-2
 slice-aggregate-lay-2 c = search needs
 
--- src/lib.rt:59:5
 lay-requires-3 : tie.Need-lay-requires-3
 lay-requires-3 c κs = after-name (c .before .before .before .before) .room
 
--- src/lib.rt:50:1
 same-length : tie.Need-same-length
 same-length c = search needs
 
--- src/lib.rt:50:1
 returns : tie.Need-returns
 returns c = put-last (after-name (c .before .before .before .before .before .before .before)) refl (c .before .before .lay3 .ensures)
 

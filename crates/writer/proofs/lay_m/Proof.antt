@@ -3,19 +3,14 @@ use Prim.Native.Nat.{ℕ}
 use mathlib.Core.Path.{refl}
 use mathlib.Core.List.{List, _++_}
 use mathlib.Core.Bool.{false}
+use borrow.Author.Needs.{needs}
 use Rattle.decimal.specs.Ascii.{ascii}
 use Rattle.decimal.specs.Digits.{written}
 use Rattle.writer.specs.Parts.{entries, mText}
 use Rattle.writer.proofs.Owed.{Whole, owed-as, owed-rest, room-first, put-last, put-length}
 use Rattle.writer.proofs.Texts.{mFromBids, mFromAsks, mFromChecksum, mFromNumber, m-parts}
-use borrow.Author.Needs.{needs}
 use Rattle.writer.proofs.lay_m.Statement.{statement}
 use Rattle.writer.proofs.lay_m.Tie as tie
-use Rattle.writer.proofs.lay_m.Reads as reads
-use Rattle.writer.proofs.lay_m.Lts as lts
-use Rattle.writer.proofs.laying.lay.Reads as lay-reads
-use Rattle.writer.proofs.laying.lay_listed.Reads as lay-listed-reads
-use Rattle.writer.proofs.laying.lay_number.Reads as lay-number-reads
 
 -- ---- what is owed after each text
 
@@ -43,63 +38,48 @@ after-checksum c = owed-rest (ascii "]},\"checksum\":" ++ written (c .before .be
 after-number : (c : tie.After-lay-number2) → Left (c .before .before .before .before .before .before .before .before .before .before .before .before .before .before .before .before .before .before .before .before .before .before .before .before .before .before .before .before .before) (c .lay-number2 .last .1 .1 .0) (c .lay-number2 .result) (ascii "}")
 after-number c = owed-rest (ascii ",\"gsn\":" ++ written (c .before .before .before .before .before .before .before .before .before .before .before .before .before .before .before .before .before .before .before .before .before .before .before .before .before .before .before .before .before .args .number)) (ascii "}") (after-checksum (c .before .before .before .before .before)) (c .lay-number2 .ensures)
 
--- src/lib.rt:67:27
 slice-aggregate-lay : tie.Need-slice-aggregate-lay
 slice-aggregate-lay c = search needs
 
--- src/lib.rt:67:9
 lay-requires : tie.Need-lay-requires
 lay-requires c κs = room-first (ascii "{\"channel\":\"book\",\"product\":\"") (c .before .before .before .before .args .name .now ++ mFromBids (c .before .before .before .before .args .name .now) (c .before .before .before .before .args .bids) (c .before .before .before .before .args .asks) (c .before .before .before .before .args .checksum) (c .before .before .before .before .args .number)) (left (c .before .before .before .before))
 
--- src/lib.rt:68:9
 lay-requires-2 : tie.Need-lay-requires-2
 lay-requires-2 c κs = room-first (c .before .before .before .before .before .before .before .before .args .name .now) (mFromBids (c .before .before .before .before .before .before .before .before .args .name .now) (c .before .before .before .before .before .before .before .before .args .bids) (c .before .before .before .before .before .before .before .before .args .asks) (c .before .before .before .before .before .before .before .before .args .checksum) (c .before .before .before .before .before .before .before .before .args .number)) (before-name (c .before .before .before))
 
--- src/lib.rt:69:33
 slice-aggregate-lay-listed : tie.Need-slice-aggregate-lay-listed
 slice-aggregate-lay-listed c = search needs
 
--- src/lib.rt:69:9
 lay-listed-requires : tie.Need-lay-listed-requires
 lay-listed-requires c κs = (c .before .before .before .before .before .before .before .before .before .before .before .before .before .pre .0, room-first (ascii "\",\"type\":\"snapshot\",\"data\":{\"bids\":[" ++ entries false (c .before .before .before .before .before .before .before .before .before .before .before .before .before .args .bids)) (mFromAsks (c .before .before .before .before .before .before .before .before .before .before .before .before .before .args .name .now) (c .before .before .before .before .before .before .before .before .before .before .before .before .before .args .bids) (c .before .before .before .before .before .before .before .before .before .before .before .before .before .args .asks) (c .before .before .before .before .before .before .before .before .before .before .before .before .before .args .checksum) (c .before .before .before .before .before .before .before .before .before .before .before .before .before .args .number)) (after-name (c .before .before .before .before)))
 
--- src/lib.rt:70:33
 slice-aggregate-lay-listed-2 : tie.Need-slice-aggregate-lay-listed-2
 slice-aggregate-lay-listed-2 c = search needs
 
--- src/lib.rt:70:9
 lay-listed-requires-2 : tie.Need-lay-listed-requires-2
 lay-listed-requires-2 c κs = (c .before .before .before .before .before .before .before .before .before .before .before .before .before .before .before .before .before .before .pre .1, room-first (ascii "],\"asks\":[" ++ entries false (c .before .before .before .before .before .before .before .before .before .before .before .before .before .before .before .before .before .before .args .asks)) (mFromChecksum (c .before .before .before .before .before .before .before .before .before .before .before .before .before .before .before .before .before .before .args .name .now) (c .before .before .before .before .before .before .before .before .before .before .before .before .before .before .before .before .before .before .args .bids) (c .before .before .before .before .before .before .before .before .before .before .before .before .before .before .before .before .before .before .args .asks) (c .before .before .before .before .before .before .before .before .before .before .before .before .before .before .before .before .before .before .args .checksum) (c .before .before .before .before .before .before .before .before .before .before .before .before .before .before .before .before .before .before .args .number)) (after-bids (c .before .before .before .before)))
 
--- src/lib.rt:71:37
 slice-aggregate-lay-number : tie.Need-slice-aggregate-lay-number
 slice-aggregate-lay-number c = search needs
 
--- src/lib.rt:71:9
 lay-number-requires : tie.Need-lay-number-requires
 lay-number-requires c κs = room-first (ascii "]},\"checksum\":" ++ written (c .before .before .before .before .before .before .before .before .before .before .before .before .before .before .before .before .before .before .before .before .before .before .before .args .checksum)) (mFromNumber (c .before .before .before .before .before .before .before .before .before .before .before .before .before .before .before .before .before .before .before .before .before .before .before .args .name .now) (c .before .before .before .before .before .before .before .before .before .before .before .before .before .before .before .before .before .before .before .before .before .before .before .args .bids) (c .before .before .before .before .before .before .before .before .before .before .before .before .before .before .before .before .before .before .before .before .before .before .before .args .asks) (c .before .before .before .before .before .before .before .before .before .before .before .before .before .before .before .before .before .before .before .before .before .before .before .args .checksum) (c .before .before .before .before .before .before .before .before .before .before .before .before .before .before .before .before .before .before .before .before .before .before .before .args .number)) (after-asks (c .before .before .before .before))
 
--- src/lib.rt:72:35
 slice-aggregate-lay-number-2 : tie.Need-slice-aggregate-lay-number-2
 slice-aggregate-lay-number-2 c = search needs
 
--- src/lib.rt:72:9
 lay-number-requires-2 : tie.Need-lay-number-requires-2
 lay-number-requires-2 c κs = room-first (ascii ",\"gsn\":" ++ written (c .before .before .before .before .before .before .before .before .before .before .before .before .before .before .before .before .before .before .before .before .before .before .before .before .before .before .before .before .args .number)) (ascii "}") (after-checksum (c .before .before .before .before))
 
--- src/lib.rt:73:9
 slice-aggregate-lay-2 : tie.Need-slice-aggregate-lay-2
 slice-aggregate-lay-2 c = search needs
 
--- src/lib.rt:73:5
 lay-requires-3 : tie.Need-lay-requires-3
 lay-requires-3 c κs = after-number (c .before .before .before .before) .room
 
--- src/lib.rt:63:1
 same-length : tie.Need-same-length
 same-length c = put-length (c .before .before .before .before .before .before .before .before .before .before .before .before .before .before .before .before .before .before .before .before .before .before .before .before .before .before .before .before .before .before .before .before .before .before .before .before .pre .2) (put-last (after-number (c .before .before .before .before .before .before .before)) refl (c .before .before .lay3 .ensures))
 
--- src/lib.rt:63:1
 returns : tie.Need-returns
 returns c = put-last (after-number (c .before .before .before .before .before .before .before)) refl (c .before .before .lay3 .ensures)
 

@@ -1,38 +1,29 @@
 -- `m_write` meets its contract: the length is known first, so there is room for the whole text, or no byte is laid.
 use native.Mathlib.Omega.{arith}
+use borrow.Author.Needs.{needs}
 use Rattle.decimal.proofs.Buffer.{laid-full}
 use Rattle.writer.specs.Parts.{mText, Room}
 use Rattle.writer.proofs.Owed.{put-laid}
 use Rattle.writer.proofs.Texts.{good-writable}
-use borrow.Author.Needs.{needs}
 use Rattle.writer.proofs.m_write.Statement.{statement}
 use Rattle.writer.proofs.m_write.Tie as tie
-use Rattle.writer.proofs.m_write.Reads as reads
-use Rattle.writer.proofs.m_write.Lts as lts
-use Rattle.writer.proofs.lay_m.Reads as lay-m-reads
-use Rattle.writer.proofs.measuring.m_length.Reads as m-length-reads
 
 enough : (c : tie.Else1) → Room (c .before .before .before .before .args .buffer .now) 0 (mText (c .before .before .before .before .args .name .now) (c .before .before .before .before .args .bids) (c .before .before .before .before .args .asks) (c .before .before .before .before .args .checksum) (c .before .before .before .before .args .number))
 enough c = let e = c .before .m-length .ensures in let h = c .if1 .left in omega arith
 
--- src/lib.rt:43:23
 m-length-requires : tie.Need-m-length-requires
 m-length-requires c κs = (good-writable (c .before .before .pre .0) (c .before .before .pre .2), good-writable (c .before .before .pre .1) (c .before .before .pre .3), c .before .before .pre .4)
 
--- src/lib.rt:44:9
 returns : tie.Need-returns
 unfolding mText
 returns c = let e = c .before .m-length .ensures in let h = c .if1 .taken in laid-full (c .before .before .before .before .args .buffer .now) 0 (mText (c .before .before .before .before .args .name .now) (c .before .before .before .before .args .bids) (c .before .before .before .before .args .asks) (c .before .before .before .before .args .checksum) (c .before .before .before .before .args .number)) (omega arith)
 
--- src/lib.rt:46:17
 lay-m-requires : tie.Need-lay-m-requires
 lay-m-requires c κs = (good-writable (c .before .before .before .before .before .pre .0) (c .before .before .before .before .before .pre .2), good-writable (c .before .before .before .before .before .pre .1) (c .before .before .before .before .before .pre .3), enough (c .before))
 
--- src/lib.rt:39:1
 same-length : tie.Need-same-length
 same-length c = search needs
 
--- src/lib.rt:39:1
 returns-2 : tie.Need-returns-2
 unfolding mText
 returns-2 c = put-laid (enough (c .before .before .before .before)) (c .before .before .lay-m .ensures)

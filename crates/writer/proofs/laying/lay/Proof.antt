@@ -1,12 +1,12 @@
 -- `lay` meets its contract: a byte at a time, the rest of the text is owed.
-use Prim.Native.Nat.{ℕ, _+_, _-_, _≤_, _<_}
+use Prim.Native.Nat.{_+_, _-_, _≤_, _<_}
 use mathlib.Core.Path.{_≡_, refl, ap, _∙_}
 use mathlib.Core.List.{_∷_}
 use native.Mathlib.Numerals.{add-one}
 use native.Mathlib.Omega.{arith}
+use borrow.Author.Needs.{needs}
 use lib.ListN.{length, drop, getD, length-set, drop-of-length-le}
 use lib.Seq.{drop-cons}
-use borrow.Author.Needs.{needs}
 use Rattle.writer.proofs.Owed.{Whole, owed-all, owed-byte, put-none}
 use Rattle.writer.proofs.laying.lay.Statement.{statement}
 use Rattle.writer.proofs.laying.lay.Tie as tie

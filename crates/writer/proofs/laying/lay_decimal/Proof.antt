@@ -1,6 +1,6 @@
 -- `lay_decimal` meets its contract: the decimal's text fits, so it is laid.
-use Rattle.writer.proofs.Owed.{put-to, not-full}
 use borrow.Author.Needs.{needs}
+use Rattle.writer.proofs.Owed.{put-to, not-full}
 use Rattle.writer.proofs.laying.lay_decimal.Statement.{statement}
 use Rattle.writer.proofs.laying.lay_decimal.Tie as tie
 

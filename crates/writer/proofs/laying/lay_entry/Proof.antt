@@ -2,21 +2,15 @@
 use Prim.Native.Nat.{ℕ}
 use mathlib.Core.Path.{ap}
 use mathlib.Core.List.{List, _++_}
+use borrow.Author.Needs.{needs}
 use Rattle.decimal.specs.Ascii.{ascii}
 use Rattle.decimal.specs.Decimal.{text}
 use Rattle.side.specs.Level.{levelPrice, levelSize}
 use Rattle.writer.specs.Parts.{entry}
 use Rattle.writer.proofs.Owed.{Whole, owed-as, owed-rest, owed-rest-as, room-first, room-first-as, room-all, put-last}
 use Rattle.writer.proofs.Entries.{fromPrice, fromSize, closing, stamped-closing, plain-closing, entry-parts}
-use borrow.Author.Needs.{needs}
 use Rattle.writer.proofs.laying.lay_entry.Statement.{statement}
 use Rattle.writer.proofs.laying.lay_entry.Tie as tie
-use Rattle.writer.proofs.laying.lay_entry.Reads as reads
-use Rattle.writer.proofs.laying.lay_entry.Lts as lts
-use Rattle.side.proofs.price_of.Reads as price-of-reads
-use Rattle.side.proofs.size_of.Reads as size-of-reads
-use Rattle.writer.proofs.laying.lay.Reads as lay-reads
-use Rattle.writer.proofs.laying.lay_decimal.Reads as lay-decimal-reads
 
 -- ---- what is owed after each text
 
@@ -38,19 +32,15 @@ left-size c = owed-rest (ascii "\",\"") (fromSize (c .before .before .before .be
 left-closing : (c : tie.After-lay-decimal2) → Left (c .before .before .before .before .before .before .before .before .before .before .before .before .before .before .before .before .before .before .before) (c .lay-decimal2 .last .1 .0) (c .lay-decimal2 .result) (closing (c .before .before .before .before .before .before .before .before .before .before .before .before .before .before .before .before .before .before .before .args .stamped))
 left-closing c = owed-rest-as (text (levelSize (c .before .before .before .before .before .before .before .before .before .before .before .before .before .before .before .before .before .before .before .args .level))) (closing (c .before .before .before .before .before .before .before .before .before .before .before .before .before .before .before .before .before .before .before .args .stamped)) (left-size (c .before .before .before .before .before)) (ap text (c .before .before .size-of .ensures)) (c .lay-decimal2 .ensures)
 
--- src/laying.rt:55:21
 slice-aggregate-lay : tie.Need-slice-aggregate-lay
 slice-aggregate-lay c = search needs
 
--- src/laying.rt:55:9
 lay-requires : tie.Need-lay-requires
 lay-requires c κs = room-first (ascii "[\"") (fromPrice (c .before .before .before .args .stamped) (c .before .before .before .args .level)) (left (c .before .before .before))
 
--- src/laying.rt:56:31
 price-of-requires : tie.Need-price-of-requires
 price-of-requires c κs = search needs
 
--- src/laying.rt:56:9
 lay-decimal-requires : tie.Need-lay-decimal-requires
 lay-decimal-requires c κs =
     (
@@ -58,19 +48,15 @@ lay-decimal-requires c κs =
       room-first-as (text (levelPrice (c .before .before .before .before .before .before .before .before .args .level))) (ascii "\",\"" ++ fromSize (c .before .before .before .before .before .before .before .before .args .stamped) (c .before .before .before .before .before .before .before .before .args .level)) (left-price (c .before .before .before .before)) (ap text (c .before .price-of .ensures)),
     )
 
--- src/laying.rt:57:20
 slice-aggregate-lay-2 : tie.Need-slice-aggregate-lay-2
 slice-aggregate-lay-2 c = search needs
 
--- src/laying.rt:57:9
 lay-requires-2 : tie.Need-lay-requires-2
 lay-requires-2 c κs = room-first (ascii "\",\"") (fromSize (c .before .before .before .before .before .before .before .before .before .before .before .before .before .args .stamped) (c .before .before .before .before .before .before .before .before .before .before .before .before .before .args .level)) (left-between (c .before .before .before .before))
 
--- src/laying.rt:58:29
 size-of-requires : tie.Need-size-of-requires
 size-of-requires c κs = search needs
 
--- src/laying.rt:58:9
 lay-decimal-requires-2 : tie.Need-lay-decimal-requires-2
 lay-decimal-requires-2 c κs =
     (
@@ -78,35 +64,27 @@ lay-decimal-requires-2 c κs =
       room-first-as (text (levelSize (c .before .before .before .before .before .before .before .before .before .before .before .before .before .before .before .before .before .before .args .level))) (closing (c .before .before .before .before .before .before .before .before .before .before .before .before .before .before .before .before .before .before .args .stamped)) (left-size (c .before .before .before .before)) (ap text (c .before .size-of .ensures)),
     )
 
--- src/laying.rt:60:20
 slice-aggregate-lay-3 : tie.Need-slice-aggregate-lay-3
 slice-aggregate-lay-3 c = search needs
 
--- src/laying.rt:60:9
 lay-requires-3 : tie.Need-lay-requires-3
 lay-requires-3 c κs = room-all (left-closing (c .before .before .before .before .before)) (stamped-closing (c .before .before .if1 .taken))
 
--- src/laying.rt:60:9
 same-length : tie.Need-same-length
 same-length c = search needs
 
--- src/laying.rt:60:9
 returns : tie.Need-returns
 returns c = put-last (left-closing (c .before .before .before .before .before .before .before .before)) (stamped-closing (c .before .before .before .before .before .if1 .taken)) (c .before .before .lay3 .ensures)
 
--- src/laying.rt:62:9
 slice-aggregate-lay-4 : tie.Need-slice-aggregate-lay-4
 slice-aggregate-lay-4 c = search needs
 
--- src/laying.rt:62:5
 lay-requires-4 : tie.Need-lay-requires-4
 lay-requires-4 c κs = room-all (left-closing (c .before .before .before .before .before)) (plain-closing (c .before .before .if1 .left))
 
--- src/laying.rt:51:1
 same-length-2 : tie.Need-same-length-2
 same-length-2 c = search needs
 
--- src/laying.rt:51:1
 returns-2 : tie.Need-returns-2
 returns-2 c = put-last (left-closing (c .before .before .before .before .before .before .before .before)) (plain-closing (c .before .before .before .before .before .if1 .left)) (c .before .before .lay4 .ensures)
 

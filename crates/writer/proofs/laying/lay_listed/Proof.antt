@@ -2,15 +2,11 @@
 use Prim.Native.Nat.{ℕ}
 use mathlib.Core.Path.{refl}
 use mathlib.Core.List.{List, _++_}
+use borrow.Author.Needs.{needs}
 use Rattle.writer.specs.Parts.{entries}
 use Rattle.writer.proofs.Owed.{Whole, owed-all, owed-rest, room-first, put-last}
-use borrow.Author.Needs.{needs}
 use Rattle.writer.proofs.laying.lay_listed.Statement.{statement}
 use Rattle.writer.proofs.laying.lay_listed.Tie as tie
-use Rattle.writer.proofs.laying.lay_listed.Reads as reads
-use Rattle.writer.proofs.laying.lay_listed.Lts as lts
-use Rattle.writer.proofs.laying.lay.Reads as lay-reads
-use Rattle.writer.proofs.laying.lay_side.Reads as lay-side-reads
 
 -- ---- what is owed after each text
 
@@ -23,19 +19,15 @@ left s = owed-all (s .pre .1)
 left-entries : (c : tie.After-lay) → Left (c .before .before .before .before) (c .lay .last .1 .0) (c .lay .result) (entries (c .before .before .before .before .args .stamped) (c .before .before .before .before .args .levels))
 left-entries c = owed-rest (c .before .before .before .before .args .before .now) (entries (c .before .before .before .before .args .stamped) (c .before .before .before .before .args .levels)) (left (c .before .before .before .before)) (c .lay .ensures)
 
--- src/laying.rt:98:9
 lay-requires : tie.Need-lay-requires
 lay-requires c κs = room-first (c .before .before .before .args .before .now) (entries (c .before .before .before .args .stamped) (c .before .before .before .args .levels)) (left (c .before .before .before))
 
--- src/laying.rt:99:5
 lay-side-requires : tie.Need-lay-side-requires
 lay-side-requires c κs = (c .before .before .before .before .before .before .before .pre .0, left-entries (c .before .before .before) .room)
 
--- src/laying.rt:94:1
 same-length : tie.Need-same-length
 same-length c = search needs
 
--- src/laying.rt:94:1
 returns : tie.Need-returns
 returns c = put-last (left-entries (c .before .before .before .before .before .before)) refl (c .before .before .lay-side .ensures)
 

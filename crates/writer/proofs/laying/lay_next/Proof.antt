@@ -1,17 +1,12 @@
 -- `lay_next` meets its contract: a comma is laid, and then the entry.
-use Prim.Native.Nat.{ℕ}
 use mathlib.Core.Path.{refl}
-use mathlib.Core.List.{List, _++_}
+use mathlib.Core.List.{_++_}
+use borrow.Author.Needs.{needs}
 use Rattle.decimal.specs.Ascii.{ascii}
 use Rattle.writer.specs.Parts.{entry, nextEntry}
 use Rattle.writer.proofs.Owed.{Whole, owed-all, owed-rest, room-first, put-last}
-use borrow.Author.Needs.{needs}
 use Rattle.writer.proofs.laying.lay_next.Statement.{statement}
 use Rattle.writer.proofs.laying.lay_next.Tie as tie
-use Rattle.writer.proofs.laying.lay_next.Reads as reads
-use Rattle.writer.proofs.laying.lay_next.Lts as lts
-use Rattle.writer.proofs.laying.lay.Reads as lay-reads
-use Rattle.writer.proofs.laying.lay_entry.Reads as lay-entry-reads
 
 -- ---- what is owed after the comma
 
@@ -24,23 +19,18 @@ left-entry : (c : tie.After-lay) →
     Whole (c .before .before .before .before .args .buffer .now) (c .before .before .before .before .args .at) (nextEntry (c .before .before .before .before .args .stamped) (c .before .before .before .before .args .level)) (c .lay .last .1 .0) (c .lay .result) (entry (c .before .before .before .before .args .stamped) (c .before .before .before .before .args .level))
 left-entry c = owed-rest (ascii ",") (entry (c .before .before .before .before .args .stamped) (c .before .before .before .before .args .level)) (left (c .before .before .before .before)) (c .lay .ensures)
 
--- src/laying.rt:71:26
 slice-aggregate-lay : tie.Need-slice-aggregate-lay
 slice-aggregate-lay c = search needs
 
--- src/laying.rt:71:9
 lay-requires : tie.Need-lay-requires
 lay-requires c κs = room-first (ascii ",") (entry (c .before .before .before .args .stamped) (c .before .before .before .args .level)) (left (c .before .before .before))
 
--- src/laying.rt:72:5
 lay-entry-requires : tie.Need-lay-entry-requires
 lay-entry-requires c κs = (c .before .before .before .before .before .before .before .pre .0, left-entry (c .before .before .before) .room)
 
--- src/laying.rt:67:1
 same-length : tie.Need-same-length
 same-length c = search needs
 
--- src/laying.rt:67:1
 returns : tie.Need-returns
 returns c = put-last (left-entry (c .before .before .before .before .before .before)) refl (c .before .before .lay-entry .ensures)
 

@@ -2,15 +2,11 @@
 use Prim.Native.Nat.{ℕ}
 use mathlib.Core.Path.{refl}
 use mathlib.Core.List.{List, _++_}
+use borrow.Author.Needs.{needs}
 use Rattle.decimal.specs.Digits.{written}
 use Rattle.writer.proofs.Owed.{Whole, owed-all, owed-rest, room-first, put-last}
-use borrow.Author.Needs.{needs}
 use Rattle.writer.proofs.laying.lay_number.Statement.{statement}
 use Rattle.writer.proofs.laying.lay_number.Tie as tie
-use Rattle.writer.proofs.laying.lay_number.Reads as reads
-use Rattle.writer.proofs.laying.lay_number.Lts as lts
-use Rattle.writer.proofs.laying.lay.Reads as lay-reads
-use Rattle.writer.proofs.laying.lay_whole.Reads as lay-whole-reads
 
 -- ---- what is owed after each text
 
@@ -23,19 +19,15 @@ left s = owed-all (s .pre)
 left-digits : (c : tie.After-lay) → Left (c .before .before .before .before) (c .lay .last .1 .0) (c .lay .result) (written (c .before .before .before .before .args .n))
 left-digits c = owed-rest (c .before .before .before .before .args .before .now) (written (c .before .before .before .before .args .n)) (left (c .before .before .before .before)) (c .lay .ensures)
 
--- src/laying.rt:107:9
 lay-requires : tie.Need-lay-requires
 lay-requires c κs = room-first (c .before .before .before .args .before .now) (written (c .before .before .before .args .n)) (left (c .before .before .before))
 
--- src/laying.rt:108:5
 lay-whole-requires : tie.Need-lay-whole-requires
 lay-whole-requires c κs = left-digits (c .before .before .before) .room
 
--- src/laying.rt:103:1
 same-length : tie.Need-same-length
 same-length c = search needs
 
--- src/laying.rt:103:1
 returns : tie.Need-returns
 returns c = put-last (left-digits (c .before .before .before .before .before .before)) refl (c .before .before .lay-whole .ensures)
 

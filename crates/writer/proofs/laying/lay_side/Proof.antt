@@ -1,9 +1,9 @@
-use borrow.Author.Needs.{needs}
 -- `lay_side` meets its contract: the first entry is laid, and then, at each turn, a comma and the next one.
+use Prim.Native.Nat.{_+_, _-_, _≤_, _<_}
 use mathlib.Core.List.{_++_}
-use Prim.Native.Nat.{ℕ, _+_, _-_, _≤_, _<_}
-use mathlib.Core.Path.{_≡_, refl, sym, ap, _∙_}
+use mathlib.Core.Path.{_≡_, refl}
 use native.Mathlib.Omega.{arith}
+use borrow.Author.Needs.{needs}
 use lib.ListN.{length, drop, getD}
 use Rattle.side.specs.Kept.{held}
 use Rattle.side.proofs.Entries.{none}
@@ -12,10 +12,6 @@ use Rattle.writer.proofs.Owed.{Whole, owed-as, owed-all, owed-rest, roo
 use Rattle.writer.proofs.Entries.{led, led-next, led-end, writable-at, entries-some, entries-none}
 use Rattle.writer.proofs.laying.lay_side.Statement.{statement}
 use Rattle.writer.proofs.laying.lay_side.Tie as tie
-use Rattle.writer.proofs.laying.lay_side.Reads as reads
-use Rattle.writer.proofs.laying.lay_side.Lts as lts
-use Rattle.writer.proofs.laying.lay_entry.Reads as lay-entry-reads
-use Rattle.writer.proofs.laying.lay_next.Reads as lay-next-reads
 
 abbrev Inv-loop : tie.InvT-loop
 Inv-loop stamped buffer₀ at levels count end₀ i₀ buffer end i =
@@ -41,43 +37,33 @@ left-turn : (c : tie.In-loop Inv-loop μ-loop) →
     Whole (c .before .before .before .before .lay-entry .last .1 .1 .0) (c .before .before .before .before .lay-entry .result) (led (c .before .before .before .before .before .before .before .before .before .args .stamped) (drop 1 (held (c .before .before .before .before .before .before .before .before .before .args .t2)))) (c .before .loop .buffer) (c .before .loop .end) ((nextEntry (c .before .before .before .before .before .before .before .before .before .args .stamped) (getD (c .before .before .before .before .before .before .before .before .before .args .t2 .items) (c .before .loop .i) none)) ++ (led (c .before .before .before .before .before .before .before .before .before .args .stamped) (drop (c .before .loop .i + 1) (held (c .before .before .before .before .before .before .before .before .before .args .t2)))))
 left-turn c = rw (led-next (c .before .before .before .before .before .before .before .before .before .args .stamped) (c .before .before .before .before .before .before .before .before .before .args .t2) (c .before .before .before .before .before .before .before .before .before .pre .0) (c .before .loop .i) (c .loop-test .taken)) at (c .before .loop .inv .0)
 
--- src/laying.rt:82:9
 returns : tie.Need-returns Inv-loop μ-loop
 returns c = put-none (owed-as (entries-none (c .before .before .args .stamped) (c .before .before .args .t2) (c .before .before .pre .0) (c .if1 .taken)) (c .before .before .pre .1))
 
--- src/laying.rt:84:38
 element-copy-out-lay-entry : tie.Need-element-copy-out-lay-entry Inv-loop μ-loop
 element-copy-out-lay-entry c = search needs
 
--- src/laying.rt:84:9
 lay-entry-requires : tie.Need-lay-entry-requires Inv-loop μ-loop
 lay-entry-requires c κs = (writable-at (c .before .before .before .before .args .stamped) (c .before .before .before .before .args .t2) (c .before .before .before .before .pre .0) 0 (some (c .before .before)), room-first (entry (c .before .before .before .before .args .stamped) (getD (c .before .before .before .before .args .t2 .items) 0 none)) (led (c .before .before .before .before .args .stamped) (drop 1 (held (c .before .before .before .before .args .t2)))) (left (c .before .before)))
 
--- src/laying.rt:86:5
 loop-holds : tie.Need-loop-holds Inv-loop μ-loop
 loop-holds c = (owed-all (left-rest (c .before .before) .room), some (c .before .before .before .before .before), refl)
 
--- src/laying.rt:87:33
 mul-lay-next : tie.Need-mul-lay-next Inv-loop μ-loop
 mul-lay-next c = let f = c .before .before .before .before .before .before .before .before .before .pre .0 .few in omega arith
 
--- src/laying.rt:87:33
 element-copy-out-lay-next : tie.Need-element-copy-out-lay-next Inv-loop μ-loop
 element-copy-out-lay-next c = let f = c .before .before .before .before .before .before .before .before .before .pre .0 .few in omega arith
 
--- src/laying.rt:87:9
 lay-next-requires : tie.Need-lay-next-requires Inv-loop μ-loop
 lay-next-requires c κs = (writable-at (c .before .before .before .before .before .before .before .before .before .before .before .args .stamped) (c .before .before .before .before .before .before .before .before .before .before .before .args .t2) (c .before .before .before .before .before .before .before .before .before .before .before .pre .0) (c .before .before .before .loop .i) (c .before .before .loop-test .taken), room-first (nextEntry (c .before .before .before .before .before .before .before .before .before .before .before .args .stamped) (getD (c .before .before .before .before .before .before .before .before .before .before .before .args .t2 .items) (c .before .before .before .loop .i) none)) (led (c .before .before .before .before .before .before .before .before .before .before .before .args .stamped) (drop (c .before .before .before .loop .i + 1) (held (c .before .before .before .before .before .before .before .before .before .before .before .args .t2)))) (left-turn (c .before .before)))
 
--- src/laying.rt:88:9
 add-i : tie.Need-add-i Inv-loop μ-loop
 add-i c = let f = c .before .before .before .before .before .before .before .before .before .before .before .before .before .before .pre .0 .few in omega arith
 
--- src/laying.rt:86:5
 loop-less : tie.Need-loop-less Inv-loop μ-loop
 loop-less c = search needs
 
--- src/laying.rt:86:5
 loop-again : tie.Need-loop-again Inv-loop μ-loop
 loop-again c =
     (
@@ -86,11 +72,9 @@ loop-again c =
       search needs,
     )
 
--- src/laying.rt:76:1
 same-length : tie.Need-same-length Inv-loop μ-loop
 same-length c = search needs
 
--- src/laying.rt:76:1
 returns-2 : tie.Need-returns-2 Inv-loop μ-loop
 returns-2 c = put-last (left-rest (c .before .before .before .before)) refl (put-none (rw (led-end (c .before .before .before .before .before .before .before .before .before .args .stamped) (c .before .before .before .before .before .before .before .before .before .args .t2) (c .before .before .before .before .before .before .before .before .before .pre .0) (c .before .loop .i) (c .loop-test .left)) at (c .before .loop .inv .0)))
 

@@ -1,6 +1,6 @@
 -- `lay_whole` meets its contract: the digits fit, so they are laid.
-use Rattle.writer.proofs.Owed.{put-to, not-full}
 use borrow.Author.Needs.{needs}
+use Rattle.writer.proofs.Owed.{put-to, not-full}
 use Rattle.writer.proofs.laying.lay_whole.Statement.{statement}
 use Rattle.writer.proofs.laying.lay_whole.Tie as tie
 

@@ -1,20 +1,15 @@
 -- `entry_length` meets its contract: the lengths of an entry's texts, summed.
-use Prim.Native.Nat.{ℕ, _+_, _≤_}
+use Prim.Native.Nat.{_+_, _≤_}
 use mathlib.Core.Path.{_≡_, ap, _∙_}
 use native.Mathlib.Omega.{arith}
+use borrow.Author.Needs.{needs}
 use lib.ListN.{length}
 use Rattle.decimal.specs.Decimal.{Number, text}
 use Rattle.side.specs.Level.{levelPrice, levelSize}
 use Rattle.writer.specs.Parts.{entry, maxEntry}
 use Rattle.writer.proofs.Entries.{closing, stamped-closing, plain-closing, length-entry, entry-short}
-use borrow.Author.Needs.{needs}
 use Rattle.writer.proofs.measuring.entry_length.Statement.{statement}
 use Rattle.writer.proofs.measuring.entry_length.Tie as tie
-use Rattle.writer.proofs.measuring.entry_length.Reads as reads
-use Rattle.writer.proofs.measuring.entry_length.Lts as lts
-use Rattle.decimal.proofs.text_length.Reads as text-length-reads
-use Rattle.side.proofs.price_of.Reads as price-of-reads
-use Rattle.side.proofs.size_of.Reads as size-of-reads
 
 -- ---- the two texts and what stands around them
 
@@ -27,43 +22,33 @@ measured c =
     let e = length-entry (c .before .before .before .before .args .stamped) (c .before .before .before .before .args .level) in
     (omega arith, entry-short (c .before .before .before .before .args .stamped) (c .before .before .before .before .args .level) (c .before .before .before .before .pre))
 
--- src/measuring.rt:19:38
 price-of-requires : tie.Need-price-of-requires
 price-of-requires c κs = search needs
 
--- src/measuring.rt:19:9
 text-length-requires : tie.Need-text-length-requires
 text-length-requires c κs = rw (c .price-of .ensures) (c .before .pre .price)
 
--- src/measuring.rt:20:37
 size-of-requires : tie.Need-size-of-requires
 size-of-requires c κs = search needs
 
--- src/measuring.rt:20:9
 text-length-requires-2 : tie.Need-text-length-requires-2
 text-length-requires-2 c κs = rw (c .size-of .ensures) (c .before .before .before .pre .size)
 
--- src/measuring.rt:22:16
 add-result : tie.Need-add-result
 add-result c = let m = measured (c .before) in let k : length (closing (c .before .before .before .before .before .args .stamped)) ≡ 13 = ap length (stamped-closing (c .if1 .taken)) in omega arith
 
--- src/measuring.rt:22:16
 add-result-2 : tie.Need-add-result-2
 add-result-2 c = let m = measured (c .before) in let k : length (closing (c .before .before .before .before .before .args .stamped)) ≡ 13 = ap length (stamped-closing (c .if1 .taken)) in omega arith
 
--- src/measuring.rt:22:9
 returns : tie.Need-returns
 returns c = let m = measured (c .before) in let k : length (closing (c .before .before .before .before .before .args .stamped)) ≡ 13 = ap length (stamped-closing (c .if1 .taken)) in (omega arith, omega arith)
 
--- src/measuring.rt:24:5
 add-result-3 : tie.Need-add-result-3
 add-result-3 c = let m = measured (c .before) in let k : length (closing (c .before .before .before .before .before .args .stamped)) ≡ 2 = ap length (plain-closing (c .if1 .left)) in omega arith
 
--- src/measuring.rt:24:5
 add-result-4 : tie.Need-add-result-4
 add-result-4 c = let m = measured (c .before) in let k : length (closing (c .before .before .before .before .before .args .stamped)) ≡ 2 = ap length (plain-closing (c .if1 .left)) in omega arith
 
--- src/measuring.rt:15:1
 returns-2 : tie.Need-returns-2
 returns-2 c = let m = measured (c .before) in let k : length (closing (c .before .before .before .before .before .args .stamped)) ≡ 2 = ap length (plain-closing (c .if1 .left)) in (omega arith, omega arith)
 

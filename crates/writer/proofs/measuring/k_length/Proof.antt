@@ -1,35 +1,25 @@
 -- `k_length` meets its contract: the lengths of its texts, summed.
 use native.Mathlib.Omega.{arith}
-use Rattle.writer.proofs.Texts.{length-k, whole-short}
 use borrow.Author.Needs.{needs}
+use Rattle.writer.proofs.Texts.{length-k, whole-short}
 use Rattle.writer.proofs.measuring.k_length.Statement.{statement}
 use Rattle.writer.proofs.measuring.k_length.Tie as tie
-use Rattle.writer.proofs.measuring.k_length.Reads as reads
-use Rattle.writer.proofs.measuring.k_length.Lts as lts
-use Rattle.decimal.proofs.whole_length.Reads as whole-length-reads
-use Rattle.writer.proofs.measuring.side_length.Reads as side-length-reads
 
--- src/measuring.rt:24:17
 side-length-requires : tie.Need-side-length-requires
 side-length-requires c κs = search needs
 
--- src/measuring.rt:24:43
 side-length-requires-2 : tie.Need-side-length-requires-2
 side-length-requires-2 c κs = search needs
 
--- src/measuring.rt:24:17
 add-sides : tie.Need-add-sides
 add-sides c = search needs
 
--- src/measuring.rt:25:5
 add-result : tie.Need-add-result
 add-result c = search needs
 
--- src/measuring.rt:25:23
 whole-length-requires : tie.Need-whole-length-requires
 whole-length-requires c κs = search needs
 
--- src/measuring.rt:25:5
 add-result-2 : tie.Need-add-result-2
 add-result-2 c =
     let k = length-k (c .before .before .before .before .args .depth) (c .before .before .before .before .args .name .now) (c .before .before .before .before .args .bids) (c .before .before .before .before .args .asks) in
@@ -39,7 +29,6 @@ add-result-2 c =
     let d = c .before .side-length2 .ensures in
     omega arith
 
--- src/measuring.rt:25:5
 add-result-3 : tie.Need-add-result-3
 add-result-3 c =
     let k = length-k (c .before .before .before .before .args .depth) (c .before .before .before .before .args .name .now) (c .before .before .before .before .args .bids) (c .before .before .before .before .args .asks) in
@@ -49,7 +38,6 @@ add-result-3 c =
     let d = c .before .side-length2 .ensures in
     omega arith
 
--- src/measuring.rt:20:1
 returns : tie.Need-returns
 returns c =
     let k = length-k (c .before .before .before .before .args .depth) (c .before .before .before .before .args .name .now) (c .before .before .before .before .args .bids) (c .before .before .before .before .args .asks) in

@@ -1,35 +1,25 @@
 -- `m_length` meets its contract: the lengths of its texts, summed.
 use native.Mathlib.Omega.{arith}
-use Rattle.writer.proofs.Texts.{length-m, whole-short, checksum-short}
 use borrow.Author.Needs.{needs}
+use Rattle.writer.proofs.Texts.{length-m, whole-short, checksum-short}
 use Rattle.writer.proofs.measuring.m_length.Statement.{statement}
 use Rattle.writer.proofs.measuring.m_length.Tie as tie
-use Rattle.writer.proofs.measuring.m_length.Reads as reads
-use Rattle.writer.proofs.measuring.m_length.Lts as lts
-use Rattle.decimal.proofs.whole_length.Reads as whole-length-reads
-use Rattle.writer.proofs.measuring.side_length.Reads as side-length-reads
 
--- src/measuring.rt:33:17
 side-length-requires : tie.Need-side-length-requires
 side-length-requires c κs = search needs
 
--- src/measuring.rt:33:44
 side-length-requires-2 : tie.Need-side-length-requires-2
 side-length-requires-2 c κs = search needs
 
--- src/measuring.rt:33:17
 add-sides : tie.Need-add-sides
 add-sides c = search needs
 
--- src/measuring.rt:34:19
 whole-length-requires : tie.Need-whole-length-requires
 whole-length-requires c κs = search needs
 
--- src/measuring.rt:34:60
 whole-length-requires-2 : tie.Need-whole-length-requires-2
 whole-length-requires-2 c κs = search needs
 
--- src/measuring.rt:34:19
 add-numbers : tie.Need-add-numbers
 add-numbers c =
     let k = length-m (c .before .before .before .before .before .args .name .now) (c .before .before .before .before .before .args .bids) (c .before .before .before .before .before .args .asks) (c .before .before .before .before .before .args .checksum) (c .before .before .before .before .before .args .number) in
@@ -41,11 +31,9 @@ add-numbers c =
     let a = c .before .before .side-length2 .ensures in
     omega arith
 
--- src/measuring.rt:35:5
 add-result : tie.Need-add-result
 add-result c = search needs
 
--- src/measuring.rt:35:5
 add-result-2 : tie.Need-add-result-2
 add-result-2 c =
     let k = length-m (c .before .before .before .before .before .args .name .now) (c .before .before .before .before .before .args .bids) (c .before .before .before .before .before .args .asks) (c .before .before .before .before .before .args .checksum) (c .before .before .before .before .before .args .number) in
@@ -57,7 +45,6 @@ add-result-2 c =
     let a = c .before .before .side-length2 .ensures in
     omega arith
 
--- src/measuring.rt:35:5
 add-result-3 : tie.Need-add-result-3
 add-result-3 c =
     let k = length-m (c .before .before .before .before .before .args .name .now) (c .before .before .before .before .before .args .bids) (c .before .before .before .before .before .args .asks) (c .before .before .before .before .before .args .checksum) (c .before .before .before .before .before .args .number) in
@@ -69,7 +56,6 @@ add-result-3 c =
     let a = c .before .before .side-length2 .ensures in
     omega arith
 
--- src/measuring.rt:29:1
 returns : tie.Need-returns
 returns c =
     let k = length-m (c .before .before .before .before .before .args .name .now) (c .before .before .before .before .before .args .bids) (c .before .before .before .before .before .args .asks) (c .before .before .before .before .before .args .checksum) (c .before .before .before .before .before .args .number) in

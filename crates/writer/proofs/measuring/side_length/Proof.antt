@@ -1,19 +1,14 @@
-use borrow.Author.Needs.{needs}
-use native.Mathlib.Nat.{zero-add}
 -- `side_length` meets its contract: a comma and an entry at each turn, and the first has no comma.
-use Prim.Native.Nat.{ℕ, _+_, _-_, _*_, _≤_, _<_}
-use mathlib.Core.Path.{_≡_, refl, sym, ap, _∙_}
+use Prim.Native.Nat.{_+_, _-_, _*_, _≤_}
+use mathlib.Core.Path.{_≡_, ap}
+use native.Mathlib.Nat.{zero-add}
 use native.Mathlib.Omega.{arith}
-use lib.ListN.{length, drop, getD, length-append}
+use borrow.Author.Needs.{needs}
+use lib.ListN.{length, drop}
 use Rattle.side.specs.Kept.{held}
-use Rattle.side.proofs.Entries.{none}
-use Rattle.writer.specs.Parts.{entry, nextEntry}
 use Rattle.writer.proofs.Entries.{led, length-led, led-end, writable-at, length-entries}
 use Rattle.writer.proofs.measuring.side_length.Statement.{statement}
 use Rattle.writer.proofs.measuring.side_length.Tie as tie
-use Rattle.writer.proofs.measuring.side_length.Reads as reads
-use Rattle.writer.proofs.measuring.side_length.Lts as lts
-use Rattle.writer.proofs.measuring.entry_length.Reads as entry-length-reads
 
 abbrev Inv-loop : tie.InvT-loop
 Inv-loop stamped levels count n₀ i₀ n i =
@@ -22,51 +17,39 @@ Inv-loop stamped levels count n₀ i₀ n i =
 abbrev μ-loop : tie.MeasureT-loop
 μ-loop stamped levels count n₀ i₀ n i = count - i
 
--- src/measuring.rt:35:5
 loop-holds : tie.Need-loop-holds Inv-loop μ-loop
 loop-holds c = (zero-add (length (led (c .args .stamped) (held (c .args .t2)))), search needs, search needs)
 
--- src/measuring.rt:36:40
 mul-entry-length : tie.Need-mul-entry-length Inv-loop μ-loop
 mul-entry-length c = let f = c .before .before .pre .few in omega arith
 
--- src/measuring.rt:36:40
 element-copy-out-entry-length : tie.Need-element-copy-out-entry-length Inv-loop μ-loop
 element-copy-out-entry-length c = let f = c .before .before .pre .few in omega arith
 
--- src/measuring.rt:36:18
 entry-length-requires : tie.Need-entry-length-requires Inv-loop μ-loop
 entry-length-requires c κs = writable-at (c .before .before .before .args .stamped) (c .before .before .before .args .t2) (c .before .before .before .pre) (c .before .before .loop .i) (c .before .loop-test .taken)
 
--- src/measuring.rt:36:14
 add-n : tie.Need-add-n Inv-loop μ-loop
 add-n c = search needs
 
--- src/measuring.rt:36:9
 add-n-2 : tie.Need-add-n-2 Inv-loop μ-loop
 add-n-2 c = let l = length-led (c .before .before .before .before .args .stamped) (c .before .before .before .before .args .t2) (c .before .before .before .before .pre) (c .before .before .before .loop .i) (c .before .before .loop-test .taken) in let e = c .entry-length .ensures in let f = c .before .before .before .before .pre .few in let v = c .before .before .before .loop .inv in omega arith
 
--- src/measuring.rt:37:9
 add-i : tie.Need-add-i Inv-loop μ-loop
 add-i c = let l = length-led (c .before .before .before .before .args .stamped) (c .before .before .before .before .args .t2) (c .before .before .before .before .pre) (c .before .before .before .loop .i) (c .before .before .loop-test .taken) in let e = c .entry-length .ensures in let f = c .before .before .before .before .pre .few in let v = c .before .before .before .loop .inv in omega arith
 
--- src/measuring.rt:35:5
 loop-less : tie.Need-loop-less Inv-loop μ-loop
 loop-less c = omega arith
 
--- src/measuring.rt:35:5
 loop-again : tie.Need-loop-again Inv-loop μ-loop
 loop-again c = let l = length-led (c .before .before .before .before .args .stamped) (c .before .before .before .before .args .t2) (c .before .before .before .before .pre) (c .before .before .before .loop .i) (c .before .before .loop-test .taken) in let e = c .entry-length .ensures in let f = c .before .before .before .before .pre .few in let v = c .before .before .before .loop .inv in (omega arith, omega arith, omega arith)
 
--- src/measuring.rt:40:9
 returns : tie.Need-returns Inv-loop μ-loop
 returns c = let e = led-end (c .before .before .before .args .stamped) (c .before .before .before .args .t2) (c .before .before .before .pre) (c .before .before .loop .i) (c .before .loop-test .left) in let z = ap length e in let l = length-entries (c .before .before .before .args .stamped) (c .before .before .before .args .t2) (c .before .before .before .pre) in let v = c .before .before .loop .inv in let f = c .before .before .before .pre .few in (omega arith, omega arith)
 
--- src/measuring.rt:42:5
 sub-result : tie.Need-sub-result Inv-loop μ-loop
 sub-result c = search needs
 
--- src/measuring.rt:28:1
 returns-2 : tie.Need-returns-2 Inv-loop μ-loop
 returns-2 c = let e = led-end (c .before .before .before .args .stamped) (c .before .before .before .args .t2) (c .before .before .before .pre) (c .before .before .loop .i) (c .before .loop-test .left) in let z = ap length e in let l = length-entries (c .before .before .before .args .stamped) (c .before .before .before .args .t2) (c .before .before .before .pre) in let v = c .before .before .loop .inv in let f = c .before .before .before .pre .few in (omega arith, omega arith)
 

@@ -69,16 +69,16 @@ owed-as {b} {at} {text} e room = subst (Whole b at text b at) e (record { bytes 
 pub owed-all : {b : List ℕ} {at : ℕ} {text : List ℕ} → Room b at text → Whole b at text b at text
 owed-all room = owed-as refl room
 
-module _ {final : List ℕ} {past : ℕ} {b : List ℕ} {at : ℕ} (t u : List ℕ) (owed : Owed final past b at (t ++ u)) where
-  pub room-first : at + length t ≤ length b
-  room-first = let h = owed .room in let l = length-append t u in omega arith
+module _ {final : List ℕ} {past : ℕ} {b : List ℕ} {at : ℕ} where
+  pub room-first : (t u : List ℕ) → Owed final past b at (t ++ u) → at + length t ≤ length b
+  room-first t u owed = let h = owed .room in let l = length-append t u in omega arith
 
-  pub owed-rest : {b' : List ℕ} {e : ℕ} → Put b at t b' e → Owed final past b' e u
-  owed-rest {b'} {e} put =
+  pub owed-rest : {t u b' : List ℕ} {e : ℕ} → Owed final past b at (t ++ u) → Put b at t b' e → Owed final past b' e u
+  owed-rest {t} {u} {b'} {e} owed put =
       let h = owed .room in
       let l = length-append t u in
       let i : at ≤ length b = omega arith in
-      let q : length b' ≡ length b = put-length room-first put in
+      let q : length b' ≡ length b = put-length (room-first t u owed) put in
       let z = put .end in
       let y = owed .end in
       record {
@@ -88,11 +88,11 @@ module _ {final : List ℕ} {past : ℕ} {b : List ℕ} {at : ℕ} (t u : List �
       }
 
   -- the first text as its callee names it
-  pub room-first-as : {t' : List ℕ} → t' ≡ t → at + length t' ≤ length b
-  room-first-as e = rw e room-first
+  pub room-first-as : {t' : List ℕ} (t u : List ℕ) → t' ≡ t → Owed final past b at (t ++ u) → at + length t' ≤ length b
+  room-first-as t u is owed = rw is (room-first t u owed)
 
-  pub owed-rest-as : {t' b' : List ℕ} {e : ℕ} → t' ≡ t → Put b at t' b' e → Owed final past b' e u
-  owed-rest-as {t'} {b'} {e} is put = owed-rest (subst (λ (l : List ℕ). Put b at l b' e) is put)
+  pub owed-rest-as : {t t' u b' : List ℕ} {e : ℕ} → t' ≡ t → Owed final past b at (t ++ u) → Put b at t' b' e → Owed final past b' e u
+  owed-rest-as {b' = b'} {e = e} is owed put = owed-rest owed (subst (λ (l : List ℕ). Put b at l b' e) is put)
 
 -- the last text that was owed
 pub put-last : {b₀ : List ℕ} {at₀ : ℕ} {text₀ b : List ℕ} {at : ℕ} {text t b' : List ℕ} {e : ℕ} → Whole b₀ at₀ text₀ b at text → text ≡ t → Put b at t b' e → Put b₀ at₀ text₀ b' e
@@ -111,7 +111,7 @@ pub owed-byte : {final : List ℕ} {past : ℕ} {b : List ℕ} {at x : ℕ} {u :
 unfolding overlaid
 owed-byte {b = b} {at = at} {x = x} {u = u} owed =
     let h = owed .room in
-    owed-rest (x ∷ []) u owed (record { bytes = set-split b at x (omega arith) ∙ ap (λ (n : ℕ). take at b ++ (x ∷ drop n b)) (sym (add-one at)); end = refl })
+    owed-rest {t = x ∷ []} owed (record { bytes = set-split b at x (omega arith) ∙ ap (λ (n : ℕ). take at b ++ (x ∷ drop n b)) (sym (add-one at)); end = refl })
 
 -- ---- a text of another crate's that is laid where there is room
 

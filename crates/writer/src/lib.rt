@@ -3,7 +3,7 @@
 // The text is laid at the start of a lent buffer, whole or not at all: its length is known before the first byte is
 // laid. Bytes past it stay.
 //
-//     writer::k_write(10, b"XBT/USD", bids, asks, buffer)   // `To(77)` of `[0,{"as":[["0.05005",..`, or `Full`
+//     writer::k_write(10, b"XBT/USD", bids, asks, buffer)   // `To(76)` of `[0,{"as":[["0.05005",..`, or `Full`
 mod laying;
 mod measuring;
 

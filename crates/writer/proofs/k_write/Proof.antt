@@ -1,25 +1,33 @@
 -- `k_write` meets its contract: the length is known first, so there is room for the whole text, or no byte is laid.
+use Prim.Native.Nat.{ℕ}
+use mathlib.Core.List.{List}
 use native.Mathlib.Omega.{arith}
 use borrow.Author.Needs.{needs}
 use Rattle.decimal.proofs.Buffer.{laid-full}
-use Rattle.writer.specs.Parts.{kText, Room}
+use Rattle.writer.specs.Parts.{kText, WritableSide, Room}
 use Rattle.writer.proofs.Owed.{put-laid}
 use Rattle.writer.proofs.Texts.{good-writable}
 use Rattle.writer.proofs.k_write.Statement.{statement}
 use Rattle.writer.proofs.k_write.Tie as tie
 
-enough : (c : tie.Else1) → Room (c .before .before .before .before .args .buffer .now) 0 (kText (c .before .before .before .before .args .depth) (c .before .before .before .before .args .name .now) (c .before .before .before .before .args .bids) (c .before .before .before .before .args .asks))
+abbrev whole : tie.Start → List ℕ
+whole s = kText (s .args .depth) (s .args .name .now) (s .args .bids) (s .args .asks)
+
+sides : (s : tie.Start) → WritableSide (s .args .bids) × WritableSide (s .args .asks)
+sides s = (good-writable (s .pre .0) (s .pre .2), good-writable (s .pre .1) (s .pre .3))
+
+enough : (c : tie.Else1) → Room (c .before .before .before .before .args .buffer .now) 0 (whole (c .before .before .before .before))
 enough c = let e = c .before .k-length .ensures in let h = c .if1 .left in omega arith
 
 k-length-requires : tie.Need-k-length-requires
-k-length-requires c κs = (good-writable (c .before .before .pre .0) (c .before .before .pre .2), good-writable (c .before .before .pre .1) (c .before .before .pre .3), c .before .before .pre .4)
+k-length-requires c κs = (sides (c .before .before) .0, sides (c .before .before) .1, c .before .before .pre .4)
 
 returns : tie.Need-returns
 unfolding kText
-returns c = let e = c .before .k-length .ensures in let h = c .if1 .taken in laid-full (c .before .before .before .before .args .buffer .now) 0 (kText (c .before .before .before .before .args .depth) (c .before .before .before .before .args .name .now) (c .before .before .before .before .args .bids) (c .before .before .before .before .args .asks)) (omega arith)
+returns c = let e = c .before .k-length .ensures in let h = c .if1 .taken in laid-full (c .before .before .before .before .args .buffer .now) 0 (whole (c .before .before .before .before)) (omega arith)
 
 lay-k-requires : tie.Need-lay-k-requires
-lay-k-requires c κs = (good-writable (c .before .before .before .before .before .pre .0) (c .before .before .before .before .before .pre .2), good-writable (c .before .before .before .before .before .pre .1) (c .before .before .before .before .before .pre .3), enough (c .before))
+lay-k-requires c κs = (sides (c .before .before .before .before .before) .0, sides (c .before .before .before .before .before) .1, enough (c .before))
 
 same-length : tie.Need-same-length
 same-length c = search needs

@@ -1,9 +1,9 @@
 -- `lay_k` meets its contract: its texts are laid one after another.
 use Prim.Native.Nat.{ℕ}
 use mathlib.Core.Path.{refl}
-use mathlib.Core.List.{List, _++_}
-use mathlib.Core.Bool.{true}
 use borrow.Author.Needs.{needs}
+use mathlib.Core.Bool.{true}
+use mathlib.Core.List.{List, _++_}
 use Rattle.decimal.specs.Ascii.{ascii}
 use Rattle.decimal.specs.Digits.{written}
 use Rattle.writer.specs.Parts.{entries, kText}
@@ -12,55 +12,81 @@ use Rattle.writer.proofs.Texts.{kFromBids, kFromDepth, kFromNames, k-pa
 use Rattle.writer.proofs.lay_k.Statement.{statement}
 use Rattle.writer.proofs.lay_k.Tie as tie
 
--- ---- what is owed after each text
+-- ---- the texts, and what is owed after each
+
+abbrev whole : tie.Start → List ℕ
+whole s = kText (s .args .depth) (s .args .name .now) (s .args .bids) (s .args .asks)
+
+abbrev asksText : tie.Start → List ℕ
+asksText s = ascii "[0,{\"as\":[" ++ entries true (s .args .asks)
+
+abbrev bidsText : tie.Start → List ℕ
+bidsText s = ascii "],\"bs\":[" ++ entries true (s .args .bids)
+
+abbrev depthText : tie.Start → List ℕ
+depthText s = ascii "]},\"book-" ++ written (s .args .depth)
+
+abbrev fromBids : tie.Start → List ℕ
+fromBids s = kFromBids (s .args .depth) (s .args .name .now) (s .args .bids) (s .args .asks)
+
+abbrev fromDepth : tie.Start → List ℕ
+fromDepth s = kFromDepth (s .args .depth) (s .args .name .now) (s .args .bids) (s .args .asks)
+
+abbrev fromNames : tie.Start → List ℕ
+fromNames s = kFromNames (s .args .depth) (s .args .name .now) (s .args .bids) (s .args .asks)
+
+abbrev fromName : tie.Start → List ℕ
+fromName s = s .args .name .now ++ ascii "\"]"
 
 abbrev Left : tie.Start → List ℕ → ℕ → List ℕ → Type 0
-Left s = Whole (s .args .buffer .now) 0 (kText (s .args .depth) (s .args .name .now) (s .args .bids) (s .args .asks))
+Left s = Whole (s .args .buffer .now) 0 (whole s)
 
-left : (s : tie.Start) → Left s (s .args .buffer .now) 0 ((ascii "[0,{\"as\":[" ++ entries true (s .args .asks)) ++ (kFromBids (s .args .depth) (s .args .name .now) (s .args .bids) (s .args .asks)))
+left : (s : tie.Start) → Left s (s .args .buffer .now) 0 (asksText s ++ fromBids s)
 left s = owed-as (k-parts (s .args .depth) (s .args .name .now) (s .args .bids) (s .args .asks)) (s .pre .2)
 
-after-asks : (c : tie.After-lay-listed) → Left (c .before .before .before .before .before) (c .lay-listed .last .1 .1 .1 .0) (c .lay-listed .result) (kFromBids (c .before .before .before .before .before .args .depth) (c .before .before .before .before .before .args .name .now) (c .before .before .before .before .before .args .bids) (c .before .before .before .before .before .args .asks))
-after-asks c = owed-rest (ascii "[0,{\"as\":[" ++ entries true (c .before .before .before .before .before .args .asks)) (kFromBids (c .before .before .before .before .before .args .depth) (c .before .before .before .before .before .args .name .now) (c .before .before .before .before .before .args .bids) (c .before .before .before .before .before .args .asks)) (left (c .before .before .before .before .before)) (c .lay-listed .ensures)
+after-asks : (c : tie.After-lay-listed) → Left (c .before .before .before .before .before) (c .lay-listed .last .1 .1 .1 .0) (c .lay-listed .result) (fromBids (c .before .before .before .before .before))
+after-asks c = owed-rest (left (c .before .before .before .before .before)) (c .lay-listed .ensures)
 
-after-bids : (c : tie.After-lay-listed2) → Left (c .before .before .before .before .before .before .before .before .before .before) (c .lay-listed2 .last .1 .1 .1 .0) (c .lay-listed2 .result) (kFromDepth (c .before .before .before .before .before .before .before .before .before .before .args .depth) (c .before .before .before .before .before .before .before .before .before .before .args .name .now) (c .before .before .before .before .before .before .before .before .before .before .args .bids) (c .before .before .before .before .before .before .before .before .before .before .args .asks))
-after-bids c = owed-rest (ascii "],\"bs\":[" ++ entries true (c .before .before .before .before .before .before .before .before .before .before .args .bids)) (kFromDepth (c .before .before .before .before .before .before .before .before .before .before .args .depth) (c .before .before .before .before .before .before .before .before .before .before .args .name .now) (c .before .before .before .before .before .before .before .before .before .before .args .bids) (c .before .before .before .before .before .before .before .before .before .before .args .asks)) (after-asks (c .before .before .before .before .before)) (c .lay-listed2 .ensures)
+after-bids : (c : tie.After-lay-listed2) → Left (c .before .before .before .before .before .before .before .before .before .before) (c .lay-listed2 .last .1 .1 .1 .0) (c .lay-listed2 .result) (fromDepth (c .before .before .before .before .before .before .before .before .before .before))
+after-bids c = owed-rest (after-asks (c .before .before .before .before .before)) (c .lay-listed2 .ensures)
 
-after-depth : (c : tie.After-lay-number) → Left (c .before .before .before .before .before .before .before .before .before .before .before .before .before .before .before) (c .lay-number .last .1 .1 .0) (c .lay-number .result) (kFromNames (c .before .before .before .before .before .before .before .before .before .before .before .before .before .before .before .args .depth) (c .before .before .before .before .before .before .before .before .before .before .before .before .before .before .before .args .name .now) (c .before .before .before .before .before .before .before .before .before .before .before .before .before .before .before .args .bids) (c .before .before .before .before .before .before .before .before .before .before .before .before .before .before .before .args .asks))
-after-depth c = owed-rest (ascii "]},\"book-" ++ written (c .before .before .before .before .before .before .before .before .before .before .before .before .before .before .before .args .depth)) (kFromNames (c .before .before .before .before .before .before .before .before .before .before .before .before .before .before .before .args .depth) (c .before .before .before .before .before .before .before .before .before .before .before .before .before .before .before .args .name .now) (c .before .before .before .before .before .before .before .before .before .before .before .before .before .before .before .args .bids) (c .before .before .before .before .before .before .before .before .before .before .before .before .before .before .before .args .asks)) (after-bids (c .before .before .before .before .before)) (c .lay-number .ensures)
+after-depth : (c : tie.After-lay-number) → Left (c .before .before .before .before .before .before .before .before .before .before .before .before .before .before .before) (c .lay-number .last .1 .1 .0) (c .lay-number .result) (fromNames (c .before .before .before .before .before .before .before .before .before .before .before .before .before .before .before))
+after-depth c = owed-rest (after-bids (c .before .before .before .before .before)) (c .lay-number .ensures)
 
-before-name : (c : tie.After-lay) → Left (c .before .before .before .before .before .before .before .before .before .before .before .before .before .before .before .before .before .before .before .before) (c .lay .last .1 .0) (c .lay .result) (c .before .before .before .before .before .before .before .before .before .before .before .before .before .before .before .before .before .before .before .before .args .name .now ++ ascii "\"]")
-before-name c = owed-rest (ascii "\",\"") (c .before .before .before .before .before .before .before .before .before .before .before .before .before .before .before .before .before .before .before .before .args .name .now ++ ascii "\"]") (after-depth (c .before .before .before .before .before)) (c .lay .ensures)
+before-name : (c : tie.After-lay) → Left (c .before .before .before .before .before .before .before .before .before .before .before .before .before .before .before .before .before .before .before .before) (c .lay .last .1 .0) (c .lay .result) (fromName (c .before .before .before .before .before .before .before .before .before .before .before .before .before .before .before .before .before .before .before .before))
+before-name c = owed-rest (after-depth (c .before .before .before .before .before)) (c .lay .ensures)
 
 after-name : (c : tie.After-lay2) → Left (c .before .before .before .before .before .before .before .before .before .before .before .before .before .before .before .before .before .before .before .before .before .before .before .before) (c .lay2 .last .1 .0) (c .lay2 .result) (ascii "\"]")
-after-name c = owed-rest (c .before .before .before .before .before .before .before .before .before .before .before .before .before .before .before .before .before .before .before .before .before .before .before .before .args .name .now) (ascii "\"]") (before-name (c .before .before .before .before)) (c .lay2 .ensures)
+after-name c = owed-rest (before-name (c .before .before .before .before)) (c .lay2 .ensures)
+
+-- ---- needs
 
 slice-aggregate-lay-listed : tie.Need-slice-aggregate-lay-listed
 slice-aggregate-lay-listed c = search needs
 
 lay-listed-requires : tie.Need-lay-listed-requires
-lay-listed-requires c κs = (c .before .before .before .before .pre .1, room-first (ascii "[0,{\"as\":[" ++ entries true (c .before .before .before .before .args .asks)) (kFromBids (c .before .before .before .before .args .depth) (c .before .before .before .before .args .name .now) (c .before .before .before .before .args .bids) (c .before .before .before .before .args .asks)) (left (c .before .before .before .before)))
+lay-listed-requires c κs = (c .before .before .before .before .pre .1, room-first (asksText (c .before .before .before .before)) (fromBids (c .before .before .before .before)) (left (c .before .before .before .before)))
 
 slice-aggregate-lay-listed-2 : tie.Need-slice-aggregate-lay-listed-2
 slice-aggregate-lay-listed-2 c = search needs
 
 lay-listed-requires-2 : tie.Need-lay-listed-requires-2
-lay-listed-requires-2 c κs = (c .before .before .before .before .before .before .before .before .before .pre .0, room-first (ascii "],\"bs\":[" ++ entries true (c .before .before .before .before .before .before .before .before .before .args .bids)) (kFromDepth (c .before .before .before .before .before .before .before .before .before .args .depth) (c .before .before .before .before .before .before .before .before .before .args .name .now) (c .before .before .before .before .before .before .before .before .before .args .bids) (c .before .before .before .before .before .before .before .before .before .args .asks)) (after-asks (c .before .before .before .before)))
+lay-listed-requires-2 c κs = (c .before .before .before .before .before .before .before .before .before .pre .0, room-first (bidsText (c .before .before .before .before .before .before .before .before .before)) (fromDepth (c .before .before .before .before .before .before .before .before .before)) (after-asks (c .before .before .before .before)))
 
 slice-aggregate-lay-number : tie.Need-slice-aggregate-lay-number
 slice-aggregate-lay-number c = search needs
 
 lay-number-requires : tie.Need-lay-number-requires
-lay-number-requires c κs = room-first (ascii "]},\"book-" ++ written (c .before .before .before .before .before .before .before .before .before .before .before .before .before .before .args .depth)) (kFromNames (c .before .before .before .before .before .before .before .before .before .before .before .before .before .before .args .depth) (c .before .before .before .before .before .before .before .before .before .before .before .before .before .before .args .name .now) (c .before .before .before .before .before .before .before .before .before .before .before .before .before .before .args .bids) (c .before .before .before .before .before .before .before .before .before .before .before .before .before .before .args .asks)) (after-bids (c .before .before .before .before))
+lay-number-requires c κs = room-first (depthText (c .before .before .before .before .before .before .before .before .before .before .before .before .before .before)) (fromNames (c .before .before .before .before .before .before .before .before .before .before .before .before .before .before)) (after-bids (c .before .before .before .before))
 
 slice-aggregate-lay : tie.Need-slice-aggregate-lay
 slice-aggregate-lay c = search needs
 
 lay-requires : tie.Need-lay-requires
-lay-requires c κs = room-first (ascii "\",\"") (c .before .before .before .before .before .before .before .before .before .before .before .before .before .before .before .before .before .before .before .args .name .now ++ ascii "\"]") (after-depth (c .before .before .before .before))
+lay-requires c κs = room-first (ascii "\",\"") (fromName (c .before .before .before .before .before .before .before .before .before .before .before .before .before .before .before .before .before .before .before)) (after-depth (c .before .before .before .before))
 
 lay-requires-2 : tie.Need-lay-requires-2
-lay-requires-2 c κs = room-first (c .before .before .before .before .before .before .before .before .before .before .before .before .before .before .before .before .before .before .before .before .before .before .before .args .name .now) (ascii "\"]") (before-name (c .before .before .before))
+lay-requires-2 c κs = room-first ((c .before .before .before .before .before .before .before .before .before .before .before .before .before .before .before .before .before .before .before .before .before .before .before) .args .name .now) (ascii "\"]") (before-name (c .before .before .before))
 
 slice-aggregate-lay-2 : tie.Need-slice-aggregate-lay-2
 slice-aggregate-lay-2 c = search needs

@@ -14,6 +14,8 @@ use Rattle.side.specs.Side.{All}
 use Rattle.side.specs.Kept.{maxLevels, held}
 use Rattle.writer.specs.Snapshot.{commaJoined, kEntry, mEntry, kSnapshot, mSnapshot}
 
+-- ---- the parts
+
 -- A level as an entry; `stamped` says that a timestamp follows, as in K.
 unfoldable pub entry : Bool → Level → List ℕ
 entry stamped level = cond stamped (kEntry (shown level)) (mEntry (shown level))
@@ -33,7 +35,8 @@ kText depth name bids asks = kSnapshot depth name (map shown (held bids)) (map s
 unfoldable pub mText : List ℕ → Levels → Levels → ℕ → ℕ → List ℕ
 mText name bids asks checksum number = mSnapshot name (map shown (held bids)) (map shown (held asks)) checksum number
 
--- What the text of a level needs, and that of a side.
+-- ---- what a text needs, and how long it is at the most
+
 pub record Writable (level : Level) : Type 0 where
   pub price : Within (levelPrice level)
   pub size : Within (levelSize level)
@@ -43,25 +46,25 @@ pub record WritableSide (kept : Levels) : Type 0 where
   pub room : length (kept .items) ≡ maxLevels
   pub levels : All Writable (held kept)
 
--- The longest that such texts are.
+-- The sizes of a side's levels keep the limits of decimals; of its prices `Good` says so.
+abbrev pub Sized : Levels → Type 0
+Sized kept = All (λ level. Within (levelSize level)) (held kept)
+
+abbrev pub maxName : ℕ
+maxName = 16
+
 abbrev pub maxEntry : ℕ
 maxEntry = 58
 
 abbrev pub maxSide : ℕ
 maxSide = 5900
 
--- The longest that a name is.
-abbrev pub maxName : ℕ
-maxName = 16
-
--- The sizes of a side's levels keep the limits of decimals, as its prices do.
-abbrev pub Sized : Levels → Type 0
-Sized kept = All (λ level. Within (levelSize level)) (held kept)
+-- ---- a text laid where there is room for it
 
 abbrev pub Room : List ℕ → ℕ → List ℕ → Type 0
 Room buffer at text = at + length text ≤ length buffer
 
--- The buffer with a text laid at a position, and the position past it.
+-- The buffer with the text at a position, and the position past it.
 pub record Put (before : List ℕ) (at : ℕ) (text : List ℕ) (after : List ℕ) (past : ℕ) : Type 0 where
   pub bytes : after ≡ overlaid before at text
   pub end : past ≡ at + length text

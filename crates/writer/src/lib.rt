@@ -36,7 +36,14 @@ pub fn k_write(depth: usize, name: &[u8], bids: Levels, asks: Levels, buffer: &m
 }
 
 // Writes an M book, with its checksum and its number.
-pub fn m_write(name: &[u8], bids: Levels, asks: Levels, checksum: u32, number: u64, buffer: &mut [u8]) -> Written
+pub fn m_write(
+    name: &[u8],
+    bids: Levels,
+    asks: Levels,
+    checksum: u32,
+    number: u64,
+    buffer: &mut [u8],
+) -> Written
     requires { ⌜ Good Bids bids × Good Asks asks × Sized bids × Sized asks × (length (now name) ≤ maxName) ⌝ }
     ensures { λ r. ⌜ Laid (now (buffer .entry)) 0 (mSnapshot (now (name .entry)) (map shown (held bids)) (map shown (held asks)) checksum number) (now (buffer .exit)) r ⌝ }
 {
@@ -60,13 +67,26 @@ fn lay_k(depth: usize, name: &[u8], bids: Levels, asks: Levels, buffer: &mut [u8
 }
 
 // Lays the text of an M book, bids first.
-fn lay_m(name: &[u8], bids: Levels, asks: Levels, checksum: u32, number: u64, buffer: &mut [u8]) -> usize
+fn lay_m(
+    name: &[u8],
+    bids: Levels,
+    asks: Levels,
+    checksum: u32,
+    number: u64,
+    buffer: &mut [u8],
+) -> usize
     requires { ⌜ WritableSide bids × WritableSide asks × Room (now buffer) 0 (mText (now name) bids asks checksum number) ⌝ }
     ensures { λ r. ⌜ Put (now (buffer .entry)) 0 (mText (now (name .entry)) bids asks checksum number) (now (buffer .exit)) r ⌝ }
 {
     let before_name = lay(b"{\"channel\":\"book\",\"product\":\"", buffer, 0);
     let after_name = lay(name, buffer, before_name);
-    let after_bids = lay_listed(b"\",\"type\":\"snapshot\",\"data\":{\"bids\":[", false, bids, buffer, after_name);
+    let after_bids = lay_listed(
+        b"\",\"type\":\"snapshot\",\"data\":{\"bids\":[",
+        false,
+        bids,
+        buffer,
+        after_name,
+    );
     let after_asks = lay_listed(b"],\"asks\":[", false, asks, buffer, after_bids);
     let after_checksum = lay_number(b"]},\"checksum\":", checksum as u64, buffer, after_asks);
     let after_number = lay_number(b",\"gsn\":", number, buffer, after_checksum);

@@ -46,12 +46,11 @@ loop-less : tie.Need-loop-less Inv-loop μ-loop
 loop-less c = omega arith
 
 loop-again : tie.Need-loop-again Inv-loop μ-loop
-loop-again c =
-    (
-      owed-byte (rw (next c) at (c .before .before .loop .inv .0)),
-      search needs,
-      length-set (c .before .before .loop .buffer) (c .before .before .loop .end) (getD (c .before .before .before .args .bytes .now) (c .before .before .loop .i) 0) ∙ c .before .before .loop .inv .2,
-    )
+loop-again c = (
+  owed-byte (rw (next c) at (c .before .before .loop .inv .0)),
+  search needs,
+  length-set (c .before .before .loop .buffer) (c .before .before .loop .end) (getD (c .before .before .before .args .bytes .now) (c .before .before .loop .i) 0) ∙ c .before .before .loop .inv .2,
+)
 
 same-length : tie.Need-same-length Inv-loop μ-loop
 same-length c = c .before .loop .inv .2

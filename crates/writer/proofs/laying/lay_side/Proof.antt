@@ -62,7 +62,7 @@ element-copy-out-lay-entry : tie.Need-element-copy-out-lay-entry Inv-loop μ-loo
 element-copy-out-lay-entry c = search needs
 
 lay-entry-requires : tie.Need-lay-entry-requires Inv-loop μ-loop
-lay-entry-requires c κs = 
+lay-entry-requires c κs =
     let s = c .before .before .before .before in
     (writable-at (s .args .stamped) (s .args .t2) (s .pre .0) 0 (some (c .before .before)), room-first (first s) (from s 1) (left (c .before .before)))
 
@@ -76,7 +76,7 @@ element-copy-out-lay-next : tie.Need-element-copy-out-lay-next Inv-loop μ-loop
 element-copy-out-lay-next c = let f = c .before .before .before .before .before .before .before .before .before .pre .0 .few in omega arith
 
 lay-next-requires : tie.Need-lay-next-requires Inv-loop μ-loop
-lay-next-requires c κs = 
+lay-next-requires c κs =
     let s = c .before .before .before .before .before .before .before .before .before .before .before in
     let i = c .before .before .before .loop .i in
     (writable-at (s .args .stamped) (s .args .t2) (s .pre .0) i (c .before .before .loop-test .taken), room-first (next s i) (from s (i + 1)) (left-turn (c .before .before)))
@@ -94,7 +94,7 @@ same-length : tie.Need-same-length Inv-loop μ-loop
 same-length c = search needs
 
 returns-2 : tie.Need-returns-2 Inv-loop μ-loop
-returns-2 c = 
+returns-2 c =
     let s = c .before .before .before .before .before .before .before .before .before in
     put-last (left-rest (c .before .before .before .before)) refl (put-none (rw (led-end (s .args .stamped) (s .args .t2) (s .pre .0) (c .before .loop .i) (c .loop-test .left)) at (c .before .loop .inv .0)))
 

@@ -1,8 +1,8 @@
 -- `lay_entry` meets its contract: its texts are laid one after another.
 use Prim.Native.Nat.{ℕ}
 use mathlib.Core.Path.{ap}
-use borrow.Author.Needs.{needs}
 use mathlib.Core.List.{List, _++_}
+use borrow.Author.Needs.{needs}
 use Rattle.decimal.specs.Ascii.{ascii}
 use Rattle.decimal.specs.Decimal.{text}
 use Rattle.side.specs.Level.{levelPrice, levelSize}
@@ -38,16 +38,28 @@ Left s = Whole (s .args .buffer .now) (s .args .at) (entry (s .args .stamped) (s
 left : (s : tie.Start) → Left s (s .args .buffer .now) (s .args .at) (ascii "[\"" ++ fromPrice s)
 left s = owed-as (entry-parts (s .args .stamped) (s .args .level)) (s .pre .1)
 
-left-price : (c : tie.After-lay) → Left (c .before .before .before .before) (c .lay .last .1 .0) (c .lay .result) (fromPrice (c .before .before .before .before))
-left-price c = owed-rest (left (c .before .before .before .before)) (c .lay .ensures)
+abbrev start₁ : tie.After-lay → tie.Start
+start₁ c = c .before .before .before .before
 
-left-comma : (c : tie.After-lay-decimal) → Left (c .before .before .before .before .before .before .before .before .before) (c .lay-decimal .last .1 .0) (c .lay-decimal .result) (fromComma (c .before .before .before .before .before .before .before .before .before))
+left-price : (c : tie.After-lay) → Left (start₁ c) (c .lay .last .1 .0) (c .lay .result) (fromPrice (start₁ c))
+left-price c = owed-rest (left (start₁ c)) (c .lay .ensures)
+
+abbrev start₂ : tie.After-lay-decimal → tie.Start
+start₂ c = start₁ (c .before .before .before .before .before)
+
+left-comma : (c : tie.After-lay-decimal) → Left (start₂ c) (c .lay-decimal .last .1 .0) (c .lay-decimal .result) (fromComma (start₂ c))
 left-comma c = owed-rest-as (ap text (c .before .before .price-of .ensures)) (left-price (c .before .before .before .before .before)) (c .lay-decimal .ensures)
 
-left-size : (c : tie.After-lay2) → Left (c .before .before .before .before .before .before .before .before .before .before .before .before .before .before) (c .lay2 .last .1 .0) (c .lay2 .result) (fromSize (c .before .before .before .before .before .before .before .before .before .before .before .before .before .before))
+abbrev start₃ : tie.After-lay2 → tie.Start
+start₃ c = start₂ (c .before .before .before .before .before)
+
+left-size : (c : tie.After-lay2) → Left (start₃ c) (c .lay2 .last .1 .0) (c .lay2 .result) (fromSize (start₃ c))
 left-size c = owed-rest (left-comma (c .before .before .before .before .before)) (c .lay2 .ensures)
 
-left-end : (c : tie.After-lay-decimal2) → Left (c .before .before .before .before .before .before .before .before .before .before .before .before .before .before .before .before .before .before .before) (c .lay-decimal2 .last .1 .0) (c .lay-decimal2 .result) (end (c .before .before .before .before .before .before .before .before .before .before .before .before .before .before .before .before .before .before .before))
+abbrev start₄ : tie.After-lay-decimal2 → tie.Start
+start₄ c = start₃ (c .before .before .before .before .before)
+
+left-end : (c : tie.After-lay-decimal2) → Left (start₄ c) (c .lay-decimal2 .last .1 .0) (c .lay-decimal2 .result) (end (start₄ c))
 left-end c = owed-rest-as (ap text (c .before .before .size-of .ensures)) (left-size (c .before .before .before .before .before)) (c .lay-decimal2 .ensures)
 
 -- ---- needs
@@ -62,19 +74,19 @@ price-of-requires : tie.Need-price-of-requires
 price-of-requires c κs = search needs
 
 lay-decimal-requires : tie.Need-lay-decimal-requires
-lay-decimal-requires c κs = (rw (c .before .price-of .ensures) (c .before .before .before .before .before .before .before .before .pre .0 .price), room-first-as (priceText (c .before .before .before .before .before .before .before .before)) (fromComma (c .before .before .before .before .before .before .before .before)) (ap text (c .before .price-of .ensures)) (left-price (c .before .before .before .before)))
+lay-decimal-requires c κs = (rw (c .before .price-of .ensures) (start₁ (c .before .before .before .before) .pre .0 .price), room-first-as (priceText (start₁ (c .before .before .before .before))) (fromComma (start₁ (c .before .before .before .before))) (ap text (c .before .price-of .ensures)) (left-price (c .before .before .before .before)))
 
 slice-aggregate-lay-2 : tie.Need-slice-aggregate-lay-2
 slice-aggregate-lay-2 c = search needs
 
 lay-requires-2 : tie.Need-lay-requires-2
-lay-requires-2 c κs = room-first (ascii "\",\"") (fromSize (c .before .before .before .before .before .before .before .before .before .before .before .before .before)) (left-comma (c .before .before .before .before))
+lay-requires-2 c κs = room-first (ascii "\",\"") (fromSize (start₂ (c .before .before .before .before))) (left-comma (c .before .before .before .before))
 
 size-of-requires : tie.Need-size-of-requires
 size-of-requires c κs = search needs
 
 lay-decimal-requires-2 : tie.Need-lay-decimal-requires-2
-lay-decimal-requires-2 c κs = (rw (c .before .size-of .ensures) (c .before .before .before .before .before .before .before .before .before .before .before .before .before .before .before .before .before .before .pre .0 .size), room-first-as (sizeText (c .before .before .before .before .before .before .before .before .before .before .before .before .before .before .before .before .before .before)) (end (c .before .before .before .before .before .before .before .before .before .before .before .before .before .before .before .before .before .before)) (ap text (c .before .size-of .ensures)) (left-size (c .before .before .before .before)))
+lay-decimal-requires-2 c κs = (rw (c .before .size-of .ensures) (start₃ (c .before .before .before .before) .pre .0 .size), room-first-as (sizeText (start₃ (c .before .before .before .before))) (end (start₃ (c .before .before .before .before))) (ap text (c .before .size-of .ensures)) (left-size (c .before .before .before .before)))
 
 slice-aggregate-lay-3 : tie.Need-slice-aggregate-lay-3
 slice-aggregate-lay-3 c = search needs

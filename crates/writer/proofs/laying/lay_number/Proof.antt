@@ -1,8 +1,8 @@
 -- `lay_number` meets its contract: the text is laid, and then the digits.
 use Prim.Native.Nat.{ℕ}
 use mathlib.Core.Path.{refl}
-use borrow.Author.Needs.{needs}
 use mathlib.Core.List.{List, _++_}
+use borrow.Author.Needs.{needs}
 use Rattle.decimal.specs.Digits.{written}
 use Rattle.writer.proofs.Owed.{Whole, owed-all, owed-rest, room-first, put-last}
 use Rattle.writer.proofs.laying.lay_number.Statement.{statement}
@@ -22,8 +22,11 @@ Left s = Whole (s .args .buffer .now) (s .args .at) (text s ++ rest s)
 left : (s : tie.Start) → Left s (s .args .buffer .now) (s .args .at) (text s ++ rest s)
 left s = owed-all (s .pre)
 
-left-rest : (c : tie.After-lay) → Left (c .before .before .before .before) (c .lay .last .1 .0) (c .lay .result) (rest (c .before .before .before .before))
-left-rest c = owed-rest (left (c .before .before .before .before)) (c .lay .ensures)
+abbrev start₁ : tie.After-lay → tie.Start
+start₁ c = c .before .before .before .before
+
+left-rest : (c : tie.After-lay) → Left (start₁ c) (c .lay .last .1 .0) (c .lay .result) (rest (start₁ c))
+left-rest c = owed-rest (left (start₁ c)) (c .lay .ensures)
 
 -- ---- needs
 

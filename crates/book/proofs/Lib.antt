@@ -1,5 +1,5 @@
 -- In reading order: the claims, with the laws that they rest on; then the laws of the code: refusals and the chain of checks, entries, messages
--- taken, questions.
+-- taken, questions, the writer.
 pub mod Checks
 pub mod Outcome
 pub mod Questions
@@ -10,3 +10,4 @@ pub mod Refusing
 pub mod Entering
 pub mod Settling
 pub mod Asking
+pub mod Snapshots

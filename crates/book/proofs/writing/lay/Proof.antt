@@ -1,71 +1,83 @@
+-- `lay` meets its contract: dialect by dialect.
+use Rattle.book.proofs.Snapshots.{name-length, k-text, m-text, no-text}
+use Rattle.book.proofs.Settling.{m-sums}
+use mathlib.Core.Path.{sym, subst}
+use mathlib.Core.List.{List}
+use Prim.Native.Nat.{ℕ}
+use native.Mathlib.Omega.{arith}
+use denote.Ref.{now}
+use Rattle.decimal.specs.Buffer.{Laid}
 use borrow.Author.Needs.{needs}
 use Rattle.book.proofs.writing.lay.Statement.{statement}
 use Rattle.book.proofs.writing.lay.Tie as tie
-use Rattle.book.proofs.writing.lay.Reads as reads
-use Rattle.book.proofs.writing.lay.Lts as lts
-use Rattle.checksum.proofs.m_checksum.Reads as m-checksum-reads
-use Rattle.writer.proofs.k_write.Reads as k-write-reads
-use Rattle.writer.proofs.m_write.Reads as m-write-reads
 
--- src/writing.rt:23:46
 enum-told : tie.Need-enum-told
 enum-told c = search needs
 
--- src/writing.rt:23:46
 array-share-prefix-name : tie.Need-array-share-prefix-name
 array-share-prefix-name c = search needs
 
--- src/writing.rt:23:46
 slice-aggregate-k-write : tie.Need-slice-aggregate-k-write
-slice-aggregate-k-write c = ?
+slice-aggregate-k-write c =
+    let a = c .before .before .before .before .before .before .before .before .args in
+    sym (name-length (a .book) (c .before .before .before .before .before .before .before .before .pre))
 
--- src/writing.rt:23:23
 k-write-requires : tie.Need-k-write-requires
-k-write-requires c κs = ?
+k-write-requires c κs =
+    let a = c .before .before .before .before .before .before .before .before .before .args in
+    let g = c .before .before .before .before .before .before .before .before .before .pre in
+    let n = name-length (a .book) g in
+    let s = g .short in
+    (g .bids .good, g .asks .good, g .bids .sized, g .asks .sized, omega arith)
 
--- src/writing.rt:25:17
 enum-told-2 : tie.Need-enum-told-2
 enum-told-2 c = search needs
 
--- src/writing.rt:25:17
 m-checksum-requires : tie.Need-m-checksum-requires
-m-checksum-requires c κs = ?
+m-checksum-requires c κs =
+    let a = c .before .before .before .before .before .before .before .args in
+    let g = c .before .before .before .before .before .before .before .pre in
+    m-sums (a .book .settings .dialect) (a .book .bids) (a .book .asks) (c .enum-told2 .given .1) (g .bids) (g .asks)
 
--- src/writing.rt:26:29
 array-share-prefix-name-2 : tie.Need-array-share-prefix-name-2
 array-share-prefix-name-2 c = search needs
 
--- src/writing.rt:26:29
 slice-aggregate-m-write : tie.Need-slice-aggregate-m-write
-slice-aggregate-m-write c = ?
+slice-aggregate-m-write c =
+    let a = c .before .before .before .before .before .before .before .before .before .args in
+    sym (name-length (a .book) (c .before .before .before .before .before .before .before .before .before .pre))
 
--- src/writing.rt:26:13
 m-write-requires : tie.Need-m-write-requires
-m-write-requires c κs = ?
+m-write-requires c κs =
+    let a = c .before .before .before .before .before .before .before .before .before .before .args in
+    let g = c .before .before .before .before .before .before .before .before .before .before .pre in
+    let n = name-length (a .book) g in
+    let s = g .short in
+    (g .bids .good, g .asks .good, g .bids .sized, g .asks .sized, omega arith)
 
--- src/writing.rt:28:29
 enum-told-3 : tie.Need-enum-told-3
 enum-told-3 c = search needs
 
--- src/writing.rt:11:1
 same-length : tie.Need-same-length
 same-length c = search needs
 
--- src/writing.rt:11:1
 returns : tie.Need-returns
-returns c = ?
+returns c =
+    let a = c .before .before .before .before .before .before .before .before .before .before .before .before .args in
+    subst (λ (t : List ℕ). Laid _ 0 t _ _) (k-text (a .book) (c .before .before .before .before .before .enum-told .given .1)) (c .before .before .k-write .ensures)
 
--- src/writing.rt:11:1
 same-length-2 : tie.Need-same-length-2
 same-length-2 c = search needs
 
--- src/writing.rt:11:1
 returns-2 : tie.Need-returns-2
-returns-2 c = ?
+returns-2 c =
+    let a = c .before .before .before .before .before .before .before .before .before .before .before .before .before .args in
+    subst (λ (t : List ℕ). Laid _ 0 t _ _) (m-text (a .book) (c .before .before .before .before .before .before .enum-told2 .given .1) (c .before .before .before .before .before .m-checksum .result) (c .before .before .before .before .before .m-checksum .ensures)) (c .before .before .m-write .ensures)
 
--- src/writing.rt:11:1
 returns-3 : tie.Need-returns-3
-returns-3 c = ?
+returns-3 c =
+    let a = c .before .before .before .before .before .before .before .args in
+    no-text (a .book) (c .enum-told3 .given .1) (now (a .buffer))
 
 pub lay-spec : {M : Type 1} → statement M
 lay-spec =

@@ -64,7 +64,7 @@ same-length c = search needs
 returns : tie.Need-returns
 returns c =
     let a = c .before .before .before .before .before .before .before .before .before .before .before .before .args in
-    subst (λ (t : List ℕ). Laid _ 0 t _ _) (k-text (a .book) (c .before .before .before .before .before .enum-told .given .1)) (c .before .before .k-write .ensures)
+    subst (λ (t : List ℕ). Laid (now (a .buffer)) 0 t (c .before .before .k-write .last .1 .1 .1 .1 .0) (c .before .before .k-write .result)) (k-text (a .book) (c .before .before .before .before .before .enum-told .given .1)) (c .before .before .k-write .ensures)
 
 same-length-2 : tie.Need-same-length-2
 same-length-2 c = search needs
@@ -72,7 +72,7 @@ same-length-2 c = search needs
 returns-2 : tie.Need-returns-2
 returns-2 c =
     let a = c .before .before .before .before .before .before .before .before .before .before .before .before .before .args in
-    subst (λ (t : List ℕ). Laid _ 0 t _ _) (m-text (a .book) (c .before .before .before .before .before .before .enum-told2 .given .1) (c .before .before .before .before .before .m-checksum .result) (c .before .before .before .before .before .m-checksum .ensures)) (c .before .before .m-write .ensures)
+    subst (λ (t : List ℕ). Laid (now (a .buffer)) 0 t (c .before .before .m-write .last .1 .1 .1 .1 .1 .0) (c .before .before .m-write .result)) (m-text (a .book) (c .before .before .before .before .before .before .enum-told2 .given .1) (c .before .before .before .before .before .m-checksum .result) (c .before .before .before .before .before .m-checksum .ensures)) (c .before .before .m-write .ensures)
 
 returns-3 : tie.Need-returns-3
 returns-3 c =

@@ -1,5 +1,5 @@
 -- In reading order: the claims, with the laws that they rest on; then the laws of the code: refusals and the chain of checks, entries, messages
--- taken, questions, the writer.
+-- taken, questions, the writer; the claim about a list of calls.
 pub mod Checks
 pub mod Outcome
 pub mod Questions
@@ -11,3 +11,4 @@ pub mod Entering
 pub mod Settling
 pub mod Asking
 pub mod Snapshots
+pub mod Contracts

@@ -70,8 +70,8 @@ ran {b} g (wrote {buffer = u} {after = w} {r = r} {cs = cs} {rs = rs} h k) =
     more (shows b) write u (shows (r .book)) (r .answer) (amount (r .amount)) w (ap shows (t .book)) (t .answer) (t .value) (t .buffer) cs rs _
     (ran (subst Good (sym (t .book)) g) k)
 
-pub demand-3 : Demand-3
-demand-3 t b e cs rs o k = subst (λ (p : Reference). AsReference p cs rs e) (o .same) (ran (o .good) k)
+pub ran-opened : Demand-3
+ran-opened t b e cs rs o k = subst (λ (p : Reference). AsReference p cs rs e) (o .same) (ran (o .good) k)
 
 -- ---- the same, with each step held to the function's own contract
 
@@ -109,4 +109,4 @@ made-ran (a-write κs u w h k) = wrote h (made-ran k)
 pub calls-as-reference : {dialect : Dialect} {depth : ℕ} {b e : Book} {cs : List Call} {rs : List Reply} (κs : Lfts 1) (name : RefT (List ℕ))
     → opens.Learnt κs (dialect, (depth, (name, tt))) b (dialect, (depth, (name, tt))) → Made b cs rs e
     → AsReference (opened (record { dialect = dialect; depth = depth; name = now name })) cs rs e
-calls-as-reference {dialect} {depth} {b} {e} {cs} {rs} κs name o k = demand-3 (record { dialect = dialect; depth = depth; name = now name }) b e cs rs o (made-ran k)
+calls-as-reference {dialect} {depth} {b} {e} {cs} {rs} κs name o k = ran-opened (record { dialect = dialect; depth = depth; name = now name }) b e cs rs o (made-ran k)

@@ -1,5 +1,8 @@
--- In reading order: the reference book; what the code's book shows and ensures; what its methods ask and give on their way.
+-- In reading order: the reference book; the claims about it; worked examples; what the code's book shows and ensures; what its methods ask and give on
+-- their way.
 pub mod Reference
+pub mod Claims
+pub mod Examples
 pub mod Shown
 pub mod Asking
 pub mod Taking

@@ -4,7 +4,7 @@ ghost use Rattle.entries.specs.Rows.{badPrice, badSize, badTexts};
 ghost use Rattle.entries.specs.Counting.{Quoted};
 ghost use Rattle.loader.specs.Loaded.{Loadable, rowsAt};
 ghost use Rattle.loader.specs.Reading.{entryFor};
-ghost use Rattle.first_bad.specs.Places.{placeOf};
+ghost use Rattle.first_bad.specs.Places.{First};
 use decimal::Parsed;
 use json_tokens::comma_end;
 use loader::entry_at;
@@ -22,7 +22,7 @@ pub struct Place {
 // `m` says that the dialect is M, else it is K; in a snapshot a size of zero is bad too.
 pub fn first_bad(s: &[u8], m: bool, snapshot: bool) -> Place
     requires { ⌜ Loadable (entryFor m) (now s) ⌝ }
-    ensures { λ r. ⌜ r ≡ placeOf (badTexts snapshot (now (s .entry)) (rowsAt (entryFor m) (now (s .entry)))) ⌝ }
+    ensures { λ r. ⌜ First (badTexts snapshot (now (s .entry)) (rowsAt (entryFor m) (now (s .entry)))) (now (s .entry)) r ⌝ }
 {
     let mut at = first_at(s);
     while 0 < at {

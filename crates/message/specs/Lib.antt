@@ -1,6 +1,7 @@
--- In reading order: the numbers of the answers; what a message says; what its reader answers, and how that is decided; worked examples.
+-- In reading order: the numbers of the answers; what a message says; what its reader answers, and how that is decided; the first bad text; worked examples.
 pub mod Answers
 pub mod Meaning
 pub mod Verdict
 pub mod Deciding
+pub mod Bad
 pub mod Examples

@@ -1,5 +1,7 @@
 // What a message says, from the settings and the text alone: the first refusal of checks 1 to 8 that fits, or where its entries
 // lie, its checksum and its sequence number. One walk over the message finds out all of it.
+mod bad;
+
 use json::MAX_DEPTH;
 use json::value_end;
 use json_tokens::is_ended;
@@ -16,6 +18,8 @@ ghost use Rattle.settings.specs.Settings.{good};
 ghost use Rattle.layout.specs.Told.{toldAt};
 ghost use Rattle.message.specs.Meaning.{heardIn, framed, checked, judged};
 ghost use Rattle.message.specs.Verdict.{verdictOf};
+pub use bad::bad_decimal;
+pub use bad::bad_place;
 ghost use Rattle.message.specs.Deciding.{decided, addressedTold, laidOutline};
 
 // The longest message.
@@ -65,6 +69,12 @@ pub enum Verdict {
     Passes(Outline),
 }
 
+// A part of a message: its first position, and the position past it.
+pub struct Part {
+    pub from: usize,
+    pub to: usize,
+}
+
 // Checks 1 to 8.
 pub fn read(dialect: Dialect, depth: usize, name: &[u8], s: &[u8]) -> Verdict
     ensures { λ r. ⌜ r ≡ verdictOf (now (s .entry)) (judged (record { dialect = dialect; depth = depth; name = now (name .entry) }) (now (s .entry))) ⌝ }
@@ -92,7 +102,7 @@ pub fn read_open(dialect: Dialect, depth: usize, name: &[u8], s: &[u8]) -> Verdi
 }
 
 // Checks 2 to 7, of a book that is not shut.
-fn read_frame(dialect: Dialect, depth: usize, name: &[u8], s: &[u8]) -> Verdict
+pub fn read_frame(dialect: Dialect, depth: usize, name: &[u8], s: &[u8]) -> Verdict
     requires { ⌜ good (record { dialect = dialect; depth = depth; name = now name }) ≡ true ⌝ }
     ensures { λ r. ⌜ r ≡ verdictOf (now (s .entry)) (framed (record { dialect = dialect; depth = depth; name = now (name .entry) }) (now (s .entry))) ⌝ }
 {

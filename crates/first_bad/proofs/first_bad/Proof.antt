@@ -37,7 +37,8 @@ returns : tie.Need-returns Inv-loop μ-loop
 returns c =
     let a = c .before .before .before .before .before .before .before .args in
     let s = a .s .now in
-    price-found (entryFor (a .m)) s (a .snapshot) (c .before .before .before .before .loop .inv) (c .before .before .before .loop-test .taken) (c .before .before .entry-at .result) (c .before .before .entry-at .ensures) (sym (c .before .is-bad-price .ensures) ∙ c .if1 .taken)
+    let q = seeking-placed (entryFor (a .m)) s (a .snapshot) (c .before .before .before .before .loop .inv) (c .before .before .before .loop-test .taken) (c .before .before .entry-at .result) (c .before .before .entry-at .ensures) (sound-for (a .m) s) .0 in
+    record { is = price-found (entryFor (a .m)) s (a .snapshot) (c .before .before .before .before .loop .inv) (c .before .before .before .loop-test .taken) (c .before .before .entry-at .result) (c .before .before .entry-at .ensures) (sym (c .before .is-bad-price .ensures) ∙ c .if1 .taken); order = omega arith; inside = q .1 }
 
 is-bad-size-requires : tie.Need-is-bad-size-requires Inv-loop μ-loop
 is-bad-size-requires c κs =
@@ -49,7 +50,8 @@ returns-2 : tie.Need-returns-2 Inv-loop μ-loop
 returns-2 c =
     let a = c .before .before .before .before .before .before .before .before .before .args in
     let s = a .s .now in
-    size-found (entryFor (a .m)) s (a .snapshot) (c .before .before .before .before .before .before .loop .inv) (c .before .before .before .before .before .loop-test .taken) (c .before .before .before .before .entry-at .result) (c .before .before .before .before .entry-at .ensures) (sym (c .before .before .before .is-bad-price .ensures) ∙ c .before .before .if1 .left) (sym (c .before .is-bad-size .ensures) ∙ c .if2 .taken)
+    let q = seeking-placed (entryFor (a .m)) s (a .snapshot) (c .before .before .before .before .before .before .loop .inv) (c .before .before .before .before .before .loop-test .taken) (c .before .before .before .before .entry-at .result) (c .before .before .before .before .entry-at .ensures) (sound-for (a .m) s) .1 in
+    record { is = size-found (entryFor (a .m)) s (a .snapshot) (c .before .before .before .before .before .before .loop .inv) (c .before .before .before .before .before .loop-test .taken) (c .before .before .before .before .entry-at .result) (c .before .before .before .before .entry-at .ensures) (sym (c .before .before .before .is-bad-price .ensures) ∙ c .before .before .if1 .left) (sym (c .before .is-bad-size .ensures) ∙ c .if2 .taken); order = omega arith; inside = q .1 }
 
 comma-end-requires : tie.Need-comma-end-requires Inv-loop μ-loop
 comma-end-requires c κs = search needs
@@ -71,7 +73,7 @@ returns-3 c =
     let a = c .before .before .before .before .args in
     let s = a .s .now in
     let t = c .loop-test .left in
-    seeking-end (entryFor (a .m)) s (a .snapshot) (c .before .loop .inv) (omega arith)
+    record { is = seeking-end (entryFor (a .m)) s (a .snapshot) (c .before .loop .inv) (omega arith); order = omega arith; inside = omega arith }
 
 pub first-bad-spec : {M : Type 1} → statement M
 first-bad-spec =

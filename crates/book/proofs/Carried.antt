@@ -1,0 +1,108 @@
+-- What a message carries: every message but a snapshot of K's a checksum, and none of K's a sequence number.
+-- Assumes nothing.
+use mathlib.Core.Path.{_≡_, refl}
+use mathlib.Core.List.{List}
+use mathlib.Core.Bool.{Bool, true, false, false≢true, cond}
+use Prim.Native.Nat.{ℕ}
+use native.Mathlib.Omega.{arith}
+use Rattle.decimal.specs.Ascii.{ascii}
+use Rattle.decimal.specs.Digits.{Reading, reads, refused}
+use Rattle.json.specs.Json.{Span, Pair, maxDepth}
+use Rattle.settings.specs.Settings.{Terms}
+use Rattle.settings.specs.declared.Dialect.{Dialect}
+use Rattle.settings.specs.declared.Dialect.the-variants.{K, M, Unknown}
+use Rattle.entries.specs.Places.{andThen, all, top, arrayAt, objectAt, valuesOf, only, wholeAt, checksumAt, quotedChecksumAt}
+use Rattle.layout.specs.Layout.{Printed, printed, unprinted, Listed, Layout, Heard, laid}
+use Rattle.message_k.specs.LayoutK.{Frame, frameOf, together, isSnapshot, isUpdate, objectsLayout, layoutK, heardK}
+use Rattle.message_k.specs.LayoutK as k·
+use Rattle.message_m.specs.LayoutM.{isSnapshotAt, layoutM, heardM}
+use Rattle.message_m.specs.LayoutM as m·
+use Rattle.message.specs.Meaning.{Message, says, said, Checked, fails, passes, heardIn, checked, saidOf, messageOf}
+use Rattle.book.specs.Claims.{Carries}
+use Rattle.book.proofs.Checks.{Refusals, Read, Either, checked-either}
+
+-- ---- reading
+
+then-read : {A B : Type 0} (P : B → Type 0) (x : Reading A) (next : A → Reading B) → ((a : A) → Read P (next a)) → Read P (andThen x next)
+unfolding andThen
+then-read P (reads a) next h = h a
+then-read P refused next h = tt
+
+abbrev Carrying : Dialect → Layout → Type 0
+Carrying d l = Carries d (l .snapshot) (l .checksum) (l .number)
+
+laid-carries : (d : Dialect) (snapshot : Bool) (sum : Printed) (number : ℕ) (bids asks : Reading Listed) → Carries d snapshot sum number
+    → Read (Carrying d) (laid snapshot sum number bids asks)
+unfolding laid
+laid-carries d snapshot sum number bids asks h = then-read (Carrying d) bids _ (λ b. then-read (Carrying d) asks _ (λ a. h))
+
+-- ---- the dialects
+
+not-unprinted : {A : Type 0} (n : ℕ) → printed n ≡ unprinted → A
+not-unprinted n h = let z : _≡_ {A = ℕ} 0 1 = cc in absurd (omega arith)
+
+m-not-k : {A : Type 0} → M ≡ K → A
+m-not-k h = let z : _≡_ {A = ℕ} 0 1 = cc in absurd (omega arith)
+
+objects-carry : (s : List ℕ) (objects : List (List Pair)) → Read (Carrying K) (objectsLayout s objects)
+unfolding objectsLayout
+objects-carry s objects = at (isSnapshot s objects) (isUpdate s objects)
+  where
+    at : (a b : Bool) → Read (Carrying K)
+        (cond a (laid true unprinted 0 (k·.listedIn s (ascii "bs") objects) (k·.listedIn s (ascii "as") objects))
+        (cond b (andThen (only (valuesOf s (ascii "c") (together objects))) (λ c.
+        andThen (quotedChecksumAt s c) (λ sum. laid false (printed sum) 0 (k·.listedIn s (ascii "b") objects) (k·.listedIn s (ascii "a") objects)))) refused))
+    at true b =
+        laid-carries K true unprinted 0 (k·.listedIn s (ascii "bs") objects) (k·.listedIn s (ascii "as") objects)
+        (record { compared = λ e. (refl, refl); none = λ e h. refl; number = λ e. refl })
+    at false true =
+        then-read (Carrying K) (only (valuesOf s (ascii "c") (together objects))) _ (λ c.
+        then-read (Carrying K) (quotedChecksumAt s c) _ (λ sum.
+        laid-carries K false (printed sum) 0 (k·.listedIn s (ascii "b") objects) (k·.listedIn s (ascii "a") objects)
+        (record { compared = λ e. not-unprinted sum e; none = λ e h. absurd (false≢true h); number = λ e. refl })))
+    at false false = tt
+
+k-carries : (s : List ℕ) (f : Frame) → Read (Carrying K) (layoutK s f)
+unfolding layoutK
+k-carries s f = then-read (Carrying K) (wholeAt s (f .first)) _ (λ n. then-read (Carrying K) (all (objectAt 15 s) (f .objects)) _ (objects-carry s))
+
+m-carries : (s : List ℕ) (ms : List Pair) → Read (Carrying M) (layoutM s ms)
+unfolding layoutM
+m-carries s ms =
+    then-read P (only (valuesOf s (ascii "channel") ms)) _ (λ c.
+    then-read P (only (valuesOf s (ascii "product") ms)) _ (λ p.
+    then-read P (only (valuesOf s (ascii "type") ms)) _ (λ t.
+    then-read P (isSnapshotAt s t) _ (λ snapshot.
+    then-read P (only (valuesOf s (ascii "data") ms)) _ (λ d.
+    then-read P (objectAt 15 s d) _ (λ ds.
+    then-read P (only (valuesOf s (ascii "checksum") ms)) _ (λ k.
+    then-read P (checksumAt s k) _ (λ sum.
+    then-read P (only (valuesOf s (ascii "gsn") ms)) _ (λ g.
+    then-read P (wholeAt s g) _ (λ number.
+    laid-carries M snapshot (printed sum) number (m·.listedIn s (ascii "bids") ds) (m·.listedIn s (ascii "asks") ds)
+    (record { compared = λ e. not-unprinted sum e; none = λ e h. m-not-k e; number = λ e. m-not-k e })))))))))))
+  where
+    P : Layout → Type 0
+    P = Carrying M
+
+abbrev Heard-carries : Dialect → Heard → Type 0
+Heard-carries d h = Read (Carrying d) (h .layout)
+
+heard-carries : (d : Dialect) (t : Terms) (s : List ℕ) (a : Span) → Read (Heard-carries d) (heardIn d t s a)
+unfolding heardIn heardK heardM
+heard-carries K t s a = then-read (Heard-carries K) (andThen (arrayAt maxDepth s a) frameOf) _ (k-carries s)
+heard-carries M t s a = then-read (Heard-carries M) (objectAt maxDepth s a) _ (m-carries s)
+heard-carries Unknown t s a = tt
+
+-- ---- the message
+
+pub said-carries : (t : Terms) (s : List ℕ) (m : Message) → said t s ≡ says m → Carries (t .dialect) (m .snapshot) (m .checksum) (m .number)
+unfolding said saidOf messageOf
+said-carries t s m h = go (checked t s) (checked-either (λ a. Unit {0}) (Carrying (t .dialect)) none t s (heard-carries (t .dialect) t s (top s))) h
+  where
+    none : Refusals (λ a. Unit {0})
+    none = record { long = tt; not-json = tt; escaped = tt; not-ours = tt; layout = tt; entries = tt; decimal = tt }
+
+    go : (x : Checked) → Either (λ a. Unit {0}) (Carrying (t .dialect)) x → saidOf s x ≡ says m → Carries (t .dialect) (m .snapshot) (m .checksum) (m .number)
+    go (passes l) r g = let e : messageOf s l ≡ m = cc in rw (← e) r
+    go (fails a) r g = let z : _≡_ {A = ℕ} 0 1 = cc in absurd (omega arith)

@@ -1,0 +1,289 @@
+-- What a reference book does with a message: it refuses it and keeps all but its status, or takes it, and takes it exactly when it is acceptable.
+-- Assumes nothing.
+use mathlib.Core.Path.{_≡_, refl, sym, ap, _∙_}
+use mathlib.Core.List.{List}
+use mathlib.Core.Bool.{Bool, true, false, true≢false, false≢true, _&&_, _||_, not, cond}
+use Prim.Native.Nat.{ℕ, _≤_}
+use native.Mathlib.Omega.{arith}
+use borrow.Author.Tests.{ltb-false, le-ltb, leb-true, leb-false, lt-leb, eqb-true, eq-eqb, not-false}
+use lib.Dec.{leb, ltb, eqb}
+use lib.ListN.{length}
+use Rattle.decimal.specs.Digits.{Reading, reads, refused}
+use Rattle.settings.specs.Settings.{Terms}
+use Rattle.settings.specs.declared.Dialect.{Dialect}
+use Rattle.settings.specs.declared.Dialect.the-variants.{K, M, Unknown}
+use Rattle.side.specs.Side.{namesTwice}
+use Rattle.entries.specs.Places.{top}
+use Rattle.layout.specs.Layout.{Printed, printed, unprinted, Layout, Heard}
+use Rattle.message.specs.Answers.{number}
+use Rattle.message.specs.Meaning.{Message, Said, refuses, says, said, Checked, fails, passes, heardIn, checked, saidOf}
+use Rattle.message.specs.declared.Answer.{Answer}
+use Rattle.message.specs.declared.Answer.the-variants.{Taken, Shut, TooLong, NotJson, Escaped, NotOurs, BadLayout, TooManyEntries, BadDecimal, PriceTwice, NoSnapshot, OldNumber, TooManyLevels, WrongChecksum, NoLevel, NoRoom}
+use Rattle.book.specs.Reference.{Status, shut, waiting, live, isShut, isLive, Reference, checksumOf, pricesOf, namesPriceTwice, lacksSnapshot, isOld, hasTooMany, differs, hasWrongChecksum, bidsAfter, asksAfter, verdict, taken, leavesStatus, setWaiting, refusedBy, isTaken, answered, hearing, hear}
+use Rattle.settings.specs.Settings.{isM}
+use Rattle.book.proofs.Checks.{Refusals, Read, Either, checked-either}
+use Rattle.book.specs.Claims.{oneOf, unchanging, statusAfter, Ready, is-live, restarts, Agrees, carries-none, the-same, Acceptable, withStatus}
+
+-- ---- what a message is refused with: checks 2 to 8
+
+-- a refusal that a message can get
+refusal : Answer → Bool
+refusal a = not (isTaken a) && leb (number a) 13
+
+said-refusal : (t : Terms) (s : List ℕ) (a : Answer) → said t s ≡ refuses a → refusal a ≡ true
+unfolding said saidOf refusal isTaken number
+said-refusal t s a h = go (checked t s) (checked-either F (λ l. Unit {0}) every t s (any (heardIn (t .dialect) t s (top s)))) h
+  where
+    F : Answer → Type 0
+    F b = refusal b ≡ true
+
+    every : Refusals F
+    every = record { long = refl; not-json = refl; escaped = refl; not-ours = refl; layout = refl; entries = refl; decimal = refl }
+
+    any-layout : (x : Reading Layout) → Read (λ l. Unit {0}) x
+    any-layout (reads l) = tt
+    any-layout refused = tt
+
+    any : (x : Reading Heard) → Read (λ k. Read (λ l. Unit {0}) (k .layout)) x
+    any (reads k) = any-layout (k .layout)
+    any refused = tt
+
+    go : (x : Checked) → Either F (λ l. Unit {0}) x → saidOf s x ≡ refuses a → refusal a ≡ true
+    go (fails b) r g = let e : b ≡ a = cc in rw e at r
+    go (passes l) r g = let z : _≡_ {A = ℕ} 0 1 = cc in absurd (omega arith)
+
+-- ---- an answer is that of a taken message, or another
+
+pub taken-answer : (a : Answer) → isTaken a ≡ true → a ≡ Taken
+unfolding isTaken number
+taken-answer Taken h = refl
+taken-answer Shut h = absurd (false≢true h)
+taken-answer TooLong h = absurd (false≢true h)
+taken-answer NotJson h = absurd (false≢true h)
+taken-answer Escaped h = absurd (false≢true h)
+taken-answer NotOurs h = absurd (false≢true h)
+taken-answer BadLayout h = absurd (false≢true h)
+taken-answer TooManyEntries h = absurd (false≢true h)
+taken-answer BadDecimal h = absurd (false≢true h)
+taken-answer PriceTwice h = absurd (false≢true h)
+taken-answer NoSnapshot h = absurd (false≢true h)
+taken-answer OldNumber h = absurd (false≢true h)
+taken-answer TooManyLevels h = absurd (false≢true h)
+taken-answer WrongChecksum h = absurd (false≢true h)
+taken-answer NoLevel h = absurd (false≢true h)
+taken-answer NoRoom h = absurd (false≢true h)
+
+pub is-taken : (a : Answer) → a ≡ Taken → isTaken a ≡ true
+unfolding isTaken number
+is-taken a h = rw (h, isTaken, number)
+
+refusal-other : (a : Answer) → refusal a ≡ true → isTaken a ≡ false
+unfolding refusal
+refusal-other a h = at (isTaken a) h
+  where
+    at : (b : Bool) → (not b && leb (number a) 13) ≡ true → b ≡ false
+    at true h = absurd (false≢true h)
+    at false h = refl
+
+refusal-number : (a : Answer) → refusal a ≡ true → number a ≤ 13
+unfolding refusal
+refusal-number a h = leb-true (number a) 13 (rw (refusal-other a h) at h)
+
+pub not-taken : (a : Answer) → isTaken a ≡ false → a ≡ Taken → ⊥
+not-taken a h e = true≢false (sym (is-taken a e) ∙ h)
+
+-- ---- the checks 9 to 13, each as a test and as a statement
+
+pub or-none : (a b : Bool) → (a || b) ≡ false → (a ≡ false) × (b ≡ false)
+or-none true b h = absurd (true≢false h)
+or-none false b h = (refl, h)
+
+neither : (a b : Bool) → a ≡ false → b ≡ false → (a || b) ≡ false
+neither a b h k = rw (h, k)
+
+-- a test that counts only in M
+in-m : (d : Dialect) (b : Bool) → (isM d && b) ≡ false → d ≡ M → b ≡ false
+unfolding isM
+in-m d b h e = rw (e, isM) at h
+
+only-m : (d : Dialect) (b : Bool) → (d ≡ M → b ≡ false) → (isM d && b) ≡ false
+unfolding isM
+only-m K b h = refl
+only-m M b h = h refl
+only-m Unknown b h = refl
+
+differs-none : (c : Printed) (sum : ℕ) → differs c sum ≡ false → Agrees c sum
+unfolding differs
+differs-none (printed n) sum h = the-same (ap printed (eqb-true n sum (not-false (eqb n sum) h)))
+differs-none unprinted sum h = carries-none refl
+
+agrees-same : (c : Printed) (sum : ℕ) → Agrees c sum → differs c sum ≡ false
+unfolding differs
+agrees-same c sum (carries-none e) = rw (e, differs)
+agrees-same c sum (the-same e) = rw (e, differs, eq-eqb sum sum refl)
+
+-- whichever test holds, the first gives the verdict
+none-fits : (a b c d e : Bool)
+    → isTaken (cond a PriceTwice (cond b NoSnapshot (cond c OldNumber (cond d TooManyLevels (cond e WrongChecksum Taken))))) ≡ true
+    → (a ≡ false) × (b ≡ false) × (c ≡ false) × (d ≡ false) × (e ≡ false)
+unfolding isTaken number
+none-fits true b c d e h = absurd (false≢true h)
+none-fits false true c d e h = absurd (false≢true h)
+none-fits false false true d e h = absurd (false≢true h)
+none-fits false false false true e h = absurd (false≢true h)
+none-fits false false false false true h = absurd (false≢true h)
+none-fits false false false false false h = (refl, refl, refl, refl, refl)
+
+some-fits : (a b c d e : Bool)
+    → isTaken (cond a PriceTwice (cond b NoSnapshot (cond c OldNumber (cond d TooManyLevels (cond e WrongChecksum Taken))))) ≡ false
+    → refusal (cond a PriceTwice (cond b NoSnapshot (cond c OldNumber (cond d TooManyLevels (cond e WrongChecksum Taken))))) ≡ true
+unfolding refusal isTaken number
+some-fits true b c d e h = refl
+some-fits false true c d e h = refl
+some-fits false false true d e h = refl
+some-fits false false false true e h = refl
+some-fits false false false false true h = refl
+some-fits false false false false false h = absurd (true≢false h)
+
+module _ (p : Reference) (m : Message) where
+  verdict-refusal : isTaken (verdict p m) ≡ false → refusal (verdict p m) ≡ true
+  unfolding verdict
+  verdict-refusal h = some-fits (namesPriceTwice m) (lacksSnapshot p m) (isOld p m) (hasTooMany p m) (hasWrongChecksum p m) h
+
+  ready-from : isShut (p .status) ≡ false → lacksSnapshot p m ≡ false → Ready p m
+  unfolding lacksSnapshot isShut isLive
+  ready-from u h = go (p .status) (m .snapshot) refl refl u h
+    where
+      go : (st : Status) (b : Bool) → p .status ≡ st → m .snapshot ≡ b → isShut st ≡ false → (not b && not (isLive st)) ≡ false → Ready p m
+      go shut b e k u h = absurd (true≢false u)
+      go waiting true e k u h = restarts e k
+      go waiting false e k u h = absurd (true≢false h)
+      go live b e k u h = is-live e
+
+  pub ready-open : Ready p m → isShut (p .status) ≡ false
+  unfolding isShut
+  ready-open (is-live e) = rw (e, isShut)
+  ready-open (restarts e k) = rw (e, isShut)
+
+  ready-has : Ready p m → lacksSnapshot p m ≡ false
+  unfolding lacksSnapshot isLive
+  ready-has (is-live e) = rw (e, lacksSnapshot, isLive) (at (m .snapshot))
+    where
+      at : (b : Bool) → (not b && false) ≡ false
+      at true = refl
+      at false = refl
+  ready-has (restarts e k) = rw (k, lacksSnapshot)
+
+  verdict-acceptable : isShut (p .status) ≡ false → isTaken (verdict p m) ≡ true → Acceptable p m
+  unfolding verdict namesPriceTwice isOld hasTooMany hasWrongChecksum
+  verdict-acceptable u h =
+      let f = none-fits (namesPriceTwice m) (lacksSnapshot p m) (isOld p m) (hasTooMany p m) (hasWrongChecksum p m) h in
+      let d : Dialect = p .terms .dialect in
+      record {
+        ready = ready-from u (f .1);
+        once = λ k. or-none (namesTwice (pricesOf (m .bids))) (namesTwice (pricesOf (m .asks))) (rw k at (f .0));
+        newer = λ e k. leb-false (m .number) (p .number) (rw k at (in-m d (not (m .snapshot) && leb (m .number) (p .number)) (f .2) e));
+        few = λ e.
+            let o = or-none (ltb 100 (length (bidsAfter p m))) (ltb 100 (length (asksAfter p m))) (in-m d _ (f .3) e) in
+            (ltb-false 100 (length (bidsAfter p m)) (o .0), ltb-false 100 (length (asksAfter p m)) (o .1));
+        checksum = differs-none (m .checksum) (checksumOf d (bidsAfter p m) (asksAfter p m)) (f .4);
+      }
+
+  acceptable-once : Acceptable p m → namesPriceTwice m ≡ false
+  unfolding namesPriceTwice
+  acceptable-once a = at (m .snapshot) refl
+    where
+      at : (b : Bool) → m .snapshot ≡ b → (b && (namesTwice (pricesOf (m .bids)) || namesTwice (pricesOf (m .asks)))) ≡ false
+      at true k = neither _ _ (a .once k .0) (a .once k .1)
+      at false k = refl
+
+  acceptable-newer : Acceptable p m → isOld p m ≡ false
+  unfolding isOld
+  acceptable-newer a = only-m (p .terms .dialect) _ (λ e. at (m .snapshot) refl e)
+    where
+      at : (b : Bool) → m .snapshot ≡ b → p .terms .dialect ≡ M → (not b && leb (m .number) (p .number)) ≡ false
+      at true k e = refl
+      at false k e = lt-leb (m .number) (p .number) (a .newer e k)
+
+  acceptable-few : Acceptable p m → hasTooMany p m ≡ false
+  unfolding hasTooMany
+  acceptable-few a =
+      only-m (p .terms .dialect) _ (λ e. neither _ _ (le-ltb 100 (length (bidsAfter p m)) (a .few e .0)) (le-ltb 100 (length (asksAfter p m)) (a .few e .1)))
+
+  acceptable-verdict : Acceptable p m → verdict p m ≡ Taken
+  unfolding verdict hasWrongChecksum
+  acceptable-verdict a =
+      let h = agrees-same (m .checksum) (checksumOf (p .terms .dialect) (bidsAfter p m) (asksAfter p m)) (a .checksum) in
+      rw (acceptable-once a, ready-has (a .ready), acceptable-newer a, acceptable-few a, h)
+
+-- ---- a message is refused or taken
+
+pub data Outcome (p : Reference) (s : List ℕ) : Type 0 where
+  is-refused : isTaken (hear p s .answer) ≡ false → number (hear p s .answer) ≤ 13 → isShut (statusAfter (hear p s .answer) (p .status)) ≡ isShut (p .status)
+      → hear p s .book ≡ withStatus (statusAfter (hear p s .answer) (p .status)) p → Outcome p s
+  is-accepted : (m : Message) → said (p .terms) s ≡ says m → Acceptable p m → hear p s ≡ record { book = taken p m; answer = Taken } → Outcome p s
+
+-- the table's last column, by number
+leaves-number : (a : Answer) → leavesStatus a ≡ oneOf unchanging (number a)
+unfolding leavesStatus oneOf number
+leaves-number Taken = refl
+leaves-number Shut = refl
+leaves-number TooLong = refl
+leaves-number NotJson = refl
+leaves-number Escaped = refl
+leaves-number NotOurs = refl
+leaves-number BadLayout = refl
+leaves-number TooManyEntries = refl
+leaves-number BadDecimal = refl
+leaves-number PriceTwice = refl
+leaves-number NoSnapshot = refl
+leaves-number OldNumber = refl
+leaves-number TooManyLevels = refl
+leaves-number WrongChecksum = refl
+leaves-number NoLevel = refl
+leaves-number NoRoom = refl
+
+refused-book : (p : Reference) (a : Answer) → refusedBy p a .book ≡ withStatus (statusAfter a (p .status)) p
+unfolding refusedBy withStatus statusAfter setWaiting
+refused-book p a = rw (leaves-number a) (at (oneOf unchanging (number a)))
+  where
+    at : (b : Bool) → cond b p (setWaiting p) ≡ withStatus (cond b (p .status) waiting) p
+    at true = refl
+    at false = refl
+
+stays-open : (a : Answer) (status : Status) → isShut status ≡ false → isShut (statusAfter a status) ≡ isShut status
+unfolding statusAfter isShut
+stays-open a status u = at (oneOf unchanging (number a))
+  where
+    at : (b : Bool) → isShut (cond b status waiting) ≡ isShut status
+    at true = refl
+    at false = sym u
+
+module _ (p : Reference) (s : List ℕ) where
+  refusing : (a : Answer) → refusal a ≡ true → isShut (statusAfter a (p .status)) ≡ isShut (p .status) → hear p s ≡ refusedBy p a → Outcome p s
+  unfolding refusedBy
+  refusing a h k e = is-refused (rw e (refusal-other a h)) (rw e (refusal-number a h)) (rw e k) (rw e (refused-book p a))
+
+  pub acceptable-taken : (m : Message) → said (p .terms) s ≡ says m → Acceptable p m → hear p s ≡ record { book = taken p m; answer = Taken }
+  unfolding hear hearing answered isTaken number
+  acceptable-taken m q a = rw (ready-open p m (a .ready), q, hear, hearing, acceptable-verdict p m a, answered, isTaken, number)
+
+  shut-out : isShut (p .status) ≡ true → Outcome p s
+  unfolding hear refusal isTaken number oneOf refusedBy leavesStatus statusAfter
+  shut-out u = refusing Shut refl refl (rw (u, hear))
+
+  pub outcome : Outcome p s
+  unfolding hear hearing answered
+  outcome = open-or-shut (isShut (p .status)) refl
+    where
+      weighed : (m : Message) → isShut (p .status) ≡ false → said (p .terms) s ≡ says m → (b : Bool) → isTaken (verdict p m) ≡ b → Outcome p s
+      weighed m u q true h = let a = verdict-acceptable p m u h in is-accepted m q a (acceptable-taken m q a)
+      weighed m u q false h = refusing (verdict p m) (verdict-refusal p m h) (stays-open (verdict p m) (p .status) u) (rw (u, q, hear, hearing, answered, h))
+
+      by-text : isShut (p .status) ≡ false → (x : Said) → said (p .terms) s ≡ x → Outcome p s
+      by-text u (refuses a) q = refusing a (said-refusal (p .terms) s a q) (stays-open a (p .status) u) (rw (u, q, hear, hearing))
+      by-text u (says m) q = weighed m u q (isTaken (verdict p m)) refl
+
+      open-or-shut : (b : Bool) → isShut (p .status) ≡ b → Outcome p s
+      open-or-shut true u = shut-out u
+      open-or-shut false u = by-text u (said (p .terms) s) refl

@@ -1,0 +1,97 @@
+-- What questions and the writer answer: which answers they have, what they show where they are refused, and that a book that is not live gives none.
+-- Assumes nothing.
+use mathlib.Core.Path.{_≡_, refl}
+use mathlib.Core.List.{List}
+use mathlib.Core.Bool.{Bool, true, false, true≢false, _&&_, cond}
+use Prim.Native.Nat.{ℕ}
+use lib.Dec.{ltb}
+use lib.ListN.{length}
+use Rattle.message.specs.Answers.{number}
+use Rattle.message.specs.declared.Answer.{Answer}
+use Rattle.message.specs.declared.Answer.the-variants.{Taken, Shut, NoSnapshot, NoLevel, NoRoom}
+use Rattle.book.specs.Reference.{isShut, isLive, Reference, isTaken, stands, asked, ifTaken, noLevel, sideOf, Place, standing, absent, placeAt, placeAnswer, placeLevel, askedLevel, snapshotText, askedWriting, Ask, message, howMany, levelAt, whichNumber, howManyUpdates, write, does}
+use Rattle.book.specs.Claims.{isMessage, isCurrent, asksPrice}
+use Rattle.book.specs.declared.Scope.{Scope}
+use Rattle.book.specs.declared.Scope.the-variants.{Current, LastGood}
+
+-- ---- a question answers 0, 1, 10, 14 or 15
+
+module _ (P : Answer → Type 0) (p-taken : P Taken) (p-shut : P Shut) (p-no-snapshot : P NoSnapshot) (p-no-level : P NoLevel) (p-no-room : P NoRoom) (p : Reference) where
+  asked-one : (scope : Scope) → P (asked scope p)
+  unfolding asked
+  asked-one scope = at (isShut (p .status)) (stands scope p)
+    where
+      at : (a b : Bool) → P (cond a Shut (cond b Taken NoSnapshot))
+      at true b = p-shut
+      at false true = p-taken
+      at false false = p-no-snapshot
+
+  then-one : (a b : Answer) → P a → P b → P (ifTaken a b a)
+  unfolding ifTaken
+  then-one a b h k = at (isTaken a)
+    where
+      at : (t : Bool) → P (cond t b a)
+      at true = k
+      at false = h
+
+  place-one : (x : Place) → P (placeAnswer x)
+  unfolding placeAnswer
+  place-one (standing l) = p-taken
+  place-one absent = p-no-level
+
+  room-one : (b : Bool) → P (cond b NoRoom Taken)
+  room-one true = p-no-room
+  room-one false = p-taken
+
+  pub question-one : (ask : Ask) (buffer : List ℕ) → isMessage ask ≡ false → P (does p ask buffer .answer)
+  unfolding does isMessage askedLevel askedWriting
+  question-one (message s) buffer h = absurd (true≢false h)
+  question-one (howMany scope) buffer h = asked-one scope
+  question-one (levelAt scope side i) buffer h = then-one (asked scope p) (placeAnswer (placeAt i (sideOf side p))) (asked-one scope) (place-one (placeAt i (sideOf side p)))
+  question-one (whichNumber scope) buffer h = asked-one scope
+  question-one (howManyUpdates scope) buffer h = asked-one scope
+  question-one write buffer h =
+      let b = ltb (length buffer) (length (snapshotText p)) in
+      then-one (asked Current p) (cond b NoRoom Taken) (asked-one Current) (room-one b)
+
+-- ---- a refused one shows zeros
+
+pub if-refused : {A : Type 0} (a : Answer) (x z : A) → isTaken a ≡ false → ifTaken a x z ≡ z
+unfolding ifTaken
+if-refused a x z h = rw (h, ifTaken)
+
+pub no-level : (a : Answer) (x : Place) → isTaken (ifTaken a (placeAnswer x) a) ≡ false → ifTaken a (placeLevel x) noLevel ≡ noLevel
+unfolding ifTaken placeAnswer placeLevel isTaken number
+no-level a x h = at (isTaken a) x h
+  where
+    at : (t : Bool) (y : Place) → isTaken (cond t (placeAnswer y) a) ≡ false → cond t (placeLevel y) noLevel ≡ noLevel
+    at true (standing l) h = absurd (true≢false h)
+    at true absent h = refl
+    at false y h = refl
+
+-- ---- a book that is not live gives no current price
+
+asked-waits : (p : Reference) → isLive (p .status) ≡ false → isTaken (asked Current p) ≡ false
+unfolding asked stands isTaken number
+asked-waits p h = rw (h, asked, stands) (at (isShut (p .status)))
+  where
+    at : (b : Bool) → isTaken (cond b Shut NoSnapshot) ≡ false
+    at true = refl
+    at false = refl
+
+then-waits : (a b : Answer) → isTaken a ≡ false → isTaken (ifTaken a b a) ≡ false
+then-waits a b h = rw (if-refused a b a h) h
+
+in-scope : (scope : Scope) (f : Scope → Answer) → isTaken (f Current) ≡ false → (isCurrent scope && isTaken (f scope)) ≡ false
+unfolding isCurrent
+in-scope Current f h = h
+in-scope LastGood f h = refl
+
+pub no-answer : (p : Reference) (ask : Ask) (buffer : List ℕ) → isLive (p .status) ≡ false → (asksPrice ask && isTaken (does p ask buffer .answer)) ≡ false
+unfolding asksPrice does askedLevel askedWriting
+no-answer p (message s) buffer h = refl
+no-answer p (howMany scope) buffer h = in-scope scope (λ x. asked x p) (asked-waits p h)
+no-answer p (levelAt scope side i) buffer h = in-scope scope (λ x. askedLevel x side i p) (then-waits (asked Current p) (placeAnswer (placeAt i (sideOf side p))) (asked-waits p h))
+no-answer p (whichNumber scope) buffer h = in-scope scope (λ x. asked x p) (asked-waits p h)
+no-answer p (howManyUpdates scope) buffer h = in-scope scope (λ x. asked x p) (asked-waits p h)
+no-answer p write buffer h = then-waits (asked Current p) (cond (ltb (length buffer) (length (snapshotText p))) NoRoom Taken) (asked-waits p h)

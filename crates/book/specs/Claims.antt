@@ -1,0 +1,223 @@
+-- What is claimed of reference books, as statements; `proofs/Claims` proves each under its own name. No code enters here: the contracts say that the
+-- code's book shows a reference book at every step. Assumes nothing: these are definitions.
+use Prim.Native.Nat.{ℕ, _≤_, _<_}
+use mathlib.Core.Path.{_≡_}
+use mathlib.Core.Bool.{Bool, true, false, _&&_, _||_, cond}
+use mathlib.Core.List.{List, [], _∷_, _++_}
+use lib.Dec.{eqb}
+use lib.ListN.{length}
+use Rattle.settings.specs.Settings.{Terms, kept}
+use Rattle.settings.specs.declared.Dialect.{Dialect}
+use Rattle.settings.specs.declared.Dialect.the-variants.{K, M}
+use Rattle.side.specs.Side.{namesTwice}
+use Rattle.layout.specs.Layout.{Printed, printed, unprinted}
+use Rattle.message.specs.Answers.{number as numberOf}
+use Rattle.message.specs.Meaning.{Message, Said, refuses, says, said}
+use Rattle.message.specs.declared.Answer.{Answer}
+use Rattle.message.specs.declared.Answer.the-variants.{Taken}
+use Rattle.book.specs.Reference.{Status, waiting, live, Reference, isLive, opened, bidsAfter, asksAfter, maxLevels, pricesOf, checksumOf, taken, isTaken, hear, Value, nothing, counts, level, amount, Reply, noLevel, Ask, message, howMany, levelAt, whichNumber, howManyUpdates, write, does, Call, run, final}
+use Rattle.book.specs.declared.Scope.{Scope}
+use Rattle.book.specs.declared.Scope.the-variants.{Current, LastGood}
+
+-- ---- demand 1: every call on every book has an answer of the table, and a refusal touches nothing but the status, as the table's last column says.
+-- Rules out a refusal that loses levels, a half-applied message, a value beside a refusal, and a question that changes something.
+
+-- "A refused one answers 0 in place of every count, level, book number and length."
+unfoldable pub zeros : Ask → Value
+zeros (message s) = nothing
+zeros (howMany scope) = counts 0 0
+zeros (levelAt scope side i) = level noLevel
+zeros (whichNumber scope) = amount 0
+zeros (howManyUpdates scope) = amount 0
+zeros write = amount 0
+
+unfoldable pub oneOf : List ℕ → ℕ → Bool
+oneOf [] n = false
+oneOf (k ∷ ks) n = eqb n k || oneOf ks n
+
+-- The table's last column: the refusals that leave the book unchanged; the others set it waiting.
+abbrev pub unchanging : List ℕ
+unchanging = 1 ∷ 5 ∷ 10 ∷ 14 ∷ 15 ∷ []
+
+unfoldable pub statusAfter : Answer → Status → Status
+statusAfter a status = cond (oneOf unchanging (numberOf a)) status waiting
+
+unfoldable pub isMessage : Ask → Bool
+isMessage (message s) = true
+isMessage (howMany scope) = false
+isMessage (levelAt scope side i) = false
+isMessage (whichNumber scope) = false
+isMessage (howManyUpdates scope) = false
+isMessage write = false
+
+unfoldable pub isWrite : Ask → Bool
+isWrite (message s) = false
+isWrite (howMany scope) = false
+isWrite (levelAt scope side i) = false
+isWrite (whichNumber scope) = false
+isWrite (howManyUpdates scope) = false
+isWrite write = true
+
+-- "Waiting" keeps levels, number and count as last good.
+pub record Refused (p : Reference) (ask : Ask) (lent : List ℕ) (r : Reply) : Type 0 where
+  pub terms : r .after .terms ≡ p .terms
+  pub status : r .after .status ≡ statusAfter (r .answer) (p .status)
+  pub bids : r .after .bids ≡ p .bids
+  pub asks : r .after .asks ≡ p .asks
+  pub number : r .after .number ≡ p .number
+  pub updates : r .after .updates ≡ p .updates
+  pub ever : r .after .ever ≡ p .ever
+  pub value : r .value ≡ zeros ask
+  pub buffer : r .buffer ≡ lent
+
+pub record Demand1 (p : Reference) (ask : Ask) (buffer : List ℕ) : Type 0 where
+  pub in-table : numberOf (does p ask buffer .answer) ≤ 15
+  -- "Questions and the writer use 1, 10, 14, 15", and a message the checks before 14.
+  pub of-question : isMessage ask ≡ false → oneOf (0 ∷ 1 ∷ 10 ∷ 14 ∷ 15 ∷ []) (numberOf (does p ask buffer .answer)) ≡ true
+  pub of-message : isMessage ask ≡ true → numberOf (does p ask buffer .answer) ≤ 13
+  pub refused : (does p ask buffer .answer ≡ Taken → ⊥) → Refused p ask buffer (does p ask buffer)
+  -- "Questions and the writer .. change no book", answered or not.
+  pub question : isMessage ask ≡ false → does p ask buffer .after ≡ p
+  -- Only the writer writes.
+  pub others-buffer : isWrite ask ≡ false → does p ask buffer .buffer ≡ buffer
+
+abbrev pub Demand-1 : Type 0
+Demand-1 = (p : Reference) (ask : Ask) (buffer : List ℕ) → Demand1 p ask buffer
+
+-- ---- demand 2: a message is taken exactly when it can be, and then the book is the one that the rules give.
+-- Rules out a book that refuses everything, one that takes what it should refuse, and one that answers 0 and leaves the book alone.
+
+-- Live, or waiting and handed a snapshot.
+pub data Ready (p : Reference) (m : Message) : Type 0 where
+  is-live : p .status ≡ live → Ready p m
+  restarts : p .status ≡ waiting → m .snapshot ≡ true → Ready p m
+
+-- K snapshots carry no checksum; all others are compared.
+pub data Agrees (c : Printed) (sum : ℕ) : Type 0 where
+  carries-none : c ≡ unprinted → Agrees c sum
+  the-same : c ≡ printed sum → Agrees c sum
+
+pub record Acceptable (p : Reference) (m : Message) : Type 0 where
+  pub ready : Ready p m
+  -- A snapshot names no price twice on a side.
+  pub once : m .snapshot ≡ true → (namesTwice (pricesOf (m .bids)) ≡ false) × (namesTwice (pricesOf (m .asks)) ≡ false)
+  -- An M update's number is greater than the book's.
+  pub newer : p .terms .dialect ≡ M → m .snapshot ≡ false → p .number < m .number
+  -- An M book has at most 100 levels a side afterwards.
+  pub few : p .terms .dialect ≡ M → (length (bidsAfter p m) ≤ maxLevels) × (length (asksAfter p m) ≤ maxLevels)
+  -- A checksum, if the message carries one, is that of the book afterwards.
+  pub checksum : Agrees (m .checksum) (checksumOf (p .terms .dialect) (bidsAfter p m) (asksAfter p m))
+
+pub record Demand2 (p : Reference) (s : List ℕ) : Type 0 where
+  pub only-when : hear p s .answer ≡ Taken → (m : Message) × (said (p .terms) s ≡ says m) × Acceptable p m
+  pub when : (m : Message) → said (p .terms) s ≡ says m → Acceptable p m → hear p s .answer ≡ Taken
+  pub then : (m : Message) → said (p .terms) s ≡ says m → hear p s .answer ≡ Taken → hear p s .book ≡ taken p m
+
+abbrev pub Demand-2 : Type 0
+Demand-2 = (p : Reference) (s : List ℕ) → Demand2 p s
+
+-- "K snapshots carry no checksum; all others are compared", and a K message has no sequence number. Rules out a message that gets by for want of a checksum.
+pub record Carries (d : Dialect) (snapshot : Bool) (checksum : Printed) (sequence : ℕ) : Type 0 where
+  pub compared : checksum ≡ unprinted → (d ≡ K) × (snapshot ≡ true)
+  pub none : d ≡ K → snapshot ≡ true → checksum ≡ unprinted
+  pub number : d ≡ K → sequence ≡ 0
+
+abbrev pub All-compared : Type 0
+All-compared = (t : Terms) (s : List ℕ) (m : Message) → said t s ≡ says m → Carries (t .dialect) (m .snapshot) (m .checksum) (m .number)
+
+-- ---- demand 3, of lists of calls
+
+abbrev pub call : Ask → List ℕ → Call
+call ask buffer = record { ask = ask; buffer = buffer }
+
+-- From any taken snapshot on, every reply, with every byte of buffer and the whole book afterwards, is what a new book with the same settings gives,
+-- handed that snapshot and what followed. Rules out a past that shows through a snapshot: an old level, number, count or gsn.
+abbrev pub From-snapshot : Type 0
+From-snapshot = (t : Terms) (cs ds : List Call) (s buffer : List ℕ) (m : Message) → said (kept t) s ≡ says m → m .snapshot ≡ true
+    → hear (final (opened t) cs) s .answer ≡ Taken
+    → run (opened t) (cs ++ (call (message s) buffer ∷ ds)) ≡ run (opened t) cs ++ run (opened t) (call (message s) buffer ∷ ds)
+
+-- The messages that a list of calls has taken, in their order.
+unfoldable pub ifAnswered : Answer → Said → List Message
+ifAnswered a (refuses b) = []
+ifAnswered a (says m) = cond (isTaken a) (m ∷ []) []
+
+unfoldable pub takenIn : Reference → Ask → List Message
+takenIn p (message s) = ifAnswered (hear p s .answer) (said (p .terms) s)
+takenIn p (howMany scope) = []
+takenIn p (levelAt scope side i) = []
+takenIn p (whichNumber scope) = []
+takenIn p (howManyUpdates scope) = []
+takenIn p write = []
+
+unfoldable pub takenOf : Reference → List Call → List Message
+takenOf p [] = []
+takenOf p (c ∷ cs) = takenIn p (c .ask) ++ takenOf (does p (c .ask) (c .buffer) .after) cs
+
+unfoldable pub anySnapshot : List Message → Bool
+anySnapshot [] = false
+anySnapshot (m ∷ ms) = m .snapshot || anySnapshot ms
+
+-- The latest snapshot and what follows it.
+unfoldable pub sinceSnapshot : List Message → List Message
+sinceSnapshot [] = []
+sinceSnapshot (m ∷ ms) = cond (anySnapshot ms) (sinceSnapshot ms) (cond (m .snapshot) (m ∷ ms) [])
+
+pub data Begins : List Message → Type 0 where
+  begins : (m : Message) (ms : List Message) → m .snapshot ≡ true → anySnapshot ms ≡ false → Begins (m ∷ ms)
+
+-- The rules alone, message after message.
+unfoldable pub rebuilt : Reference → List Message → Reference
+rebuilt p [] = p
+rebuilt p (m ∷ ms) = rebuilt (taken p m) ms
+
+unfoldable pub withStatus : Status → Reference → Reference
+withStatus status p = record { terms = p .terms; status = status; bids = p .bids; asks = p .asks; number = p .number; updates = p .updates; ever = p .ever }
+
+-- A live book is the one that the rules make of the latest taken snapshot and the messages taken after it, and of nothing else in the list. A book that
+-- waits after a snapshot is that one too, but for its status. Rules out a book that applies only the first message, or drops one, or keeps an invented count.
+pub record Latest (t : Terms) (cs : List Call) : Type 0 where
+  pub snapshot-first : final (opened t) cs .ever ≡ true → Begins (sinceSnapshot (takenOf (opened t) cs))
+  pub last-good : final (opened t) cs .ever ≡ true
+      → final (opened t) cs ≡ withStatus (final (opened t) cs .status) (rebuilt (opened t) (sinceSnapshot (takenOf (opened t) cs)))
+  pub ever : final (opened t) cs .status ≡ live → final (opened t) cs .ever ≡ true
+  pub current : final (opened t) cs .status ≡ live → final (opened t) cs ≡ rebuilt (opened t) (sinceSnapshot (takenOf (opened t) cs))
+
+abbrev pub Latest-snapshot : Type 0
+Latest-snapshot = (t : Terms) (cs : List Call) → Latest t cs
+
+-- "A K book's number is always 0."
+abbrev pub K-number : Type 0
+K-number = (t : Terms) (cs : List Call) → kept t .dialect ≡ K → final (opened t) cs .number ≡ 0
+
+-- "A current price is what the writer, or any of these questions but those on the last good book, gives with answer number 0."
+unfoldable pub isCurrent : Scope → Bool
+isCurrent Current = true
+isCurrent LastGood = false
+
+unfoldable pub asksPrice : Ask → Bool
+asksPrice (message s) = false
+asksPrice (howMany scope) = isCurrent scope
+asksPrice (levelAt scope side i) = isCurrent scope
+asksPrice (whichNumber scope) = isCurrent scope
+asksPrice (howManyUpdates scope) = isCurrent scope
+asksPrice write = true
+
+-- The replies of a list of calls that are current prices.
+unfoldable pub prices : Reference → List Call → List Reply
+prices p [] = []
+prices p (c ∷ cs) =
+    cond (asksPrice (c .ask) && isTaken (does p (c .ask) (c .buffer) .answer))
+    (does p (c .ask) (c .buffer) ∷ prices (does p (c .ask) (c .buffer) .after) cs)
+    (prices (does p (c .ask) (c .buffer) .after) cs)
+
+-- Before the first taken snapshot, and from a refusal that sets the book waiting until the next taken snapshot, no current price is given.
+-- Rules out a price from a book that the venue's checksum, or anything else, has put in doubt.
+pub record No-price : Type 0 where
+  -- A book that is not live takes no update.
+  pub update : (p : Reference) (s : List ℕ) (m : Message) → isLive (p .status) ≡ false → said (p .terms) s ≡ says m → m .snapshot ≡ false
+      → hear p s .answer ≡ Taken → ⊥
+  pub not-live : (p : Reference) (cs : List Call) → isLive (p .status) ≡ false → anySnapshot (takenOf p cs) ≡ false → prices p cs ≡ []
+  pub at-first : (t : Terms) (cs : List Call) → anySnapshot (takenOf (opened t) cs) ≡ false → prices (opened t) cs ≡ []
+  pub after-refusal : (p : Reference) (s : List ℕ) (cs : List Call) → (hear p s .answer ≡ Taken → ⊥) → oneOf unchanging (numberOf (hear p s .answer)) ≡ false
+      → anySnapshot (takenOf (hear p s .book) cs) ≡ false → prices (hear p s .book) cs ≡ []

@@ -1,0 +1,82 @@
+-- Worked examples: messages to a new book, with the answers and, after each, the counts of the book as it stands. Assumes nothing.
+use Prim.Native.Nat.{ℕ}
+use Prim.Native.String.{String}
+use mathlib.Core.Path.{_≡_, refl}
+use mathlib.Core.List.{List, [], _∷_, map}
+use Rattle.decimal.specs.Ascii.{ascii}
+use Rattle.settings.specs.declared.Dialect.the-variants.{K, M}
+use Rattle.settings.specs.Settings.{Terms}
+use Rattle.side.specs.Side.{All}
+use Rattle.message.specs.Answers.{number}
+use Rattle.book.specs.Reference.{Value, nothing, counts, Reply, message, howMany, Call, opened, run, final, snapshotText}
+use Rattle.book.specs.declared.Scope.the-variants.{Current}
+use Rattle.decimal.specs.Digits as d·
+use Rattle.decimal.specs.Decimal as d2·
+use Rattle.decimal.specs.Whole as d3·
+use Rattle.json_tokens.specs.Bytes as t1·
+use Rattle.json_tokens.specs.Tokens as t2·
+use Rattle.json.specs.Json as j1·
+use Rattle.json.specs.Names as j2·
+use Rattle.entries.specs.Places as p·
+use Rattle.entries.specs.Rows as r·
+use Rattle.layout.specs.Layout as l·
+use Rattle.message_k.specs.LayoutK as k·
+use Rattle.message_m.specs.LayoutM as m·
+use Rattle.message.specs.Meaning as w·
+use Rattle.settings.specs.Settings as s·
+use Rattle.side.specs.Side as side·
+use Rattle.crc32_spec.specs.Crc as crc·
+use Rattle.checksum.specs.Text as c·
+use Rattle.writer.specs.Snapshot as n·
+use Rattle.book.specs.Reference as b·
+
+m-book : Terms
+m-book = record { dialect = M; depth = 100; name = ascii "BTC-VND" }
+
+k-book : Terms
+k-book = record { dialect = K; depth = 10; name = ascii "XBT/USD" }
+
+-- each message, then the question how many bids and asks there are
+calls : List String → List Call
+calls [] = []
+calls (s ∷ ss) = record { ask = message (ascii s); buffer = [] } ∷ record { ask = howMany Current; buffer = [] } ∷ calls ss
+
+shown : Reply → ℕ × Value
+shown r = (number (r .answer), r .value)
+
+pub data Case : Type 0 where
+  -- a new book's answers
+  answers : Terms → List String → List (ℕ × Value) → Case
+  -- a snapshot that a new book takes and writes out again
+  writes : Terms → String → Case
+
+Holds : Case → Type 0
+Holds (answers t ss rs) = map shown (run (opened t) (calls ss)) ≡ rs
+Holds (writes t s) = snapshotText (final (opened t) (calls (s ∷ []))) ≡ ascii s
+
+table : List Case
+table =
+    -- the session of 01
+    answers m-book
+    ("{\"channel\":\"book\",\"product\":\"BTC-VND\",\"type\":\"snapshot\",\"data\":{\"bids\":[[\"9\",\"2\"]],\"asks\":[[\"10\",\"1\"]]},\"checksum\":1226559413,\"gsn\":7}"
+    ∷ "{\"channel\":\"trades\"}"
+    ∷ "{\"channel\":\"book\""
+    ∷ "{\"channel\":\"book\",\"product\":\"BTC-VND\",\"type\":\"update\",\"data\":{\"bids\":[],\"asks\":[]},\"checksum\":1226559413,\"gsn\":8}"
+    ∷ [])
+    ((0, nothing) ∷ (0, counts 1 1) ∷ (5, nothing) ∷ (0, counts 1 1) ∷ (3, nothing) ∷ (10, counts 0 0) ∷ (10, nothing) ∷ (10, counts 0 0) ∷ [])
+    -- a snapshot, an update, a wrong checksum, the snapshot again
+    ∷ answers k-book
+    ("[0,{\"as\":[[\"0.05005\",\"0.00000500\",\"0.000000\"]],\"bs\":[]},\"book-10\",\"XBT/USD\"]"
+    ∷ "[0,{\"b\":[[\"0.05000\",\"0.00000304\",\"1\"]],\"c\":\"3866222920\"},\"book-10\",\"XBT/USD\"]"
+    ∷ "[0,{\"b\":[[\"0.05000\",\"0.00000000\",\"2\"]],\"c\":\"1\"},\"book-10\",\"XBT/USD\"]"
+    ∷ "[0,{\"as\":[[\"0.05005\",\"0.00000500\",\"0.000000\"]],\"bs\":[]},\"book-10\",\"XBT/USD\"]"
+    ∷ [])
+    ((0, nothing) ∷ (0, counts 0 1) ∷ (0, nothing) ∷ (0, counts 1 1) ∷ (13, nothing) ∷ (10, counts 0 0) ∷ (0, nothing) ∷ (0, counts 0 1) ∷ [])
+    -- 01's two samples of what the writer writes
+    ∷ writes m-book "{\"channel\":\"book\",\"product\":\"BTC-VND\",\"type\":\"snapshot\",\"data\":{\"bids\":[[\"9\",\"2\"]],\"asks\":[[\"10\",\"1\"]]},\"checksum\":1226559413,\"gsn\":7}"
+    ∷ writes k-book "[0,{\"as\":[[\"0.05005\",\"0.00000500\",\"0.000000\"]],\"bs\":[]},\"book-10\",\"XBT/USD\"]"
+    ∷ []
+
+examples : All Holds table
+unfolding table Holds All calls shown m-book k-book number run final opened d·.isDigit d·.leading d·.valueFrom d·.fixed d·.significantIn d·.significant d·.written d2·.isWhole d2·.fractional d2·.pointed d2·.prefix d2·.read d2·.isZero d2·.text d2·.afterPoint d2·.value d3·.readWhole d3·.atMost d3·.readChecksum t1·.byteAt t1·.blank t1·.digit t1·.hexDigit t1·.escaped t2·.andThen t2·.run t2·.blanks t2·.digits t2·.someDigits t2·.closing t2·.separator t2·.stringRest t2·.string t2·.minus t2·.sign t2·.int t2·.fraction t2·.exponent t2·.number t2·.prefix t2·.word t2·.scalar t2·.ended t2·.chars t2·.escape t2·.hexes j1·.next j1·.before j1·.onward j1·.list j1·.listOf j1·.itemsEnd j1·.element j1·.member j1·.elements j1·.members j1·.value j1·.text j2·.part j2·.means j2·.holds j2·.hasBackslash p·.andThen p·.all p·.top p·.isString p·.contents p·.arrayAt p·.objectAt p·.valuesOf p·.only p·.inner p·.wholeAt p·.checksumAt p·.quotedChecksumAt r·.entriesAt k·.frameOf k·.escapedK k·.oursK k·.times k·.together k·.isSnapshot k·.eachHasOne k·.lastOf k·.isUpdate r·.rowK r·.entryK k·.listedOf k·.listedIn k·.objectsLayout k·.layoutK k·.heardK l·.listedAt l·.laid m·.someName m·.someString m·.escapedM m·.someMeans m·.oursM r·.rowM r·.entryM m·.isSnapshotAt m·.listedIn m·.layoutM m·.heardM r·.badPrice r·.badSize r·.badTexts w·.bad r·.numberAt w·.quoteAt w·.decimals w·.tooMany w·.counted w·.laidOut w·.addressed w·.heardIn w·.framed w·.alsoDecimals w·.checked w·.messageOf w·.saidOf w·.said s·.goodDepth s·.nameByte s·.nameBytes s·.goodName s·.good s·.kept side·.names side·.namesTwice side·.without side·.apply side·.applyAll side·.place side·.ranked crc·.bit crc·.bits crc·.step crc·.run crc·.crc c·.interleaved c·.colonJoined c·.mLevel c·.mText c·.mChecksum c·.joined c·.kLevel c·.kText c·.kChecksum d2·.withoutPoint d2·.withoutZeros d2·.stripped b·.isShut b·.isLive b·.editOf b·.cut b·.afterQuotes b·.bidsAfter b·.asksAfter s·.isM b·.checksumOf b·.namesPriceTwice b·.lacksSnapshot b·.isOld b·.hasTooMany b·.differs b·.hasWrongChecksum b·.verdict b·.oneMore b·.taken b·.leavesStatus b·.setWaiting b·.refusedBy b·.isTaken b·.answered b·.hearing b·.hear b·.stands b·.asked b·.ifTaken b·.does b·.textIn b·.snapshotText n·.quoted n·.commaJoined n·.array n·.kEntry n·.kSnapshot n·.mEntry n·.mSnapshot
+examples = (refl, (refl, (refl, (refl, tt))))

@@ -1,0 +1,47 @@
+-- `bad_in_frame` meets its contract: a message that another check refuses has none.
+use Rattle.message.proofs.FirstBad.{frame-fails, frame-ready, frame-bad}
+use mathlib.Core.Path.{_∙_}
+use denote.Ref.{now}
+use borrow.Author.Needs.{needs}
+use Rattle.message.proofs.bad.bad_in_frame.Statement.{statement}
+use Rattle.message.proofs.bad.bad_in_frame.Tie as tie
+
+read-frame-requires : tie.Need-read-frame-requires
+read-frame-requires c κs = search needs
+
+enum-told : tie.Need-enum-told
+enum-told c = search needs
+
+enum-known-outline : tie.Need-enum-known-outline
+enum-known-outline c = search needs
+
+is-m-requires : tie.Need-is-m-requires
+is-m-requires c κs = search needs
+
+bad-in-requires : tie.Need-bad-in-requires
+bad-in-requires c κs =
+    let a = c .before .before .before .before .before .before .before .args in
+    frame-ready (record { dialect = a .dialect; depth = a .depth; name = now (a .name) }) (now (a .s)) (c .before .before .before .before .before .before .before .pre) (c .before .before .before .before .read-frame .result) (c .before .before .before .before .read-frame .ensures) (c .before .before .outline .given .0 .0) (c .before .before .outline .given .1) (c .is-m .result) (c .is-m .ensures)
+
+returns : tie.Need-returns
+returns c =
+    let a = c .before .before .before .before .before .args in
+    frame-fails (record { dialect = a .dialect; depth = a .depth; name = now (a .name) }) (now (a .s)) (c .before .before .before .before .before .pre) (c .before .before .read-frame .result) (c .before .before .read-frame .ensures) (c .enum-told .given .0 .0) (c .enum-told .given .1)
+
+returns-2 : tie.Need-returns-2
+returns-2 c =
+    let a = c .before .before .before .before .before .before .before .before .args in
+    let e = c .bad-in .ensures in
+    record { is = e .is ∙ frame-bad (record { dialect = a .dialect; depth = a .depth; name = now (a .name) }) (now (a .s)) (c .before .before .before .before .before .before .before .before .pre) (c .before .before .before .before .before .read-frame .result) (c .before .before .before .before .before .read-frame .ensures) (c .before .before .before .outline .given .0 .0) (c .before .before .before .outline .given .1) (c .before .is-m .result) (c .before .is-m .ensures); within = e .within }
+
+pub bad-in-frame-spec : {M : Type 1} → statement M
+bad-in-frame-spec =
+    tie.close
+    (tie.spec
+    read-frame-requires
+    enum-told
+    enum-known-outline
+    is-m-requires
+    bad-in-requires
+    returns
+    returns-2)

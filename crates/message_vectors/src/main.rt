@@ -1,12 +1,12 @@
-// Runs the lines of standard input and writes what the crate `message` answers:
+// Runs the lines of standard input and writes a line for each, with what the crate `message` answers:
 //
 //     = DIALECT DEPTH NAME    the settings for what follows: a letter, digits, and the rest of the line
 //     < MESSAGE               a message
 //     + LENGTH MESSAGE        a message with blanks at its end up to a length
 //
 // Of a message it writes the number of the first of checks 1 to 8 that fails, or 0 and where the entries lie, the checksum and the
-// sequence number; then where the first bad decimal lies, and its text. Other lines are headings. What is to come was worked out
-// apart from the crate, by tools/message_vectors.py.
+// sequence number; then where the first bad decimal lies, and its text. Other lines are written as they are. What is to come was
+// worked out apart from the crate, by tools/message_vectors.py.
 use decimal::ParsedWhole;
 use layout::Outline;
 use libc::STDIN_FILENO;
@@ -39,10 +39,10 @@ fn main() {
     run_lines(&table[..n]);
 }
 
-fn empty_table() -> [u8; 131072]
-    ensures { λ r. ⌜ 131072 ≡ length r ⌝ }
+fn empty_table() -> [u8; 262144]
+    ensures { λ r. ⌜ 262144 ≡ length r ⌝ }
 {
-    [0; 131072]
+    [0; 262144]
 }
 
 fn run_lines(s: &[u8]) {
@@ -72,19 +72,22 @@ fn no_terms() -> Terms {
 fn run_line(s: &[u8], terms: Terms, from: usize, to: usize) -> Terms
     requires { ⌜ (from ≤ to) × (to ≤ length (now s)) ⌝ }
 {
-    write(&s[from..to]);
     if to - from < 2 {
         return terms;
     }
     let c = s[from];
     let start = from + 2;
-    if c == b'=' {
-        return read_terms(s, start, to);
-    }
     if c == b'<' {
         run_message(s, terms, &s[start..to]);
-    } else if c == b'+' {
+        return terms;
+    }
+    if c == b'+' {
         run_padded(s, terms, start, to);
+        return terms;
+    }
+    write(&s[from..to]);
+    if c == b'=' {
+        return read_terms(s, start, to);
     }
     terms
 }
@@ -176,11 +179,22 @@ fn run_message(s: &[u8], terms: Terms, text: &[u8]) {
 }
 
 fn tell(dialect: Dialect, depth: usize, name: &[u8], text: &[u8]) {
-    write(b"\n  ");
     match message::read(dialect, depth, name, text) {
         Verdict::Fails(answer) => write_number(number_of(answer)),
         Verdict::Passes(outline) => tell_outline(outline),
     }
+    tell_bad(dialect, depth, name, text);
+}
+
+// Where the first bad decimal lies, and its text.
+fn tell_bad(dialect: Dialect, depth: usize, name: &[u8], text: &[u8]) {
+    let part = message::bad_place(dialect, depth, name, text);
+    write(b" bad ");
+    write_number(part.from as u64);
+    write(b" ");
+    write_number(part.to as u64);
+    write(b" ");
+    write(message::bad_decimal(dialect, depth, name, text));
 }
 
 fn tell_outline(outline: Outline) {

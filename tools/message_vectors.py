@@ -143,9 +143,9 @@ class Read:
         self.snapshot, self.bids, self.asks, self.checksum, self.number = snapshot, bids, asks, checksum, number
 
 
-def once(members):
-    need(6, len(members) == 1)
-    return members[0]
+def once(values):
+    need(6, len(values) == 1)
+    return values[0]
 
 
 def of_kind(value, kind):
@@ -234,8 +234,8 @@ def check(dialect, depth, name, text):
     return said
 
 
-def side_line(label, side, rows):
-    return b" %s %d %d" % (label, side.start if side else 0, len(rows))
+def side_line(label, side, listed):
+    return b" %s %d %d" % (label, side.start if side else 0, len(listed))
 
 
 def answer(settings, text):
@@ -245,13 +245,13 @@ def answer(settings, text):
         said = check(dialect, depth, name, text)
     except Refused as refused:
         bad = refused.bad
-        place = b"%d %d %s" % (bad.start, bad.end, bad.text) if bad else b"0 0 "
+        place = b"%d %d %s" % (bad.start, bad.end, bad.text) if bad else b"0 0"
         return refused.number, b"%d bad %s" % (refused.number, place)
     line = b"0 snapshot" if said.snapshot else b"0 update"
     line += side_line(b"bids", said.bids, said.rows[0]) + side_line(b"asks", said.asks, said.rows[1])
     if said.checksum is not None:
         line += b" checksum %d" % said.checksum
-    return 0, line + b" number %d bad 0 0 " % said.number
+    return 0, line + b" number %d bad 0 0" % said.number
 
 
 # ---- messages
@@ -306,21 +306,28 @@ def nested(depth, opening="[", closing="]", inner=""):
 
 NOT_WHOLE = ["-0", "-1", "1.0", "1e0", "1E0", "0.0", "10000000000000000000", '""', "null", "true", "[]", "{}"]
 NOT_CHECKSUM = NOT_WHOLE + ["4294967296", "9999999999999999999"]
-NOT_CHECKSUM_TEXT = ["", " 5", "5 ", "05", "00", "-0", "-1", "+5", "1.0", "1e0", "0x5", "4294967296", "9999999999999999999", "10000000000000000000", "\\u0035", "5\\n"]
-NOT_ENTRIES = ["{}", "null", "5", '"x"', "[5]", '["1"]', "[null]", "[{}]", "[[]]", '[["1"]]', '[["1",2]]', '[[1,"2"]]', '[["1",null]]', '[["1",["2"]]]', '[{"1":"2"}]']
-NOT_DECIMAL = ["", "05", "00", "5.", ".5", "-1", "+1", "1e5", "1,5", "1.2.3", " 1", "1 ", "10000000000", "0.0000000001", "\\u0035", "5\\n", "x", "1.-5", "00.5", "0x1", "\x80"]
+NOT_CHECKSUM_TEXT = ["", " 5", "5 ", "05", "00", "-0", "-1", "+5", "1.0", "1e0", "0x5", "4294967296", "9999999999999999999", "10000000000000000000",
+                     "\\u0035", "5\\n"]
+NOT_ENTRIES = ["{}", "null", "5", '"x"', "[5]", '["1"]', "[null]", "[{}]", "[[]]", '[["1"]]', '[["1",2]]', '[[1,"2"]]', '[["1",null]]',
+               '[["1",["2"]]]', '[{"1":"2"}]']
+NOT_DECIMAL = ["", "05", "00", "5.", ".5", "-1", "+1", "1e5", "1,5", "1.2.3", " 1", "1 ", "10000000000", "0.0000000001", "\\u0035", "5\\n", "x",
+               "1.-5", "00.5", "0x1", "\x80"]
 DECIMALS = ["1", "9999999999", "0.000000001", "9999999999.999999999", "0.05120", "10.0"]
 ZEROS = ["0", "0.0", "0.000000000"]
 
 
 def json_cases():
     yield "not JSON, or JSON with odd values"
-    for text in ("", " ", " \t\r ", "x", "nul", "nulll", "True", "NaN", "Infinity", "'a'", '"', '"a', '"a" "b"', "[", "]", "[]]", "[1,]", "[,]", "[,1]", "[1 2]", "[1", "{", "}", "{,}",
-                 '{"a"}', '{"a":}', '{"a" 1}', "{a:1}", '{"a":1,}', '{"a":1 "b":2}', "{1:2}", '{"a":1', "[] x", "[1]{}", "//", "[1]//", "\xef\xbb\xbf[]", "\x80", "[\xff]",
-                 "\x0b[]", "\x0c[]", "\xa0[]", "01", "-", "+1", ".5", "1.", "1e", "1e+", "--1", "0x1", "-01", '"\x1f"', '"\t"', '"\\x"', '"\\\'"', '"\\U0041"', '"\\u004"',
+    for text in ("", " ", " \t\r ", "x", "nul", "nulll", "True", "NaN", "Infinity", "'a'", '"', '"a', '"a" "b"', "[", "]", "[]]", "[1,]", "[,]",
+                 "[,1]", "[1 2]", "[1", "{", "}", "{,}",
+                 '{"a"}', '{"a":}', '{"a" 1}', "{a:1}", '{"a":1,}', '{"a":1 "b":2}', "{1:2}", '{"a":1', "[] x", "[1]{}", "//", "[1]//",
+                 "\xef\xbb\xbf[]", "\x80", "[\xff]",
+                 "\x0b[]", "\x0c[]", "\xa0[]", "01", "-", "+1", ".5", "1.", "1e", "1e+", "--1", "0x1", "-01", '"\x1f"', '"\t"', '"\\x"', '"\\\'"',
+                 '"\\U0041"', '"\\u004"',
                  '"\\u00g0"', '"\\', '"\\"', '"\\u"', '["a\x01"]', '{"a\x02":1}'):
         yield 3, text
-    for text in ("7", '"x"', "true", "false", "null", "-0", "1E400", "1e-999", "123456789012345678901234567890.5", '"\\ud800"', '"\\udc00\\ud800"', '"\x7f"', '"\x80\xff"', '"\\"\\\\\\/\\b\\f\\n\\r\\t\\u00e9"',
+    for text in ("7", '"x"', "true", "false", "null", "-0", "1E400", "1e-999", "123456789012345678901234567890.5", '"\\ud800"', '"\\udc00\\ud800"',
+                 '"\x7f"', '"\x80\xff"', '"\\"\\\\\\/\\b\\f\\n\\r\\t\\u00e9"',
                  "[]", "{}", " [ ] ", "\t{ }\r", "[1,2,3]", '{"a":1,"a":2}'):
         yield 5, text
     for dialect, passed in (("K", lambda x: k(k_snapshot("[]", "[]", ("x", x)))), ("M", lambda x: m(("x", x)))):
@@ -337,8 +344,8 @@ def nesting_cases():
         step = 2 if opening.startswith("[{") else 1
         yield 5, nested(16 // step, opening, closing, inner)
         yield 3, nested(17 // step, opening, closing, "[]" if step == 2 else inner)
-    yield 3, "[%s,%s" % (nested(15), nested(16)) + "]"
-    yield 5, "[%s,%s" % (nested(15), nested(15)) + "]"
+    yield 3, "[%s,%s]" % (nested(15), nested(16))
+    yield 5, "[%s,%s]" % (nested(15), nested(15))
     for most, make in ((14, lambda x: k(k_snapshot("[]", "[]", ("x", x)))), (12, lambda x: k(k_snapshot(rows(k_row("1", "1", '"3"', x)))))):
         for depth in (most, most + 1, 16, 17):
             yield 0 if depth == most else 3, make(nested(depth)), "K"
@@ -358,7 +365,8 @@ def length_cases():
     for dialect, text in (("K", k(k_snapshot())), ("K", k(k_update())), ("M", m()), ("M", m(kind="update"))):
         yield 0, text, dialect, 32768
         yield 2, text, dialect, 32769
-    for number, text in ((3, ""), (3, "x"), (3, "[1]]"), (5, "[1,2,3]"), (4, '[1,2,"\\n","trade"]'), (6, k("{}")), (8, k(k_snapshot(rows(k_row("0")))))):
+    for number, text in ((3, ""), (3, "x"), (3, "[1]]"), (5, "[1,2,3]"), (4, '[1,2,"\\n","trade"]'), (6, k("{}")),
+                         (8, k(k_snapshot(rows(k_row("0")))))):
         yield number, text, "K", 32767
         yield number, text, "K", 32768
         yield 2, text, "K", 32769
@@ -369,16 +377,20 @@ def k_address_cases():
     yield "K: an array of four or five; channel and pair"
     snapshot = k_snapshot(rows(k_row()))
     yield 0, k(snapshot)
-    for text in ("[]", '[0,"book-10","XBT/USD"]', '["book-10","XBT/USD"]', k(snapshot, snapshot, snapshot), k(snapshot)[:-1] + ",1]", "{}", "7", m(), "[%s]" % k(snapshot)):
+    for text in ("[]", '[0,"book-10","XBT/USD"]', '["book-10","XBT/USD"]', k(snapshot, snapshot, snapshot), k(snapshot)[:-1] + ",1]", "{}", "7", m(),
+                 "[%s]" % k(snapshot)):
         yield 5, text
-    for channel in ('"book-25"', '"book-1"', '"book-100"', '"book-010"', '"book-10 "', '" book-10"', '"Book-10"', '"book10"', '"book-"', '"10"', '""', '"book-10\x80"', "10", "null", '["book-10"]', '{"book-10":1}', '["\\n"]'):
+    for channel in ('"book-25"', '"book-1"', '"book-100"', '"book-010"', '"book-10 "', '" book-10"', '"Book-10"', '"book10"', '"book-"', '"10"', '""',
+                    '"book-10\x80"', "10", "null", '["book-10"]', '{"book-10":1}', '["\\n"]'):
         yield 5, k(snapshot, channel=channel)
-    for pair in ('"XBT/EUR"', '"xbt/usd"', '"XBT/USD "', '"XBT/US"', '"XBT/USDT"', '""', "7", "null", '["XBT/USD"]', '["XBT\\/USD"]', '{"a\\n":"\\n"}'):
+    for pair in ('"XBT/EUR"', '"xbt/usd"', '"XBT/USD "', '"XBT/US"', '"XBT/USDT"', '""', "7", "null", '["XBT/USD"]', '["XBT\\/USD"]',
+                 '{"a\\n":"\\n"}'):
         yield 5, k(snapshot, pair=pair)
     yield 5, k(snapshot, channel='"XBT/USD"', pair='"book-10"')
     yield 5, '["book-10","XBT/USD",0,%s]' % snapshot
     yield "K: a backslash in either of the last two elements"
-    for channel, pair in (('"book-10"', '"XBT\\/USD"'), ('"book\\u002d10"', '"XBT/USD"'), ('"\\n"', '"trade"'), ('"trade"', '"\\\\"'), ("7", '"\\n"'), ('"\\n"', "7"), ('"\\n"', '"\\n"'), ("[]", '"BTC\\/USD"')):
+    for channel, pair in (('"book-10"', '"XBT\\/USD"'), ('"book\\u002d10"', '"XBT/USD"'), ('"\\n"', '"trade"'), ('"trade"', '"\\\\"'), ("7", '"\\n"'),
+                          ('"\\n"', "7"), ('"\\n"', '"\\n"'), ("[]", '"BTC\\/USD"')):
         yield 4, k(snapshot, channel=channel, pair=pair)
         yield 4, k("1", "2", channel=channel, pair=pair)
         yield 5, "[%s,%s,%s]" % (snapshot, channel, pair)
@@ -413,33 +425,44 @@ def k_object_cases():
         yield 6, k(k_snapshot(), other)
         yield 6, k(other, k_snapshot())
     yield "K: snapshots"
-    for good in ('{"as":[],"bs":[]}', '{"bs":[],"as":[]}', '{"x":1,"as":[],"y":[["0","0"]],"bs":[],"x":2}', '{"as":[],"bs":[],"AS":1,"asks":2,"":3,"d":4,"ab":5,"aas":6}',
-                 '{"as":[],"bs":[],"\\u0061s":[]}', '{"as":[],"bs":[],"\\u0063":"1"}', '{"as":[],"bs":[],"a\\n":[["0","0"]]}', '{"as":[],"bs":[],"x":{"c":"1","as":[]}}', '{"as":[],"bs":[],"channel":"\\n"}'):
+    for good in ('{"as":[],"bs":[]}', '{"bs":[],"as":[]}', '{"x":1,"as":[],"y":[["0","0"]],"bs":[],"x":2}',
+                 '{"as":[],"bs":[],"AS":1,"asks":2,"":3,"d":4,"ab":5,"aas":6}',
+                 '{"as":[],"bs":[],"\\u0061s":[]}', '{"as":[],"bs":[],"\\u0063":"1"}', '{"as":[],"bs":[],"a\\n":[["0","0"]]}',
+                 '{"as":[],"bs":[],"x":{"c":"1","as":[]}}', '{"as":[],"bs":[],"channel":"\\n"}'):
         yield 0, k(good)
-    for bad in ('{"as":[]}', '{"bs":[]}', '{"as":[],"as":[],"bs":[]}', '{"as":[],"bs":[],"bs":[]}', '{"as":[],"bs":[],"as":5}', '{"as":[],"bs":[],"a":[]}', '{"as":[],"bs":[],"b":[]}',
-                '{"as":[],"bs":[],"c":"1"}', '{"as":[],"bs":[],"c":1}', '{"as":[],"bs":[],"a":[],"b":[],"c":"1"}', '{"as":[],"b":[],"c":"1"}', '{"\\u0061s":[],"bs":[]}', '{"as":[],"b\\u0073":[]}',
+    for bad in ('{"as":[]}', '{"bs":[]}', '{"as":[],"as":[],"bs":[]}', '{"as":[],"bs":[],"bs":[]}', '{"as":[],"bs":[],"as":5}',
+                '{"as":[],"bs":[],"a":[]}', '{"as":[],"bs":[],"b":[]}',
+                '{"as":[],"bs":[],"c":"1"}', '{"as":[],"bs":[],"c":1}', '{"as":[],"bs":[],"a":[],"b":[],"c":"1"}', '{"as":[],"b":[],"c":"1"}',
+                '{"\\u0061s":[],"bs":[]}', '{"as":[],"b\\u0073":[]}',
                 '{"as":[],"asks":[]}', '{"x":{"as":[],"bs":[]}}', '{"as":[],"b":[]}', '{"a":[],"bs":[]}'):
         yield 6, k(bad)
     yield "K: a snapshot of two objects"
-    for pair in (('{"as":[]}', '{"bs":[]}'), ('{"bs":[]}', '{"as":[]}'), (k_snapshot(), "{}"), ("{}", k_snapshot()), (k_snapshot(), k_snapshot()), (k_snapshot(), '{"x":1}'), (k_snapshot(), '{"a":[],"c":"1"}'),
+    for pair in (('{"as":[]}', '{"bs":[]}'), ('{"bs":[]}', '{"as":[]}'), (k_snapshot(), "{}"), ("{}", k_snapshot()), (k_snapshot(), k_snapshot()),
+                 (k_snapshot(), '{"x":1}'), (k_snapshot(), '{"a":[],"c":"1"}'),
                  ('{"a":[]}', '{"as":[],"bs":[]}'), ('{"as":[],"a":[]}', '{"b":[],"c":"1"}'), ('{"a":[]}', '{"bs":[],"b":[],"c":"1"}')):
         yield 6, k(*pair)
 
 
 def k_update_cases():
     yield "K: updates of one object"
-    for good in ('{"a":[],"c":"1"}', '{"b":[],"c":"1"}', '{"a":[],"b":[],"c":"1"}', '{"c":"1","b":[],"a":[]}', '{"x":1,"c":"1","x":[["0","0"]],"b":[]}', '{"a":[],"c":"1","\\u0061":5,"\\u0063":5,"C":6}',
+    for good in ('{"a":[],"c":"1"}', '{"b":[],"c":"1"}', '{"a":[],"b":[],"c":"1"}', '{"c":"1","b":[],"a":[]}',
+                 '{"x":1,"c":"1","x":[["0","0"]],"b":[]}', '{"a":[],"c":"1","\\u0061":5,"\\u0063":5,"C":6}',
                  '{"b":[],"c":"1","\\u0062s":5,"\\u0062":[]}'):
         yield 0, k(good)
-    for bad in ('{"c":"1"}', '{"a":[]}', '{"b":[]}', '{"a":[],"b":[]}', '{"a":[],"a":[],"c":"1"}', '{"b":[],"a":[],"b":[],"c":"1"}', '{"a":[],"c":"1","c":"1"}', '{"a":[],"c":"1","as":[]}', '{"a":[],"c":"1","bs":[]}',
+    for bad in ('{"c":"1"}', '{"a":[]}', '{"b":[]}', '{"a":[],"b":[]}', '{"a":[],"a":[],"c":"1"}', '{"b":[],"a":[],"b":[],"c":"1"}',
+                '{"a":[],"c":"1","c":"1"}', '{"a":[],"c":"1","as":[]}', '{"a":[],"c":"1","bs":[]}',
                 '{"\\u0061":[],"c":"1"}', '{"a":[],"\\u0063":"1"}', '{"A":[],"c":"1"}', '{"a":[],"c":"1","c":5}', '{"x":{"a":[],"c":"1"}}'):
         yield 6, k(bad)
     yield "K: updates of two objects"
-    for pair in (('{"a":[]}', '{"b":[],"c":"1"}'), ('{"b":[]}', '{"a":[],"c":"1"}'), ('{"a":[],"x":1}', '{"c":"1","b":[],"x":2}'), ('{"a":[],"\\u0063":1}', '{"b":[],"c":"1"}'), ('{"b":[],"x":{"c":"1"}}', '{"a":[],"c":"1"}')):
+    for pair in (('{"a":[]}', '{"b":[],"c":"1"}'), ('{"b":[]}', '{"a":[],"c":"1"}'), ('{"a":[],"x":1}', '{"c":"1","b":[],"x":2}'),
+                 ('{"a":[],"\\u0063":1}', '{"b":[],"c":"1"}'), ('{"b":[],"x":{"c":"1"}}', '{"a":[],"c":"1"}')):
         yield 0, k(*pair)
-    for pair in (('{"a":[]}', '{"a":[],"c":"1"}'), ('{"b":[]}', '{"b":[],"c":"1"}'), ('{"a":[],"b":[]}', '{"b":[],"c":"1"}'), ('{"a":[]}', '{"a":[],"b":[],"c":"1"}'), ('{"a":[],"b":[]}', '{"c":"1"}'), ('{"a":[]}', '{"c":"1"}'),
-                 ("{}", '{"a":[],"b":[],"c":"1"}'), ('{"a":[],"c":"1"}', '{"b":[]}'), ('{"a":[],"c":"1"}', '{"b":[],"c":"1"}'), ('{"a":[]}', '{"b":[],"c":"1","c":"1"}'), ('{"a":[]}', '{"b":[]}'), ('{"a":[],"c":"1"}', "{}"),
-                 ('{"c":"1"}', '{"a":[],"b":[]}'), ('{"a":[],"a":[]}', '{"b":[],"c":"1"}'), ('{"c":"1"}', '{"a":[],"b":[],"c":"1"}'), ('{"a":[],"b":[]}', '{"a":[],"b":[],"c":"1"}')):
+    for pair in (('{"a":[]}', '{"a":[],"c":"1"}'), ('{"b":[]}', '{"b":[],"c":"1"}'), ('{"a":[],"b":[]}', '{"b":[],"c":"1"}'),
+                 ('{"a":[]}', '{"a":[],"b":[],"c":"1"}'), ('{"a":[],"b":[]}', '{"c":"1"}'), ('{"a":[]}', '{"c":"1"}'),
+                 ("{}", '{"a":[],"b":[],"c":"1"}'), ('{"a":[],"c":"1"}', '{"b":[]}'), ('{"a":[],"c":"1"}', '{"b":[],"c":"1"}'),
+                 ('{"a":[]}', '{"b":[],"c":"1","c":"1"}'), ('{"a":[]}', '{"b":[]}'), ('{"a":[],"c":"1"}', "{}"),
+                 ('{"c":"1"}', '{"a":[],"b":[]}'), ('{"a":[],"a":[]}', '{"b":[],"c":"1"}'), ('{"c":"1"}', '{"a":[],"b":[],"c":"1"}'),
+                 ('{"a":[],"b":[]}', '{"a":[],"b":[],"c":"1"}')):
         yield 6, k(*pair)
     yield "K: the checksum is a string holding a whole number"
     for printed in ("0", "5", "974947235", "4294967295"):
@@ -453,16 +476,20 @@ def k_update_cases():
 
 def k_entry_cases():
     yield "K: arrays of entries"
-    for bad in NOT_ENTRIES + ['[["1","2"]]', '[["1","2",3]]', '[["1",2,"3"]]', '[[1,"2","3"]]', '[["1","2",null]]', '[["1","2",["3"]]]', '[["1","2","3"],5]', '[["1","2","3"],["1","2"]]', '[[["1","2","3"]]]', '["1","2","3"]']:
+    for bad in NOT_ENTRIES + ['[["1","2"]]', '[["1","2",3]]', '[["1",2,"3"]]', '[[1,"2","3"]]', '[["1","2",null]]', '[["1","2",["3"]]]',
+                              '[["1","2","3"],5]', '[["1","2","3"],["1","2"]]', '[[["1","2","3"]]]', '["1","2","3"]']:
         yield 6, k(k_snapshot(bad))
         yield 6, k(k_snapshot("[]", bad))
         yield 6, k(members(("a", bad), ("c", '"1"')))
         yield 6, k(members(("a", "[]")), members(("b", bad), ("c", '"1"')))
-    for good in ("[ ]", '[["1","2","3"]]', '[["1","2",""]]', '[["1","2","\\n\\u0000\x80"]]', '[["1","2","3","r"]]', '[["1","2","3",4,null,[[]],{"a":5,"a":6},"\\n"]]', '[["1","2","x"],["1","2","y"]]', ' [ [ "1" , "2" , "3" ] , [ "4" , "5" , "6" ] ] '):
+    for good in ("[ ]", '[["1","2","3"]]', '[["1","2",""]]', '[["1","2","\\n\\u0000\x80"]]', '[["1","2","3","r"]]',
+                 '[["1","2","3",4,null,[[]],{"a":5,"a":6},"\\n"]]', '[["1","2","x"],["1","2","y"]]',
+                 ' [ [ "1" , "2" , "3" ] , [ "4" , "5" , "6" ] ] '):
         yield 0, k(k_snapshot(good, good))
         yield 0, k(members(("b", good), ("c", '"1"')))
         yield 0, k(members(("b", good)), members(("a", good), ("c", '"1"')))
-    for bad in ('[["1","2","3",]]', '[["1","2","3",x]]', '[["1","2","3",01]]', '[["1","2","3"]', '[["1","2","3"],]', '[["1","2" "3"]]', '[["1","2","3\x1f"]]', '[["1\\x","2","3"]]'):
+    for bad in ('[["1","2","3",]]', '[["1","2","3",x]]', '[["1","2","3",01]]', '[["1","2","3"]', '[["1","2","3"],]', '[["1","2" "3"]]',
+                '[["1","2","3\x1f"]]', '[["1\\x","2","3"]]'):
         yield 3, k(k_snapshot(bad))
     yield 0, '\t [ 0 , { "as" : [ [ "1" , "2" , "3" ] ] , "bs" : [ ] } , "book-10" , "XBT/USD" ] \r'
     yield 0, ' [0 ,{ "a":[ ]} , {"b" :[["1","0","3" , "r" ] ],"c": "1" },"book-10","XBT/USD"]'
@@ -471,7 +498,8 @@ def k_entry_cases():
 def m_address_cases():
     yield "M: an object; channel and product"
     yield 0, m()
-    for text in ("[]", "7", '"book"', "[%s]" % m(), k(k_snapshot()), "{}", '{"channel":"trades"}', '{"channel":"book"}', '{"product":"BTC-VND"}', '{"data":%s}' % m(), '["a\\n"]', '"\\n"'):
+    for text in ("[]", "7", '"book"', "[%s]" % m(), k(k_snapshot()), "{}", '{"channel":"trades"}', '{"channel":"book"}', '{"product":"BTC-VND"}',
+                 '{"data":%s}' % m(), '["a\\n"]', '"\\n"'):
         yield 5, text
     for channel in ('"trades"', '"Book"', '"book "', '""', '"boo"', '"books"', "7", "null", '["book"]', '{"book":"\\n"}', '["\\n"]'):
         yield 5, m(("channel", channel), leave=["channel"])
@@ -487,11 +515,15 @@ def m_address_cases():
     yield 6, '{"product":"x","channel":"y","product":"BTC-VND","channel":"book"}'
     yield 6, '{"channel":"book","product":"BTC-VND"}'
     yield "M: a backslash in a key of the object, in channel or in product"
-    for text in ('{"a\\n":1}', '{"\\u0061":1}', '{"x":1,"\\\\":2}', '{"chann\\u0065l":"trades"}', '{"channel":"bo\\u006fk"}', '{"channel":"\\n"}', '{"product":"BTC\\/USD"}', '{"product":"\\n","channel":"trades"}',
-                 '{"channel":"trades","channel":"\\n"}', '{"channel":"\\n","channel":"trades"}', '{"product":7,"product":"\\n"}', m(("x\\t", "1")), m(("dat\\u0061", "1")), m(("\\u0063hannel", '"book"')), m(("channel", '"boo\\u006b"')),
-                 m(("product", '"BTC\\u002dVND"'), leave=["product"]), m(("product", '"BTC\\u002dVND"')), m(("t\\u0079pe", '"update"'), leave=["type"])):
+    for text in ('{"a\\n":1}', '{"\\u0061":1}', '{"x":1,"\\\\":2}', '{"chann\\u0065l":"trades"}', '{"channel":"bo\\u006fk"}', '{"channel":"\\n"}',
+                 '{"product":"BTC\\/USD"}', '{"product":"\\n","channel":"trades"}',
+                 '{"channel":"trades","channel":"\\n"}', '{"channel":"\\n","channel":"trades"}', '{"product":7,"product":"\\n"}', m(("x\\t", "1")),
+                 m(("dat\\u0061", "1")), m(("\\u0063hannel", '"book"')), m(("channel", '"boo\\u006b"')),
+                 m(("product", '"BTC\\u002dVND"'), leave=["product"]), m(("product", '"BTC\\u002dVND"')),
+                 m(("t\\u0079pe", '"update"'), leave=["type"])):
         yield 4, text
-    for text in ('{"x":"\\n"}', '{"type":"\\n"}', '{"x":{"a\\n":1}}', '{"channel":["\\n"],"product":{"\\n":"\\n"}}', '{"data":{"channel":"\\n","product":"\\n"}}', '{"Channel":"\\n"}', '{"channels":"\\n"}'):
+    for text in ('{"x":"\\n"}', '{"type":"\\n"}', '{"x":{"a\\n":1}}', '{"channel":["\\n"],"product":{"\\n":"\\n"}}',
+                 '{"data":{"channel":"\\n","product":"\\n"}}', '{"Channel":"\\n"}', '{"channels":"\\n"}'):
         yield 5, text
     yield 0, m(("x", '"\\n"'))
     yield 0, m(("x", '{"a\\n":"\\n"}'))
@@ -516,11 +548,13 @@ def m_layout_cases():
     for kind in ("7", "null", '["update"]', '{"update":1}'):
         yield 6, m(("type", kind), leave=["type"])
     yield "M: data"
-    for bad in ("[]", "null", "7", '"x"', "{}", '{"bids":[]}', '{"asks":[]}', '{"bids":[],"asks":[],"bids":[]}', '{"asks":[],"bids":[],"asks":[]}', '{"bi\\u0064s":[],"asks":[]}', '{"bids":[],"\\u0061sks":[]}', '{"Bids":[],"asks":[]}',
+    for bad in ("[]", "null", "7", '"x"', "{}", '{"bids":[]}', '{"asks":[]}', '{"bids":[],"asks":[],"bids":[]}', '{"asks":[],"bids":[],"asks":[]}',
+                '{"bi\\u0064s":[],"asks":[]}', '{"bids":[],"\\u0061sks":[]}', '{"Bids":[],"asks":[]}',
                 '{"x":{"bids":[],"asks":[]}}', '[{"bids":[],"asks":[]}]', '{"bids":[],"asks":[],"asks":null}'):
         yield 6, m(data=bad)
         yield 6, m(kind="update", data=bad)
-    for good in ('{"asks":[],"bids":[]}', '{"bids":[],"asks":[],"gsn":5}', '{"gsn":"x","bids":[],"gsn":-1,"asks":[],"checksum":null}', '{"bids":[],"asks":[],"bi\\u0064s":5,"a":6,"as":7,"data":8}', '{ "bids" : [ ] , "asks" : [ ] }'):
+    for good in ('{"asks":[],"bids":[]}', '{"bids":[],"asks":[],"gsn":5}', '{"gsn":"x","bids":[],"gsn":-1,"asks":[],"checksum":null}',
+                 '{"bids":[],"asks":[],"bi\\u0064s":5,"a":6,"as":7,"data":8}', '{ "bids" : [ ] , "asks" : [ ] }'):
         yield 0, m(data=good)
         yield 0, m(kind="update", data=good)
     yield "M: checksum and gsn are JSON numbers written as whole numbers"
@@ -642,7 +676,8 @@ def settings_cases():
             texts = [message, "", "[1,2,3]", k(k_snapshot(rows(k_row("0"))), channel='"book-%d"' % depth)]
             numbers = [0, 3, 5, 8 if dialect == b"K" else 5] if good else [1] * 4
             yield (dialect, depth, name), list(zip(numbers, texts)) + [(2 if good else 1, "x", None, 32769)]
-    names = [(0, b"!"), (0, b"~"), (0, b"0123456789abcdef"), (0, b"it's"), (0, b"!#$%&()*+,-./:;<"), (0, b"=>?@[]^_`{|}~"), (0, b"book-10"), (1, b""), (1, b"0123456789abcdefg"), (1, b'a"b'), (1, b"a\\b"),
+    names = [(0, b"!"), (0, b"~"), (0, b"0123456789abcdef"), (0, b"it's"), (0, b"!#$%&()*+,-./:;<"), (0, b"=>?@[]^_`{|}~"), (0, b"book-10"), (1, b""),
+             (1, b"0123456789abcdefg"), (1, b'a"b'), (1, b"a\\b"),
              (1, b"a b"), (1, b" a"), (1, b"a "), (1, b" "), (1, b"a\x7f"), (1, b"\x80"), (1, b"a\x1f"), (1, b"a\t"), (1, b"\xff" * 16)]
     for expected, name in names:
         text = name.decode("latin-1")
@@ -680,7 +715,7 @@ def random_k(pick):
             return '"%s"' % (pick.randrange(MAX_CHECKSUM + 1) if pick.random() < 0.95 else pick.choice(NOT_CHECKSUM_TEXT))
         return random_entries(pick, k_row, ['"3"', '"r"', "4"]) if len(name) < 3 else "null"
 
-    spare = ["x", "xyz", "as", "bs", "a", "b", "c", "\\\\u0061", "\\u0062s"]
+    spare = ["x", "xyz", "as", "bs", "a", "b", "c", "\\u0061", "\\u0062s"]
     layouts = [["as", "bs"]], [["a", "b", "c"]], [["a", "c"]], [["b", "c"]], [["a"], ["b", "c"]], [["b"], ["a", "c"]]
     objects = [random_object(pick, names, value, spare) for names in pick.choice(layouts)]
     number = str(pick.randrange(10 ** 19)) if pick.random() < 0.97 else pick.choice(NOT_WHOLE)

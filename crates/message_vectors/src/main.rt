@@ -73,6 +73,7 @@ fn run_line(s: &[u8], terms: Terms, from: usize, to: usize) -> Terms
     requires { ⌜ (from ≤ to) × (to ≤ length (now s)) ⌝ }
 {
     if to - from < 2 {
+        write(&s[from..to]);
         return terms;
     }
     let c = s[from];
@@ -193,8 +194,11 @@ fn tell_bad(dialect: Dialect, depth: usize, name: &[u8], text: &[u8]) {
     write_number(part.from as u64);
     write(b" ");
     write_number(part.to as u64);
-    write(b" ");
-    write(message::bad_decimal(dialect, depth, name, text));
+    let bad = message::bad_decimal(dialect, depth, name, text);
+    if 0 < bad.len() {
+        write(b" ");
+        write(bad);
+    }
 }
 
 fn tell_outline(outline: Outline) {

@@ -116,13 +116,13 @@ fn take_update(book: Book, s: &[u8], outline: Outline) -> Step
     if is_over(m, bids.count, asks.count) {
         return refuse(book, Answer::TooManyLevels);
     }
-    let new_bids = bids.levels;
-    let new_asks = asks.levels;
+    let next_bids = bids.levels;
+    let next_asks = asks.levels;
     settle(
         book,
         outline,
-        new_bids,
-        new_asks,
+        next_bids,
+        next_asks,
         one_more(book.updates),
         book.ever,
     )

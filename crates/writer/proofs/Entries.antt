@@ -1,0 +1,121 @@
+-- Laws of the entries of a side: the texts that they are laid from. Assumes nothing.
+use mathlib.Core.Path.{_≡_, refl, sym, ap, ap₂, _∙_, subst}
+use mathlib.Core.Bool.{Bool, true, false, cond}
+use mathlib.Core.List.{List, [], _∷_, _++_, map, append-assoc, append-nil}
+use Prim.Native.Nat.{ℕ, _+_, _-_, _≤_, _<_}
+use native.Mathlib.Numerals.{add-one}
+use native.Mathlib.Omega.{arith}
+use lib.ListN.{length, getD, drop, length-append, drop-of-length-le}
+use lib.Seq.{drop-cons, getD-take, length-take-le}
+use Rattle.decimal.specs.Ascii.{ascii}
+use Rattle.decimal.specs.Decimal.{text}
+use Rattle.decimal.proofs.Text.{length-text}
+use Rattle.side.specs.declared.Level.{Level}
+use Rattle.side.specs.declared.Levels.{Levels}
+use Rattle.side.specs.Level.{levelPrice, levelSize, shown}
+use Rattle.side.specs.Kept.{held}
+use Rattle.side.proofs.All.{all-at}
+use Rattle.side.proofs.Entries.{none}
+use Rattle.writer.specs.Snapshot.{quoted, commaJoined, array, kEntry, mEntry}
+use Rattle.writer.specs.Parts.{entry, nextEntry, entries, Writable, WritableSide, maxEntry}
+
+-- What follows the size.
+unfoldable pub closing : Bool → List ℕ
+closing stamped = cond stamped (ascii "\",\"0.000000\"]") (ascii "\"]")
+
+pub stamped-closing : {stamped : Bool} → stamped ≡ true → closing stamped ≡ ascii "\",\"0.000000\"]"
+unfolding closing
+stamped-closing e = rw e
+
+pub plain-closing : {stamped : Bool} → stamped ≡ false → closing stamped ≡ ascii "\"]"
+unfolding closing
+plain-closing e = rw e
+
+abbrev pub fromSize : Bool → Level → List ℕ
+fromSize stamped level = text (levelSize level) ++ closing stamped
+
+abbrev pub fromPrice : Bool → Level → List ℕ
+fromPrice stamped level = text (levelPrice level) ++ (ascii "\",\"" ++ fromSize stamped level)
+
+pub entry-parts : (stamped : Bool) (level : Level) → entry stamped level ≡ ascii "[\"" ++ fromPrice stamped level
+unfolding entry kEntry mEntry array quoted commaJoined shown closing
+entry-parts true level = simp append-assoc
+entry-parts false level = simp append-assoc
+
+pub length-entry : (stamped : Bool) (level : Level) → length (entry stamped level) ≡ 5 + length (text (levelPrice level)) + length (text (levelSize level)) + length (closing stamped)
+length-entry stamped level = rw entry-parts (simp length-append (omega arith))
+
+closing-short : (stamped : Bool) → length (closing stamped) ≤ 13
+unfolding closing
+closing-short true = omega arith
+closing-short false = omega arith
+
+pub entry-short : (stamped : Bool) (level : Level) → Writable level → length (entry stamped level) ≤ maxEntry
+entry-short stamped level w =
+    let e = length-entry stamped level in
+    let p = length-text (levelPrice level) (w .price) in
+    let s = length-text (levelSize level) (w .size) in
+    let k = closing-short stamped in
+    omega arith
+
+-- ---- entries, each after a comma
+
+unfoldable pub led : Bool → List Level → List ℕ
+led stamped [] = []
+led stamped (level ∷ levels) = nextEntry stamped level ++ led stamped levels
+
+pub joined : (stamped : Bool) (level : Level) (levels : List Level) → commaJoined (map (entry stamped) (level ∷ levels)) ≡ entry stamped level ++ led stamped levels
+unfolding commaJoined led nextEntry
+joined stamped level [] = sym (append-nil (entry stamped level))
+joined stamped level (next ∷ levels) = ap (λ (l : List ℕ). entry stamped level ++ (ascii "," ++ l)) (joined stamped next levels)
+
+-- a comma fewer than entries
+length-joined : (stamped : Bool) (levels : List Level) → length (commaJoined (map (entry stamped) levels)) ≡ length (led stamped levels) - 1
+unfolding commaJoined led nextEntry
+length-joined stamped [] = refl
+length-joined stamped (level ∷ levels) = let e = ap length (joined stamped level levels) in omega arith
+
+-- ---- the entries of a side from a place on
+
+module _ (stamped : Bool) (kept : Levels) (writable : WritableSide kept) where
+  count-held : length (held kept) ≡ kept .count
+  unfolding held
+  count-held = let f = writable .few in let r = writable .room in length-take-le (kept .count) (kept .items) (omega arith)
+
+  module _ (i : ℕ) (inside : i < kept .count) where
+    at-place : getD (held kept) i none ≡ getD (kept .items) i none
+    unfolding held
+    at-place = getD-take (kept .count) (kept .items) i none inside
+
+    from-place : drop i (held kept) ≡ getD (kept .items) i none ∷ drop (i + 1) (held kept)
+    from-place =
+        let n = count-held in
+        drop-cons (held kept) i none (omega arith)
+        ∙ ap₂ (λ (x : Level) (k : ℕ). x ∷ drop k (held kept)) at-place (sym (add-one i))
+
+    pub writable-at : Writable (getD (kept .items) i none)
+    writable-at = let n = count-held in subst Writable at-place (all-at Writable (held kept) i none (omega arith) (writable .levels))
+
+    pub led-next : led stamped (drop i (held kept)) ≡ nextEntry stamped (getD (kept .items) i none) ++ led stamped (drop (i + 1) (held kept))
+    unfolding led
+    led-next = ap (led stamped) from-place
+
+    pub length-led : length (led stamped (drop i (held kept))) ≡ 1 + length (entry stamped (getD (kept .items) i none)) + length (led stamped (drop (i + 1) (held kept)))
+    unfolding nextEntry
+    length-led = let e = ap length led-next ∙ length-append (nextEntry stamped (getD (kept .items) i none)) (led stamped (drop (i + 1) (held kept))) in omega arith
+
+  pub led-end : (i : ℕ) → kept .count ≤ i → led stamped (drop i (held kept)) ≡ []
+  unfolding led
+  led-end i past = let n = count-held in ap (led stamped) (drop-of-length-le (held kept) {i = i} (omega arith))
+
+  pub entries-some : 0 < kept .count → entries stamped kept ≡ entry stamped (getD (kept .items) 0 none) ++ led stamped (drop 1 (held kept))
+  unfolding entries
+  entries-some some = ap (λ (l : List Level). commaJoined (map (entry stamped) l)) (from-place 0 some) ∙ joined stamped (getD (kept .items) 0 none) (drop 1 (held kept))
+
+  pub entries-none : kept .count ≡ 0 → entries stamped kept ≡ []
+  unfolding entries commaJoined held
+  entries-none zero = rw zero
+
+  pub length-entries : length (entries stamped kept) ≡ length (led stamped (held kept)) - 1
+  unfolding entries
+  length-entries = length-joined stamped (held kept)

@@ -1,0 +1,4 @@
+-- Laws, each file about the definitions that it is named after.
+pub mod Owed
+pub mod Entries
+pub mod Texts

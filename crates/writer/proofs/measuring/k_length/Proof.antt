@@ -1,0 +1,61 @@
+-- `k_length` meets its contract: the lengths of its texts, summed.
+use Prim.Native.Nat.{_+_, _≤_}
+use mathlib.Core.Path.{_≡_}
+use native.Mathlib.Omega.{arith}
+use borrow.Author.Needs.{needs}
+use lib.ListN.{length}
+use Rattle.writer.specs.Parts.{kText}
+use Rattle.writer.proofs.Texts.{length-k, whole-short}
+use Rattle.writer.proofs.measuring.k_length.Statement.{statement}
+use Rattle.writer.proofs.measuring.k_length.Tie as tie
+
+summed : (c : tie.After-whole-length) →
+    let s = c .before .before .before .before in
+    let n = 32 + (c .before .before .side-length .result + c .before .side-length2 .result) + c .whole-length .result + length (c .before .before .before .before .args .name .now) in
+    (n ≡ length (kText (s .args .depth) (s .args .name .now) (s .args .bids) (s .args .asks))) × (n ≤ 12000)
+summed c =
+    let s = c .before .before .before .before in
+    let k = length-k (s .args .depth) (s .args .name .now) (s .args .bids) (s .args .asks) in
+    let w = whole-short (s .args .depth) (s .fits .depth .fits) in
+    let e = c .whole-length .ensures in
+    let a = c .before .before .side-length .ensures in
+    let d = c .before .side-length2 .ensures in
+    let m = s .pre .2 in
+    (omega arith, omega arith)
+
+side-length-requires : tie.Need-side-length-requires
+side-length-requires c κs = search needs
+
+side-length-requires-2 : tie.Need-side-length-requires-2
+side-length-requires-2 c κs = search needs
+
+add-sides : tie.Need-add-sides
+add-sides c = search needs
+
+add-result : tie.Need-add-result
+add-result c = search needs
+
+whole-length-requires : tie.Need-whole-length-requires
+whole-length-requires c κs = search needs
+
+add-result-2 : tie.Need-add-result-2
+add-result-2 c = let n = summed c in omega arith
+
+add-result-3 : tie.Need-add-result-3
+add-result-3 c = let n = summed c in omega arith
+
+returns : tie.Need-returns
+returns c = summed c .0
+
+pub k-length-spec : {M : Type 1} → statement M
+k-length-spec =
+    tie.close
+    (tie.spec
+    side-length-requires
+    side-length-requires-2
+    add-sides
+    add-result
+    whole-length-requires
+    add-result-2
+    add-result-3
+    returns)

@@ -1,0 +1,102 @@
+-- `side_length` meets its contract: a comma and an entry at each turn, and the first has no comma.
+use Prim.Native.Nat.{_+_, _-_, _*_, _≤_}
+use mathlib.Core.Path.{_≡_, ap}
+use native.Mathlib.Nat.{zero-add}
+use native.Mathlib.Omega.{arith}
+use borrow.Author.Needs.{needs}
+use lib.ListN.{length, drop}
+use Rattle.side.specs.Kept.{held}
+use Rattle.writer.specs.Parts.{entries, maxEntry, maxSide}
+use Rattle.writer.proofs.Entries.{led, length-led, led-end, writable-at, length-entries}
+use Rattle.writer.proofs.measuring.side_length.Statement.{statement}
+use Rattle.writer.proofs.measuring.side_length.Tie as tie
+
+abbrev Inv-loop : tie.InvT-loop
+Inv-loop stamped levels count n₀ i₀ n i =
+    (n + length (led stamped (drop i (held levels))) ≡ length (led stamped (held levels))) × (n ≤ (maxEntry + 1) * i) × (i ≤ count)
+
+abbrev μ-loop : tie.MeasureT-loop
+μ-loop stamped levels count n₀ i₀ n i = count - i
+
+-- ---- a turn, and the end
+
+turned : (c : tie.After-entry-length Inv-loop μ-loop) →
+    let s = c .before .before .before .before in
+    let i = c .before .before .before .loop .i in
+    let n = c .before .before .before .loop .n + (1 + c .entry-length .result) in
+    (n + length (led (s .args .stamped) (drop (i + 1) (held (s .args .t2)))) ≡ length (led (s .args .stamped) (held (s .args .t2)))) × (n ≤ (maxEntry + 1) * (i + 1)) × (i + 1 ≤ s .args .t2 .count)
+turned c =
+    let s = c .before .before .before .before in
+    let l = length-led (s .args .stamped) (s .args .t2) (s .pre) (c .before .before .before .loop .i) (c .before .before .loop-test .taken) in
+    let e = c .entry-length .ensures in
+    let v = c .before .before .before .loop .inv in
+    (omega arith, omega arith, omega arith)
+
+counted : (c : tie.After-loop Inv-loop μ-loop) →
+    let s = c .before .before in
+    let n = c .before .loop .n in
+    (length (entries (s .args .stamped) (s .args .t2)) ≡ n - 1) × (n ≤ maxSide)
+counted c =
+    let s = c .before .before in
+    let v = c .before .loop .inv in
+    let z = ap length (led-end (s .args .stamped) (s .args .t2) (s .pre) (c .before .loop .i) (c .loop-test .left)) in
+    let l = length-entries (s .args .stamped) (s .args .t2) (s .pre) in
+    let f = s .pre .few in
+    (omega arith, omega arith)
+
+-- ---- needs
+
+loop-holds : tie.Need-loop-holds Inv-loop μ-loop
+loop-holds c = (zero-add (length (led (c .args .stamped) (held (c .args .t2)))), search needs, search needs)
+
+mul-entry-length : tie.Need-mul-entry-length Inv-loop μ-loop
+mul-entry-length c = let f = c .before .before .pre .few in omega arith
+
+element-copy-out-entry-length : tie.Need-element-copy-out-entry-length Inv-loop μ-loop
+element-copy-out-entry-length c = let f = c .before .before .pre .few in omega arith
+
+entry-length-requires : tie.Need-entry-length-requires Inv-loop μ-loop
+entry-length-requires c κs = let s = c .before .before .before in writable-at (s .args .stamped) (s .args .t2) (s .pre) (c .before .before .loop .i) (c .before .loop-test .taken)
+
+add-n : tie.Need-add-n Inv-loop μ-loop
+add-n c = search needs
+
+add-n-2 : tie.Need-add-n-2 Inv-loop μ-loop
+add-n-2 c = let t = turned c in let f = c .before .before .before .before .pre .few in omega arith
+
+add-i : tie.Need-add-i Inv-loop μ-loop
+add-i c = let t = turned c in let f = c .before .before .before .before .pre .few in omega arith
+
+loop-less : tie.Need-loop-less Inv-loop μ-loop
+loop-less c = omega arith
+
+loop-again : tie.Need-loop-again Inv-loop μ-loop
+loop-again c = turned c
+
+returns : tie.Need-returns Inv-loop μ-loop
+returns c = let n = counted (c .before) in (omega arith, omega arith)
+
+sub-result : tie.Need-sub-result Inv-loop μ-loop
+sub-result c = search needs
+
+returns-2 : tie.Need-returns-2 Inv-loop μ-loop
+returns-2 c = let n = counted (c .before) in (omega arith, omega arith)
+
+pub side-length-spec : {M : Type 1} → statement M
+side-length-spec =
+    tie.close
+    (tie.spec
+    Inv-loop
+    μ-loop
+    loop-holds
+    mul-entry-length
+    element-copy-out-entry-length
+    entry-length-requires
+    add-n
+    add-n-2
+    add-i
+    loop-less
+    loop-again
+    returns
+    sub-result
+    returns-2)

@@ -1,5 +1,4 @@
--- `message_vectors::pad` is safe and ends: each step stands inside the array, one byte further in the text.
--- Assumes nothing.
+-- `pad` meets its contract: each step stands inside the array, one byte further in the text.
 use Prim.Native.Nat.{_-_}
 use mathlib.Core.Path.{_≡_, refl}
 use borrow.Author.Needs.{needs}

@@ -1,5 +1,4 @@
--- `message_vectors::run_lines` is safe and ends: each line ends past where it begins.
--- Assumes nothing.
+-- `run_lines` meets its contract: it is safe, and ends as each line ends past where it begins.
 use Prim.Native.Nat.{_-_}
 use borrow.Author.Needs.{needs}
 use lib.ListN.{length}

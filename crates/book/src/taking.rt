@@ -22,6 +22,7 @@ use settings::Dialect;
 use settings::is_m;
 use side::Levels;
 use side::Side;
+use sides::apply_entries;
 
 const MAX_LEVELS: usize = 100;
 
@@ -68,8 +69,8 @@ fn take_snapshot(book: Book, s: &[u8], outline: Outline) -> Step
     let dialect = settings.dialect;
     let m = is_m(dialect);
     let none = side::empty();
-    let bids = sides::apply_entries(none, Side::Bids, depth, m, s, outline.bids_at, outline.bids);
-    let asks = sides::apply_entries(none, Side::Asks, depth, m, s, outline.asks_at, outline.asks);
+    let bids = apply_entries(none, Side::Bids, depth, m, s, outline.bids_at, outline.bids);
+    let asks = apply_entries(none, Side::Asks, depth, m, s, outline.asks_at, outline.asks);
     if bids.met {
         return refuse(book, Answer::PriceTwice);
     }
@@ -94,7 +95,7 @@ fn take_update(book: Book, s: &[u8], outline: Outline) -> Step
         return refuse(book, Answer::OldNumber);
     }
     let old_bids = book.bids;
-    let bids = sides::apply_entries(
+    let bids = apply_entries(
         old_bids,
         Side::Bids,
         depth,
@@ -104,7 +105,7 @@ fn take_update(book: Book, s: &[u8], outline: Outline) -> Step
         outline.bids,
     );
     let old_asks = book.asks;
-    let asks = sides::apply_entries(
+    let asks = apply_entries(
         old_asks,
         Side::Asks,
         depth,

@@ -119,14 +119,8 @@ fn take_update(book: Book, s: &[u8], outline: Outline) -> Step
     }
     let next_bids = bids.levels;
     let next_asks = asks.levels;
-    settle(
-        book,
-        outline,
-        next_bids,
-        next_asks,
-        one_more(book.updates),
-        book.ever,
-    )
+    let updates = one_more(book.updates);
+    settle(book, outline, next_bids, next_asks, updates, book.ever)
 }
 
 // The book with these sides, if the message's checksum is theirs.

@@ -26,42 +26,44 @@ not-end c s e = rw (e, before)
 pub first-complete : (s : List ℕ) → before lineEnd s < length s → complete s ≡ take (before lineEnd s) s ∷ complete (drop (suc (before lineEnd s)) s)
 unfolding complete inFront
 first-complete [] h = absurd (omega (arith, h))
-first-complete (c ∷ s) h = at (eqb c lineEnd) refl
+first-complete (c ∷ s) h = at (eqb c lineEnd) refl (λ k. first-complete s k)
   where
-    at : (b : Bool) → eqb c lineEnd ≡ b → complete (c ∷ s) ≡ take (before lineEnd (c ∷ s)) (c ∷ s) ∷ complete (drop (suc (before lineEnd (c ∷ s))) (c ∷ s))
-    at true e = rw (e, complete) (sym (ap (λ (n : ℕ). take n (c ∷ s) ∷ complete (drop n s)) (at-end c s e)))
-    at false e =
+    at : (b : Bool) → eqb c lineEnd ≡ b → (before lineEnd s < length s → complete s ≡ take (before lineEnd s) s ∷ complete (drop (suc (before lineEnd s)) s)) →
+        complete (c ∷ s) ≡ take (before lineEnd (c ∷ s)) (c ∷ s) ∷ complete (drop (suc (before lineEnd (c ∷ s))) (c ∷ s))
+    at true e ih = rw (e, complete) (sym (ap (λ (n : ℕ). take n (c ∷ s) ∷ complete (drop n s)) (at-end c s e)))
+    at false e ih =
         let n : before lineEnd (c ∷ s) ≡ suc (before lineEnd s) = not-end c s e in
         rw (e, complete)
-        (ap (inFront c) (first-complete s (omega arith))
+        (ap (inFront c) (ih (omega arith))
         ∙ sym (ap (λ (k : ℕ). take k (c ∷ s) ∷ complete (drop k s)) n))
 
 pub first-unfinished : (s : List ℕ) → before lineEnd s < length s → unfinished s ≡ unfinished (drop (suc (before lineEnd s)) s)
 unfolding unfinished
 first-unfinished [] h = absurd (omega (arith, h))
-first-unfinished (c ∷ s) h = at (eqb c lineEnd) refl
+first-unfinished (c ∷ s) h = at (eqb c lineEnd) refl (λ k. first-unfinished s k)
   where
     on : unfinished (c ∷ s) ≡ unfinished s
     on = rw (lt-ltb (before lineEnd (c ∷ s)) (length (c ∷ s)) h, unfinished)
 
-    at : (b : Bool) → eqb c lineEnd ≡ b → unfinished (c ∷ s) ≡ unfinished (drop (suc (before lineEnd (c ∷ s))) (c ∷ s))
-    at true e = on ∙ sym (ap (λ (n : ℕ). unfinished (drop n s)) (at-end c s e))
-    at false e =
+    at : (b : Bool) → eqb c lineEnd ≡ b → (before lineEnd s < length s → unfinished s ≡ unfinished (drop (suc (before lineEnd s)) s)) →
+        unfinished (c ∷ s) ≡ unfinished (drop (suc (before lineEnd (c ∷ s))) (c ∷ s))
+    at true e ih = on ∙ sym (ap (λ (n : ℕ). unfinished (drop n s)) (at-end c s e))
+    at false e ih =
         let n : before lineEnd (c ∷ s) ≡ suc (before lineEnd s) = not-end c s e in
-        on ∙ first-unfinished s (omega arith) ∙ sym (ap (λ (k : ℕ). unfinished (drop k s)) n)
+        on ∙ ih (omega arith) ∙ sym (ap (λ (k : ℕ). unfinished (drop k s)) n)
 
 -- ---- no line end
 
 pub none-complete : (s : List ℕ) → length s ≤ before lineEnd s → complete s ≡ []
 unfolding complete inFront
 none-complete [] h = refl
-none-complete (c ∷ s) h = at (eqb c lineEnd) refl
+none-complete (c ∷ s) h = at (eqb c lineEnd) refl (λ k. none-complete s k)
   where
-    at : (b : Bool) → eqb c lineEnd ≡ b → complete (c ∷ s) ≡ []
-    at true e = let n : before lineEnd (c ∷ s) ≡ 0 = at-end c s e in absurd (omega (arith, h))
-    at false e =
+    at : (b : Bool) → eqb c lineEnd ≡ b → (length s ≤ before lineEnd s → complete s ≡ []) → complete (c ∷ s) ≡ []
+    at true e ih = let n : before lineEnd (c ∷ s) ≡ 0 = at-end c s e in absurd (omega (arith, h))
+    at false e ih =
         let n : before lineEnd (c ∷ s) ≡ suc (before lineEnd s) = not-end c s e in
-        rw (e, complete) (ap (inFront c) (none-complete s (omega arith)))
+        rw (e, complete) (ap (inFront c) (ih (omega arith)))
 
 pub none-unfinished : (s : List ℕ) → length s ≤ before lineEnd s → unfinished s ≡ s
 unfolding unfinished
@@ -75,7 +77,9 @@ module _ (s : List ℕ) (i e : ℕ) (is : e ≡ i + before lineEnd (drop i s)) w
   inside h = omega (arith, length-drop i s)
 
   past : drop (suc (before lineEnd (drop i s))) (drop i s) ≡ drop (e + 1) s
-  past = drop-drop (suc (before lineEnd (drop i s))) i s ∙ ap (λ (k : ℕ). drop k s) (omega arith)
+  past =
+      let k : i + suc (before lineEnd (drop i s)) ≡ e + 1 = omega arith in
+      drop-drop (suc (before lineEnd (drop i s))) i s ∙ ap (λ (n : ℕ). drop n s) k
 
   pub next-complete : e < length s → complete (drop i s) ≡ take (e - i) (drop i s) ∷ complete (drop (e + 1) s)
   next-complete h =

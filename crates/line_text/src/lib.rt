@@ -16,6 +16,7 @@ use message::Answer;
 use settings::Dialect;
 use writer::lay;
 use writer::lay_number;
+use writer::lay_whole;
 
 const BLANK: u8 = 32;
 

@@ -23,8 +23,9 @@ pub fn open(line: &[u8]) -> Book
     ensures { λ r. ⌜ Opened (lineOne (now (line .entry))) r ⌝ }
 {
     let first = line_text::read_settings(line);
+    let dialect = first.dialect;
     let name = first.name;
-    book::open(first.dialect, first.depth, &line[name..])
+    book::open(dialect, first.depth, &line[name..])
 }
 
 // Hands a book the lines that end in a text, as long as the buffer has room for the longest reply, and lays the
@@ -46,11 +47,13 @@ pub fn hear_lines(book: Book, s: &[u8], buffer: &mut [u8]) -> Heard
             };
         }
         let step = now.take(&s[next..end]);
+        let answer = step.answer;
         now = step.book;
         let counted = now.counts(Scope::Current);
-        let live = line_text::number_of(counted.answer) == 0;
+        let asked = counted.answer;
+        let live = line_text::number_of(asked) == 0;
         written = line_text::write_reply(
-            step.answer,
+            answer,
             live,
             counted.bids,
             counted.asks,

@@ -2,8 +2,9 @@
 //
 //     let end = lines::find(s, at, lines::LINE_END);     // the line that begins at `at` is &s[at..end]
 ghost use mathlib.Core.Path.{_≡_};
-ghost use Prim.Native.Nat.{_+_, _≤_};
+ghost use Prim.Native.Nat.{_+_, _-_, _≤_, min};
 ghost use lib.ListN.{length, drop};
+ghost use lib.Seq.{paste};
 ghost use Rattle.lines.specs.Lines.{before};
 
 pub const LINE_END: u8 = 10;
@@ -21,4 +22,24 @@ pub fn find(s: &[u8], at: usize, b: u8) -> usize
         i += 1;
     }
     i
+}
+
+// Moves what stands between two positions of a buffer to its front, `most` bytes at the most, and answers how many were moved.
+pub fn move_to_front(buffer: &mut [u8], from: usize, to: usize, most: usize) -> usize
+    requires { ⌜ (from ≤ to) × (to ≤ length (now buffer)) ⌝ }
+    ensures { λ r. ⌜ (r ≡ min (to - from) most) × (now (buffer .exit) ≡ paste (now (buffer .entry)) 0 (drop from (now (buffer .entry))) r) ⌝ }
+{
+    let n = least(to - from, most);
+    let mut i = 0;
+    while i < n {
+        buffer[i] = buffer[from + i];
+        i += 1;
+    }
+    n
+}
+
+fn least(a: usize, b: usize) -> usize
+    ensures { λ r. ⌜ r ≡ min a b ⌝ }
+{
+    if a < b { a } else { b }
 }

@@ -101,7 +101,7 @@ fn lay_decimal(a: Decimal, buffer: &mut [u8], at: usize) -> usize
 }
 
 // Lays the digits of a whole number.
-fn lay_whole(n: u64, buffer: &mut [u8], at: usize) -> usize
+pub fn lay_whole(n: u64, buffer: &mut [u8], at: usize) -> usize
     requires { ⌜ Room (now buffer) at (written n) ⌝ }
     ensures { λ r. ⌜ Put (now (buffer .entry)) at (written n) (now (buffer .exit)) r ⌝ }
 {

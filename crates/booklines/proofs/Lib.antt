@@ -1,0 +1,2 @@
+-- Bounds of positions.
+pub mod Bounds

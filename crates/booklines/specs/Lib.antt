@@ -1,0 +1,2 @@
+-- How much of an unfinished line is carried over.
+pub mod Carried

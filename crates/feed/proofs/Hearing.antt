@@ -1,0 +1,89 @@
+-- Lines heard one after another: what is left gives what the whole gives. Assumes nothing.
+use Prim.Native.Nat.{ℕ, _+_, _-_, _≤_, _<_, zero-le}
+use mathlib.Core.Path.{_≡_, refl, sym, ap, ap₂, _∙_, subst}
+use mathlib.Core.List.{List, [], _∷_}
+use native.Mathlib.Omega.{arith}
+use borrow.Author.Tests.{le-leb, lt-leb}
+use lib.ListN.{length, take, drop}
+use Rattle.decimal.specs.Buffer.{overlaid}
+use Rattle.lines.specs.Lines.{before, lineEnd, complete, unfinished}
+use Rattle.lines.proofs.Split.{next-complete, next-unfinished, no-more}
+use Rattle.writer.specs.Parts.{Room, Put}
+use Rattle.writer.proofs.Owed.{put-length}
+use Rattle.book.specs.Reference.{Reference, hear}
+use Rattle.book.specs.Shown.{Good, shows}
+use Rattle.book.specs.declared.Book.{Book}
+use Rattle.feed.specs.declared.Heard.{Heard}
+use Rattle.feed.specs.Feed.{replyTo, maxReply, Progress, hearing, HeardLines}
+
+module _ (p : Reference) (buffer : List ℕ) (at : ℕ) where
+  stopped : List (List ℕ) → Progress
+  stopped ls = record { book = p; buffer = buffer; past = at; left = ls }
+
+  heard-all : (ls : List (List ℕ)) → ls ≡ [] → stopped ls ≡ hearing ls p buffer at
+  unfolding hearing stopped
+  heard-all ls e = ap stopped e ∙ ap (λ (l : List (List ℕ)). hearing l p buffer at) (sym e)
+
+  no-room : (ls : List (List ℕ)) → length buffer < at + maxReply → stopped ls ≡ hearing ls p buffer at
+  unfolding hearing stopped
+  no-room [] h = refl
+  no-room (line ∷ ls) h = rw (lt-leb (at + maxReply) (length buffer) h, hearing)
+
+  one-line : (line : List ℕ) (ls : List (List ℕ)) → at + maxReply ≤ length buffer →
+      hearing (line ∷ ls) p buffer at ≡ hearing ls (hear p line .book) (overlaid buffer at (replyTo (hear p line))) (at + length (replyTo (hear p line)))
+  unfolding hearing
+  one-line line ls h = rw (le-leb (at + maxReply) (length buffer) h, hearing)
+
+-- What holds at each turn: the rest of the text gives what the whole gives.
+pub record Walk (s : List ℕ) (p : Reference) (buffer₀ buffer : List ℕ) (now : Book) (next written : ℕ) : Type 0 where
+  pub good : Good now
+  pub within : next ≤ length s
+  pub room : written ≤ length buffer
+  pub size : length buffer ≡ length buffer₀
+  pub same : hearing (complete (drop next s)) (shows now) buffer written ≡ hearing (complete s) p buffer₀ 0
+  pub rest : unfinished (drop next s) ≡ unfinished s
+
+pub begun : (s buffer : List ℕ) {book : Book} → Good book → Walk s (shows book) buffer buffer book 0 0
+begun s buffer good = record { good = good; within = zero-le; room = zero-le; size = refl; same = refl; rest = refl }
+
+module _ {s : List ℕ} {p : Reference} {buffer₀ buffer : List ℕ} {now : Book} {next written : ℕ} (walk : Walk s p buffer₀ buffer now next written) where
+  ended : stopped (shows now) buffer written (complete (drop next s)) ≡ hearing (complete (drop next s)) (shows now) buffer written →
+      HeardLines s p buffer₀ (record { book = now; next = next; written = written }) buffer
+  unfolding stopped
+  ended e =
+      let r = walk .room in
+      let z = walk .size in
+      record { good = walk .good; within = walk .within; room = omega arith; same = e ∙ walk .same; rest = walk .rest }
+
+  pub ended-lines : {e : ℕ} → e ≡ next + before lineEnd (drop next s) → length s ≤ e → HeardLines s p buffer₀ (record { book = now; next = next; written = written }) buffer
+  ended-lines {e} is h = ended (heard-all (shows now) buffer written (complete (drop next s)) (no-more s next e is h))
+
+  pub ended-room : length buffer - written < maxReply → HeardLines s p buffer₀ (record { book = now; next = next; written = written }) buffer
+  ended-room h = let r = walk .room in ended (no-room (shows now) buffer written (complete (drop next s)) (omega arith))
+
+  pub went-on : {e : ℕ} → e ≡ next + before lineEnd (drop next s) → e < length s → maxReply ≤ length buffer - written →
+      {book : Book} {text buffer' : List ℕ} {written' : ℕ} → Good book → shows book ≡ hear (shows now) (take (e - next) (drop next s)) .book →
+      text ≡ replyTo (hear (shows now) (take (e - next) (drop next s))) → Room buffer written text → Put buffer written text buffer' written' →
+      Walk s p buffer₀ buffer' book (e + 1) written'
+  went-on {e} is h room {book} {text} {buffer'} {written'} good shown reply fits put =
+      let r = walk .room in
+      let z = walk .size in
+      let l : length buffer' ≡ length buffer = put-length fits put in
+      let w = put .end in
+      let line : List ℕ = take (e - next) (drop next s) in
+      record {
+        good = good;
+        within = omega arith;
+        room = omega arith;
+        size = omega arith;
+        same = sym (one-line (shows now) buffer written line (complete (drop (e + 1) s)) (omega arith) ∙ to line reply shown put) ∙ ap (λ (ls : List (List ℕ)). hearing ls (shows now) buffer written) (sym (next-complete s next e is h)) ∙ walk .same;
+        rest = sym (next-unfinished s next e is h) ∙ walk .rest;
+      }
+    where
+      to : (line : List ℕ) → text ≡ replyTo (hear (shows now) line) → shows book ≡ hear (shows now) line .book → Put buffer written text buffer' written' →
+          hearing (complete (drop (e + 1) s)) (hear (shows now) line .book) (overlaid buffer written (replyTo (hear (shows now) line))) (written + length (replyTo (hear (shows now) line)))
+          ≡ hearing (complete (drop (e + 1) s)) (shows book) buffer' written'
+      to line reply shown put =
+          ap (λ (q : Reference). hearing (complete (drop (e + 1) s)) q (overlaid buffer written (replyTo (hear (shows now) line))) (written + length (replyTo (hear (shows now) line)))) (sym shown)
+          ∙ ap (λ (t : List ℕ). hearing (complete (drop (e + 1) s)) (shows book) (overlaid buffer written t) (written + length t)) (sym reply)
+          ∙ ap₂ (hearing (complete (drop (e + 1) s)) (shows book)) (sym (put .bytes)) (sym (put .end))

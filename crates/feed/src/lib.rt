@@ -1,0 +1,70 @@
+// A feed: line 1 opens a book, and every later line is a message to it.
+//
+//     let mut book = feed::open(first_line);
+//     let heard = feed::hear_lines(book, text, buffer);     // the replies are &buffer[..heard.written], what is left is &text[heard.next..]
+ghost use Rattle.line_text.specs.Opening.{lineOne};
+ghost use Rattle.book.specs.Shown.{Good, Opened, shows};
+ghost use Rattle.feed.specs.Feed.{HeardLines};
+use book::Book;
+use book::Scope;
+use line_text::MAX_REPLY;
+use lines::LINE_END;
+use lines::find;
+
+// A book after some lines: where the next line begins, and how many bytes of replies were laid.
+pub struct Heard {
+    pub book: Book,
+    pub next: usize,
+    pub written: usize,
+}
+
+// The book that line 1 opens.
+pub fn open(line: &[u8]) -> Book
+    ensures { λ r. ⌜ Opened (lineOne (now (line .entry))) r ⌝ }
+{
+    let first = line_text::read_settings(line);
+    let dialect = first.dialect;
+    let name = first.name;
+    book::open(dialect, first.depth, &line[name..])
+}
+
+// Hands a book the lines that end in a text, as long as the buffer has room for the longest reply, and lays the
+// replies into it from its front.
+pub fn hear_lines(book: Book, s: &[u8], buffer: &mut [u8]) -> Heard
+    requires { ⌜ Good book ⌝ }
+    ensures { λ r. ⌜ HeardLines (now (s .entry)) (shows book) (now (buffer .entry)) r (now (buffer .exit)) ⌝ }
+{
+    let mut now = book;
+    let mut next = 0;
+    let mut written = 0;
+    while MAX_REPLY <= buffer.len() - written {
+        let end = find(s, next, LINE_END);
+        if s.len() <= end {
+            return Heard {
+                book: now,
+                next,
+                written,
+            };
+        }
+        let step = now.take(&s[next..end]);
+        let answer = step.answer;
+        now = step.book;
+        let counted = now.counts(Scope::Current);
+        let asked = counted.answer;
+        let live = line_text::number_of(asked) == 0;
+        written = line_text::write_reply(
+            answer,
+            live,
+            counted.bids,
+            counted.asks,
+            buffer,
+            written,
+        );
+        next = end + 1;
+    }
+    Heard {
+        book: now,
+        next,
+        written,
+    }
+}

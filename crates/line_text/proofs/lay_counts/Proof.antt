@@ -1,0 +1,92 @@
+-- `lay_counts` meets its contract: its texts are laid one after another.
+use Prim.Native.Nat.{ℕ}
+use mathlib.Core.Path.{refl}
+use mathlib.Core.List.{List, _++_}
+use Rattle.decimal.specs.Ascii.{ascii}
+use Rattle.decimal.specs.Digits.{written}
+use Rattle.writer.proofs.Owed.{Whole, owed-as, owed-rest, room-first, put-last}
+use Rattle.line_text.specs.Reply.{countsText}
+use borrow.Author.Needs.{needs}
+use Rattle.line_text.proofs.lay_counts.Statement.{statement}
+use Rattle.line_text.proofs.lay_counts.Tie as tie
+use Rattle.line_text.proofs.lay_counts.Reads as reads
+use Rattle.line_text.proofs.lay_counts.Lts as lts
+use Rattle.writer.proofs.lay.Reads as lay-reads
+use Rattle.writer.proofs.lay_number.Reads as lay-number-reads
+
+-- ---- the texts, and what is owed after each
+
+abbrev bidsText : tie.Start → List ℕ
+bidsText s = ascii " " ++ written (s .args .bids)
+
+abbrev asksText : tie.Start → List ℕ
+asksText s = ascii " " ++ written (s .args .asks)
+
+abbrev fromAsks : tie.Start → List ℕ
+fromAsks s = asksText s ++ ascii "\n"
+
+abbrev Left : tie.Start → List ℕ → ℕ → List ℕ → Type 0
+Left s = Whole (s .args .buffer .now) (s .args .at) (countsText (s .args .bids) (s .args .asks))
+
+left : (s : tie.Start) → Left s (s .args .buffer .now) (s .args .at) (bidsText s ++ fromAsks s)
+unfolding countsText
+left s = owed-as refl (s .pre)
+
+abbrev start₁ : tie.After-lay-number → tie.Start
+start₁ c = c .before .before .before .before
+
+after-bids : (c : tie.After-lay-number) → Left (start₁ c) (c .lay-number .last .1 .1 .0) (c .lay-number .result) (fromAsks (start₁ c))
+after-bids c = owed-rest (left (start₁ c)) (c .lay-number .ensures)
+
+abbrev start₂ : tie.After-lay-number2 → tie.Start
+start₂ c = start₁ (c .before .before .before .before .before)
+
+after-asks : (c : tie.After-lay-number2) → Left (start₂ c) (c .lay-number2 .last .1 .1 .0) (c .lay-number2 .result) (ascii "\n")
+after-asks c = owed-rest (after-bids (c .before .before .before .before .before)) (c .lay-number2 .ensures)
+
+-- ---- needs
+
+-- src/lib.rt:134:33
+slice-aggregate-lay-number : tie.Need-slice-aggregate-lay-number
+slice-aggregate-lay-number c = search needs
+
+-- src/lib.rt:134:9
+lay-number-requires : tie.Need-lay-number-requires
+lay-number-requires c κs = room-first (bidsText (c .before .before .before)) (fromAsks (c .before .before .before)) (left (c .before .before .before))
+
+-- src/lib.rt:135:33
+slice-aggregate-lay-number-2 : tie.Need-slice-aggregate-lay-number-2
+slice-aggregate-lay-number-2 c = search needs
+
+-- src/lib.rt:135:9
+lay-number-requires-2 : tie.Need-lay-number-requires-2
+lay-number-requires-2 c κs = room-first (asksText (start₁ (c .before .before .before .before))) (ascii "\n") (after-bids (c .before .before .before .before))
+
+-- src/lib.rt:136:9
+slice-aggregate-lay : tie.Need-slice-aggregate-lay
+slice-aggregate-lay c = search needs
+
+-- src/lib.rt:136:5
+lay-requires : tie.Need-lay-requires
+lay-requires c κs = after-asks (c .before .before .before .before) .room
+
+-- src/lib.rt:130:1
+same-length : tie.Need-same-length
+same-length c = search needs
+
+-- src/lib.rt:130:1
+returns : tie.Need-returns
+returns c = put-last (after-asks (c .before .before .before .before .before .before .before)) refl (c .before .before .lay .ensures)
+
+pub lay-counts-spec : {M : Type 1} → statement M
+lay-counts-spec =
+    tie.close
+    (tie.spec
+    slice-aggregate-lay-number
+    lay-number-requires
+    slice-aggregate-lay-number-2
+    lay-number-requires-2
+    slice-aggregate-lay
+    lay-requires
+    same-length
+    returns)

@@ -1,0 +1,3 @@
+-- In reading order: line 1; the reply to a message; worked examples.
+pub mod Opening
+pub mod Reply

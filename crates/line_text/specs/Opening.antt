@@ -1,0 +1,44 @@
+-- Line 1, as document 01 has it under "The line program": dialect, depth (written as a whole number) and name, one blank between.
+-- Assumes nothing: these are definitions.
+use Prim.Native.Nat.{ℕ, suc, _≤_}
+use mathlib.Core.Path.{_≡_}
+use mathlib.Core.Bool.{cond}
+use mathlib.Core.List.{List, [], _∷_}
+use lib.Dec.{eqb, ltb}
+use lib.ListN.{length, take, drop}
+use Rattle.lines.specs.Lines.{before}
+use Rattle.decimal.specs.Digits.{Reading, reads, refused}
+use Rattle.decimal.specs.Whole.{readWhole}
+use Rattle.settings.specs.Settings.{Terms, shut}
+use Rattle.settings.specs.declared.Dialect.{Dialect}
+use Rattle.settings.specs.declared.Dialect.the-variants.{K, M, Unknown}
+use Rattle.line_text.specs.declared.FirstLine.{FirstLine}
+
+abbrev pub blank : ℕ
+blank = 32
+
+-- The bytes of `K` and `M`.
+unfoldable pub dialectOf : ℕ → Dialect
+dialectOf c = cond (eqb c 75) K (cond (eqb c 77) M Unknown)
+
+unfoldable pub withDepth : Dialect → Reading ℕ → List ℕ → Terms
+withDepth dialect (reads depth) name = record { dialect = dialect; depth = depth; name = name }
+withDepth dialect refused name = shut
+
+-- What follows the dialect and a blank: the depth, a blank, and the name, which goes on to the line's end.
+unfoldable pub depthAndName : Dialect → List ℕ → Terms
+depthAndName dialect s = cond (ltb (before blank s) (length s)) (withDepth dialect (readWhole (take (before blank s) s)) (drop (suc (before blank s)) s)) shut
+
+-- A line that is not laid out like this has the settings of a shut book.
+unfoldable pub lineOne : List ℕ → Terms
+lineOne [] = shut
+lineOne (letter ∷ []) = shut
+lineOne (letter ∷ (c ∷ s)) = cond (eqb c blank) (depthAndName (dialectOf letter) s) shut
+
+-- The settings that the code finds on a line.
+unfoldable pub termsOn : List ℕ → FirstLine → Terms
+termsOn line r = record { dialect = r .dialect; depth = r .depth; name = drop (r .name) line }
+
+pub record Found (line : List ℕ) (terms : Terms) (r : FirstLine) : Type 0 where
+  pub same : termsOn line r ≡ terms
+  pub within : r .name ≤ length line

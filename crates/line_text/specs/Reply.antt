@@ -1,0 +1,15 @@
+-- The reply to a message, as document 01 has it under "The line program": the number of the answer, then bids and asks, or `- -` unless the
+-- book is live. Assumes nothing: these are definitions.
+use Prim.Native.Nat.{ℕ}
+use mathlib.Core.Bool.{Bool, cond}
+use mathlib.Core.List.{List, _++_}
+use Rattle.decimal.specs.Ascii.{ascii}
+use Rattle.decimal.specs.Digits.{written}
+use Rattle.message.specs.Answers.{number}
+use Rattle.message.specs.declared.Answer.{Answer}
+
+unfoldable pub countsText : ℕ → ℕ → List ℕ
+countsText bids asks = (ascii " " ++ written bids) ++ ((ascii " " ++ written asks) ++ ascii "\n")
+
+unfoldable pub replyText : Answer → Bool → ℕ → ℕ → List ℕ
+replyText answer live bids asks = written (number answer) ++ cond live (countsText bids asks) (ascii " - -\n")

@@ -1,0 +1,137 @@
+// The texts of the line program: line 1, which has a book's settings, and the reply to a message.
+//
+//     line_text::read_settings(b"M 100 BTC-VND")                        // M, 100, and the name from byte 6 on
+//     line_text::write_reply(Answer::Taken, true, 1, 1, buffer, 0)     // `0 1 1` and a line end
+ghost use mathlib.Core.Path.{_≡_};
+ghost use Prim.Native.Nat.{_≤_};
+ghost use lib.ListN.{length, drop};
+ghost use Rattle.settings.specs.Settings.{shut};
+ghost use Rattle.message.specs.Answers.{number};
+ghost use Rattle.writer.specs.Parts.{Room, Put};
+ghost use Rattle.line_text.specs.Opening.{dialectOf, lineOne, depthAndName, Found};
+ghost use Rattle.line_text.specs.Reply.{replyText, countsText};
+use decimal::ParsedWhole;
+use lines::find;
+use message::Answer;
+use settings::Dialect;
+use writer::lay;
+use writer::lay_number;
+use writer::lay_whole;
+
+const BLANK: u8 = 32;
+
+// The longest reply: three numbers of 20 digits, two blanks and a line end.
+pub const MAX_REPLY: usize = 63;
+
+// What line 1 says: dialect, depth, and where the name begins, which goes on to the line's end.
+pub struct FirstLine {
+    pub dialect: Dialect,
+    pub depth: usize,
+    pub name: usize,
+}
+
+// The settings on line 1. Of a line that is not laid out as it must be they are those of a shut book.
+pub fn read_settings(line: &[u8]) -> FirstLine
+    ensures { λ r. ⌜ Found (now (line .entry)) (lineOne (now (line .entry))) r ⌝ }
+{
+    if line.len() < 2 {
+        return no_settings(line);
+    }
+    if line[1] != BLANK {
+        return no_settings(line);
+    }
+    read_depth(line, dialect_of(line[0]))
+}
+
+fn dialect_of(letter: u8) -> Dialect
+    ensures { λ r. ⌜ r ≡ dialectOf letter ⌝ }
+{
+    if letter == b'K' {
+        return Dialect::K;
+    }
+    if letter == b'M' {
+        return Dialect::M;
+    }
+    Dialect::Unknown
+}
+
+// The depth and the name, which follow the dialect and a blank.
+fn read_depth(line: &[u8], dialect: Dialect) -> FirstLine
+    requires { ⌜ 2 ≤ length (now line) ⌝ }
+    ensures { λ r. ⌜ Found (now (line .entry)) (depthAndName dialect (drop 2 (now (line .entry)))) r ⌝ }
+{
+    let end = find(line, 2, BLANK);
+    if line.len() <= end {
+        return no_settings(line);
+    }
+    match decimal::parse_whole(&line[2..end]) {
+        ParsedWhole::Number(depth) => FirstLine {
+            dialect,
+            depth: depth as usize,
+            name: end + 1,
+        },
+        ParsedWhole::Refused => no_settings(line),
+    }
+}
+
+fn no_settings(line: &[u8]) -> FirstLine
+    ensures { λ r. ⌜ Found (now (line .entry)) shut r ⌝ }
+{
+    FirstLine {
+        dialect: Dialect::Unknown,
+        depth: 0,
+        name: line.len(),
+    }
+}
+
+// The number of an answer.
+pub fn number_of(answer: Answer) -> u64
+    ensures { λ r. ⌜ r ≡ number answer ⌝ }
+{
+    match answer {
+        Answer::Taken => 0,
+        Answer::Shut => 1,
+        Answer::TooLong => 2,
+        Answer::NotJson => 3,
+        Answer::Escaped => 4,
+        Answer::NotOurs => 5,
+        Answer::BadLayout => 6,
+        Answer::TooManyEntries => 7,
+        Answer::BadDecimal => 8,
+        Answer::PriceTwice => 9,
+        Answer::NoSnapshot => 10,
+        Answer::OldNumber => 11,
+        Answer::TooManyLevels => 12,
+        Answer::WrongChecksum => 13,
+        Answer::NoLevel => 14,
+        Answer::NoRoom => 15,
+    }
+}
+
+// Lays the reply to a message into a buffer at a position, and answers the position past it.
+pub fn write_reply(
+    answer: Answer,
+    live: bool,
+    bids: usize,
+    asks: usize,
+    buffer: &mut [u8],
+    at: usize,
+) -> usize
+    requires { ⌜ Room (now buffer) at (replyText answer live bids asks) ⌝ }
+    ensures { λ r. ⌜ Put (now (buffer .entry)) at (replyText answer live bids asks) (now (buffer .exit)) r ⌝ }
+{
+    let end = lay_whole(number_of(answer), buffer, at);
+    if live {
+        return lay_counts(bids as u64, asks as u64, buffer, end);
+    }
+    lay(b" - -\n", buffer, end)
+}
+
+fn lay_counts(bids: u64, asks: u64, buffer: &mut [u8], at: usize) -> usize
+    requires { ⌜ Room (now buffer) at (countsText bids asks) ⌝ }
+    ensures { λ r. ⌜ Put (now (buffer .entry)) at (countsText bids asks) (now (buffer .exit)) r ⌝ }
+{
+    let after_bids = lay_number(b" ", bids, buffer, at);
+    let after_asks = lay_number(b" ", asks, buffer, after_bids);
+    lay(b"\n", buffer, after_asks)
+}

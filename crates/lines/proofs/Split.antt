@@ -13,11 +13,11 @@ use Rattle.lines.specs.Lines.{before, lineEnd, hasEnd, inFront, complete
 
 -- ---- the first byte
 
-at-end : (c : ℕ) (s : List ℕ) → eqb c lineEnd ≡ true → before lineEnd (c ∷ s) ≡ 0
+pub at-end : (c : ℕ) (s : List ℕ) → eqb c lineEnd ≡ true → before lineEnd (c ∷ s) ≡ 0
 unfolding before
 at-end c s e = rw (e, before)
 
-not-end : (c : ℕ) (s : List ℕ) → eqb c lineEnd ≡ false → before lineEnd (c ∷ s) ≡ suc (before lineEnd s)
+pub not-end : (c : ℕ) (s : List ℕ) → eqb c lineEnd ≡ false → before lineEnd (c ∷ s) ≡ suc (before lineEnd s)
 unfolding before
 not-end c s e = rw (e, before)
 

@@ -3,7 +3,7 @@ use Prim.Native.Nat.{ℕ, suc}
 use mathlib.Core.Bool.{Bool, cond}
 use mathlib.Core.List.{List, [], _∷_, _++_}
 use lib.Dec.{eqb, ltb}
-use lib.ListN.{length}
+use lib.ListN.{length, take}
 
 -- How many bytes a text has before a byte.
 unfoldable pub before : ℕ → List ℕ → ℕ
@@ -37,3 +37,14 @@ lastLine (c ∷ s) = (c ∷ s) ∷ []
 
 unfoldable pub linesOf : List ℕ → List (List ℕ)
 linesOf s = complete s ++ lastLine (unfinished s)
+
+-- ---- a text that comes in blocks
+
+unfoldable pub joined : List (List ℕ) → List ℕ
+joined [] = []
+joined (block ∷ blocks) = block ++ joined blocks
+
+-- The lines that end in each block, with what is held of the unfinished line before them: `most` bytes at the most.
+unfoldable pub inBlocks : ℕ → List ℕ → List (List ℕ) → List (List ℕ)
+inBlocks most held [] = lastLine held
+inBlocks most held (block ∷ blocks) = complete (held ++ block) ++ inBlocks most (take most (unfinished (held ++ block))) blocks

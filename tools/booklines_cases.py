@@ -1,0 +1,151 @@
+#!/usr/bin/env python3
+"""Runs target/bin/booklines on the cases below, each whole and in pieces, and compares what it writes.
+
+    rt check booklines && python3 tools/booklines_cases.py
+"""
+import subprocess
+import sys
+import threading
+import time
+import zlib
+
+PROGRAM = "target/bin/booklines"
+MAX_MESSAGE = 32_768
+
+
+def k_text(price, size):
+    return (price.replace(".", "").lstrip("0") + size.replace(".", "").lstrip("0")).encode()
+
+
+def k_snapshot(depth, name, bids, asks):
+    rows = lambda side: ",".join(f'["{p}","{s}","0.0"]' for p, s in side)
+    return f'[1,{{"as":[{rows(asks)}],"bs":[{rows(bids)}]}},"book-{depth}","{name}"]'.encode()
+
+
+def m_message(name, kind, bids, asks, checksum, gsn):
+    rows = lambda side: ",".join(f'["{p}","{s}"]' for p, s in side)
+    return (
+        f'{{"channel":"book","product":"{name}","type":"{kind}","data":{{"bids":[{rows(bids)}],"asks":[{rows(asks)}]}},'
+        f'"checksum":{checksum},"gsn":{gsn}}}'
+    ).encode()
+
+
+K = k_snapshot(10, "A/B", [("9", "2")], [("10", "1"), ("11", "1")])
+M = m_message("A-B", "snapshot", [("9", "2")], [("10", "1")], zlib.crc32(b"9:2:10:1"), 7)
+
+
+def padded(message, size):
+    """The message with blanks behind it, which JSON allows."""
+    return message + b" " * (size - len(message))
+
+
+def opens(line, message=K):
+    """What a book that line 1 opens answers to a snapshot for it."""
+    return line + b"\n" + message + b"\n"
+
+
+# name, input, output
+CASES = [
+    ("empty input", b"", b""),
+    ("line 1 alone", b"K 10 A/B\n", b""),
+    ("line 1 without a line end", b"K 10 A/B", b""),
+    ("an empty line 1", b"\n" + K + b"\n", b"1 - -\n"),
+    ("a snapshot for K", opens(b"K 10 A/B"), b"0 1 2\n"),
+    ("a snapshot for M", opens(b"M 100 A-B", M), b"0 1 1\n"),
+    ("two blanks", opens(b"K  10 A/B"), b"1 - -\n"),
+    ("two blanks before the name", opens(b"K 10  A/B"), b"1 - -\n"),
+    ("a tab", opens(b"K\t10 A/B"), b"1 - -\n"),
+    ("a blank at the end", opens(b"K 10 A/B "), b"1 - -\n"),
+    ("a blank in front", opens(b" K 10 A/B"), b"1 - -\n"),
+    ("a byte 13 at the end", opens(b"K 10 A/B\r"), b"1 - -\n"),
+    ("a leading zero", opens(b"K 010 A/B"), b"1 - -\n"),
+    ("a sign", opens(b"K +10 A/B"), b"1 - -\n"),
+    ("a point", opens(b"K 10.0 A/B"), b"1 - -\n"),
+    ("a depth of 19 digits", opens(b"K 1000000000000000010 A/B"), b"1 - -\n"),
+    ("a depth of 20 digits", opens(b"K 18446744073709551626 A/B"), b"1 - -\n"),
+    ("lower case", opens(b"k 10 A/B"), b"1 - -\n"),
+    ("another letter", opens(b"L 10 A/B"), b"1 - -\n"),
+    ("two letters", opens(b"KM 10 A/B"), b"1 - -\n"),
+    ("no dialect", opens(b"10 A/B"), b"1 - -\n"),
+    ("no depth", opens(b"K A/B"), b"1 - -\n"),
+    ("no name", opens(b"K 10"), b"1 - -\n"),
+    ("an empty name", opens(b"K 10 "), b"1 - -\n"),
+    ("a long name", opens(b"K 10 " + b"n" * 17), b"1 - -\n"),
+    ("a line 1 of 100,000 bytes", opens(b"K 10 " + b"A/B" + b"n" * 100_000), b"1 - -\n"),
+    ("K, depth 9", opens(b"K 9 A/B", k_snapshot(9, "A/B", [], [])), b"1 - -\n"),
+    ("K, depth 10", opens(b"K 10 A/B", k_snapshot(10, "A/B", [], [])), b"0 0 0\n"),
+    ("K, depth 100", opens(b"K 100 A/B", k_snapshot(100, "A/B", [], [])), b"0 0 0\n"),
+    ("K, depth 101", opens(b"K 101 A/B", k_snapshot(101, "A/B", [], [])), b"1 - -\n"),
+    ("M, depth 99", opens(b"M 99 A-B", M), b"1 - -\n"),
+    ("M, depth 101", opens(b"M 101 A-B", M), b"1 - -\n"),
+    ("empty lines", b"K 10 A/B\n\n\n" + K + b"\n\n", b"3 - -\n3 - -\n0 1 2\n3 - -\n"),
+    ("empty lines, shut", b"\n\n\n", b"1 - -\n1 - -\n"),
+    ("a last line without a line end", b"K 10 A/B\n" + K, b"0 1 2\n"),
+    ("a last line of one byte", b"K 10 A/B\n" + K + b"\nx", b"0 1 2\n3 - -\n"),
+    ("a byte 13 before a line end", b"K 10 A/B\n" + K + b"\r\n", b"0 1 2\n"),
+    ("a byte 0 in a line", b"K 10 A/B\n" + K + b"\n\0\n", b"0 1 2\n3 - -\n"),
+]
+for size, answer in [(MAX_MESSAGE - 1, 0), (MAX_MESSAGE, 0), (MAX_MESSAGE + 1, 2), (100_000, 2), (1_000_000, 2)]:
+    end = b"0 1 2\n" if answer == 0 else b"2 - -\n"
+    text = b"K 10 A/B\n" + padded(K, size)
+    CASES.append((f"a line of {size} bytes", text + b"\n" + K + b"\n", end + b"0 1 2\n"))
+    CASES.append((f"a last line of {size} bytes", text, end))
+    CASES.append((f"a line of {size} bytes, shut", b"x" + text + b"\n" + K + b"\n", b"1 - -\n1 - -\n"))
+CASES.append(("a million empty lines", b"K 10 A/B\n" + b"\n" * 1_000_000, b"3 - -\n" * 1_000_000))
+CASES.append(("snapshots over many blocks", b"K 10 A/B\n" + (K + b"\n") * 20_000, b"0 1 2\n" * 20_000))
+
+
+def whole(text):
+    return subprocess.run([PROGRAM], input=text, stdout=subprocess.PIPE, check=True).stdout
+
+
+def in_pieces(text, size):
+    """The same through a pipe that is written to in pieces."""
+    process = subprocess.Popen([PROGRAM], stdin=subprocess.PIPE, stdout=subprocess.PIPE)
+
+    def send():
+        with process.stdin as pipe:
+            for i in range(0, len(text), size):
+                pipe.write(text[i : i + size])
+                pipe.flush()
+
+    sender = threading.Thread(target=send)
+    sender.start()
+    out = process.stdout.read()
+    sender.join()
+    process.wait()
+    return out
+
+
+def answers_at_once():
+    """A reply comes before the next message is sent."""
+    process = subprocess.Popen([PROGRAM], stdin=subprocess.PIPE, stdout=subprocess.PIPE)
+    process.stdin.write(b"K 10 A/B\n")
+    for message, reply in [(K, b"0 1 2\n"), (b"", b"3 - -\n"), (K, b"0 1 2\n")]:
+        process.stdin.write(message + b"\n")
+        process.stdin.flush()
+        if process.stdout.readline() != reply:
+            return False
+    return process.communicate()[0] == b""
+
+
+def main():
+    failed = 0
+    start = time.time()
+    for name, text, expected in CASES:
+        if whole(text) != expected:
+            failed += 1
+            print(f"{name}: {whole(text)[:60]!r} and not {expected[:60]!r}")
+        for size in (1, 7, 4_096, 65_536) if len(text) < 2_000 else (1_000, 32_769, 65_536):
+            if in_pieces(text, size) != expected:
+                failed += 1
+                print(f"{name}: in pieces of {size} bytes it differs")
+    if not answers_at_once():
+        failed += 1
+        print("a reply is held back")
+    print(f"{len(CASES)} cases, {failed} failed, {time.time() - start:.1f} s")
+    sys.exit(failed > 0)
+
+
+if __name__ == "__main__":
+    main()

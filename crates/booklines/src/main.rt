@@ -91,10 +91,7 @@ fn serve(session: Session, s: &[u8], fresh: usize, output: &mut [u8]) -> Served
 {
     let end = find(s, fresh, LINE_END);
     if s.len() <= end {
-        return Served {
-            session,
-            next: 0,
-        };
+        return Served { session, next: 0 };
     }
     if session.opened {
         let book = session.book;
@@ -123,10 +120,7 @@ fn reply(opened: Book, s: &[u8], from: usize, output: &mut [u8]) -> Served
         io::write_all(STDOUT_FILENO, &output[..written]);
     }
     Served {
-        session: Session {
-            opened: true,
-            book,
-        },
+        session: Session { opened: true, book },
         next,
     }
 }

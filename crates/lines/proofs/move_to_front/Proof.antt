@@ -42,8 +42,7 @@ loop-less c = search needs
 loop-again : tie.Need-loop-again Inv-loop μ-loop
 loop-again c =
     let l = c .before .before .loop in
-    let a = c .before .before .before .before .before .args in
-    (
+    let a = c .before .before .before .before .before .args in (
       simp length-set (l .inv .0),
       omega arith,
       moved-next (a .buffer .now) (a .from) (l .i) (omega arith) (l .buffer) (l .inv .2),

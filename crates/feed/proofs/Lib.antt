@@ -1,3 +1,4 @@
--- Laws of the reply to a message; of lines heard one after another.
+-- Laws of the reply to a message; of lines heard one after another; of a feed that comes in blocks.
 pub mod Replying
 pub mod Hearing
+pub mod Blocks

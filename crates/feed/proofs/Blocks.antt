@@ -11,8 +11,12 @@ use lib.Seq.{take-all, length-take-le}
 use Rattle.settings.specs.Settings.{Terms}
 use Rattle.message.specs.declared.Answer.the-variants.{TooLong, Shut}
 use Rattle.message.specs.Meaning.{maxMessage, Checked, fails, framed, alsoDecimals, checked, Said, refuses, saidOf, said}
-use Rattle.book.specs.Reference.{Reference, isShut, After, hear, hearing}
-use Rattle.feed.specs.Feed.{replyTo, replies, held}
+use Rattle.book.specs.Reference.{Reference, opened, isShut, After, hear, hearing}
+use Rattle.lines.specs.Lines.{linesOf, joined, inBlocks}
+use Rattle.lines.proofs.Blocks.{blocks-lines}
+use Rattle.line_text.specs.Opening.{lineOne}
+use Rattle.feed.specs.Feed.{replyTo, replies, session, output, held}
+use Rattle.feed.proofs.LongLine.{held-opened}
 
 too-long : (t : Terms) (s : List ℕ) → maxMessage < length s → said t s ≡ refuses TooLong
 unfolding said saidOf checked alsoDecimals framed
@@ -38,3 +42,14 @@ held-replies p [] = refl
 held-replies p (line ∷ ls) =
     ap (λ (a : After). replyTo a ++ replies (a .book) (map (take held) ls)) (held-hear p line)
     ∙ ap (λ (t : List ℕ). replyTo (hear p line) ++ t) (held-replies (hear p line .book) ls)
+
+held-session : (ls : List (List ℕ)) → session (map (take held) ls) ≡ session ls
+unfolding session
+held-session [] = refl
+held-session (line ∷ ls) = ap (λ (p : Reference). replies p (map (take held) ls)) (held-opened line) ∙ held-replies (opened (lineOne line)) ls
+
+-- However a feed is cut into blocks, the replies are those to the whole text.
+pub blocks-output : (blocks : List (List ℕ)) → session (inBlocks held [] blocks) ≡ output (joined blocks)
+unfolding output
+blocks-output blocks =
+    sym (held-session (inBlocks held [] blocks)) ∙ ap session (blocks-lines 32768 blocks) ∙ held-session (linesOf (joined blocks))

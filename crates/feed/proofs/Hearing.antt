@@ -17,7 +17,6 @@ use Rattle.writer.proofs.Owed.{put-length, length-overlaid, overlaid-twice}
 use Rattle.book.specs.Reference.{Reference, hear}
 use Rattle.book.specs.Shown.{Good, shows}
 use Rattle.book.specs.declared.Book.{Book}
-use Rattle.feed.specs.declared.Heard.{Heard}
 use Rattle.feed.specs.Feed.{replyTo, replies, maxReply, Progress, hearing, HeardLines}
 
 module _ (p : Reference) (buffer : List ℕ) (at : ℕ) where

@@ -1,10 +1,10 @@
--- A line 1 that is longer than what is held of it opens a shut book, and so does what is held. Assumes nothing.
-use Prim.Native.Nat.{ℕ, suc, _+_, _-_, _≤_, _<_}
-use mathlib.Core.Path.{_≡_, refl, sym, ap, ap₂, _∙_}
-use mathlib.Core.Bool.{Bool, true, false, cond, _&&_}
-use mathlib.Core.List.{List, [], _∷_, _++_, map}
+-- A line 1 that is longer than what is carried of it opens a shut book, and so does what is carried. Assumes nothing.
+use Prim.Native.Nat.{ℕ, suc, _-_, _≤_, _<_}
+use mathlib.Core.Path.{_≡_, refl, ap, _∙_}
+use mathlib.Core.Bool.{Bool, true, false, _&&_}
+use mathlib.Core.List.{List, [], _∷_}
 use native.Mathlib.Omega.{arith}
-use borrow.Author.Tests.{lt-ltb, lt-leb, leb-true, leb-false, ltb-true}
+use borrow.Author.Tests.{lt-leb, leb-true, leb-false, ltb-true}
 use lib.Dec.{leb, ltb, eqb}
 use lib.ListN.{length, take, drop, length-drop}
 use lib.Seq.{take-all, length-take-le}
@@ -16,8 +16,8 @@ use Rattle.decimal.proofs.WholeNumber.{whole-wrong}
 use Rattle.settings.specs.Settings.{Terms, shut, goodDepth, goodName, good, kept}
 use Rattle.settings.specs.declared.Dialect.{Dialect}
 use Rattle.line_text.specs.Opening.{blank, dialectOf, withDepth, depthAndName, lineOne}
-use Rattle.book.specs.Reference.{Reference, opened}
-use Rattle.feed.specs.Feed.{held}
+use Rattle.book.specs.Reference.{opened}
+use Rattle.feed.specs.Feed.{carried}
 
 and-no : (b : Bool) → b && false ≡ false
 and-no true = refl
@@ -77,12 +77,12 @@ opened-bad : (t u : Terms) → good t ≡ false → good u ≡ false → opened 
 unfolding opened kept
 opened-bad t u e f = rw (e, f)
 
-pub held-opened : (line : List ℕ) → opened (lineOne (take held line)) ≡ opened (lineOne line)
-held-opened line = at (leb (length line) held) refl
+pub carried-opened : (line : List ℕ) → opened (lineOne (take carried line)) ≡ opened (lineOne line)
+carried-opened line = at (leb (length line) carried) refl
   where
-    at : (b : Bool) → leb (length line) held ≡ b → opened (lineOne (take held line)) ≡ opened (lineOne line)
-    at true e = ap (λ (l : List ℕ). opened (lineOne l)) (take-all held line (leb-true (length line) held e))
+    at : (b : Bool) → leb (length line) carried ≡ b → opened (lineOne (take carried line)) ≡ opened (lineOne line)
+    at true e = ap (λ (l : List ℕ). opened (lineOne l)) (take-all carried line (leb-true (length line) carried e))
     at false e =
-        let h : held < length line = leb-false (length line) held e in
-        let l : length (take held line) ≡ held = length-take-le held line (omega arith) in
-        opened-bad (lineOne (take held line)) (lineOne line) (bad-line (take held line) (omega arith)) (bad-line line (omega arith))
+        let h : carried < length line = leb-false (length line) carried e in
+        let l : length (take carried line) ≡ carried = length-take-le carried line (omega arith) in
+        opened-bad (lineOne (take carried line)) (lineOne line) (bad-line (take carried line) (omega arith)) (bad-line line (omega arith))

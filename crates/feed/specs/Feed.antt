@@ -31,9 +31,9 @@ session (line ∷ ls) = replies (opened (lineOne line)) ls
 unfoldable pub output : List ℕ → List ℕ
 output s = session (linesOf s)
 
--- What is held of a line: one byte more than a message may have.
-abbrev pub held : ℕ
-held = 32769
+-- What is carried over of a line from block to block: one byte more than a message may have.
+abbrev pub carried : ℕ
+carried = 32769
 
 -- ---- as far as a buffer has room for the replies
 

@@ -69,11 +69,11 @@ refusal-refuses waiting = refl
 refusal-refuses live = refl
 
 -- the answer of a question that is answered, and of one that is not
-if-yes : {A : Type 0} (a : Answer) (x z : A) → a ≡ Taken → ifTaken a x z ≡ x
+pub if-yes : {A : Type 0} (a : Answer) (x z : A) → a ≡ Taken → ifTaken a x z ≡ x
 unfolding ifTaken isTaken numberOf
 if-yes a x z h = rw (h, ifTaken, isTaken, numberOf)
 
-if-no : {A : Type 0} (a : Answer) (t : Status) (x z : A) → a ≡ refusalOf t → ifTaken a x z ≡ z
+pub if-no : {A : Type 0} (a : Answer) (t : Status) (x z : A) → a ≡ refusalOf t → ifTaken a x z ≡ z
 unfolding ifTaken
 if-no a t x z h = let e = refusal-refuses t in rw (h, ifTaken, e)
 

@@ -11,7 +11,10 @@ use Rattle.message.specs.Meaning.{Message, says, said}
 use Rattle.message.specs.declared.Answer.{Answer}
 use Rattle.message.specs.declared.Answer.the-variants.{Taken}
 use Rattle.book.specs.Reference.{Status, shut, waiting, live, isShut, isLive, Reference, opened, taken, isTaken, After, hear, asked, sideOf, placeAt, askedLevel, levelAsked, askedWriting, level, amount, Reply, Ask, message, howMany, levelAt, whichNumber, howManyUpdates, write, does, Call, run, final}
-use Rattle.book.specs.Claims.{zeros, statusAfter, isMessage, isWrite, oneOf, unchanging, Refused, Demand-1, Ready, is-live, restarts, Acceptable, Demand-2, All-compared, call, From-snapshot, takenIn, takenOf, anySnapshot, sinceSnapshot, rebuilt, withStatus, Latest-snapshot, K-number, prices, No-price}
+use Rattle.book.specs.Calls.{Demand-3}
+use Rattle.book.proofs.Back.{reached-back}
+use Rattle.book.proofs.Contracts.{ran-opened}
+use Rattle.book.specs.Claims.{Round-trip, zeros, statusAfter, isMessage, isWrite, oneOf, unchanging, Refused, Demand-1, Ready, is-live, restarts, Acceptable, Demand-2, All-compared, call, From-snapshot, takenIn, takenOf, anySnapshot, sinceSnapshot, rebuilt, withStatus, Latest-snapshot, K-number, prices, No-price}
 use Rattle.book.proofs.Carried.{said-carries}
 use Rattle.book.proofs.Outcome.{Outcome, is-refused, is-accepted, outcome, acceptable-taken, ready-open, taken-answer, not-taken, or-none}
 use Rattle.book.proofs.Questions.{question-one, if-refused, no-level, no-answer}
@@ -263,3 +266,11 @@ no-price =
       at-first = λ t cs n. not-live (opened t) cs (opened-waits t) n;
       after-refusal = λ p s cs h l n. not-live (hear p s .book) cs (refusal-waits p s h l) n;
     }
+
+-- ---- demand 2's round trip, and demand 3 of the code
+
+pub round-trip : Round-trip
+round-trip = reached-back
+
+pub demand-3 : Demand-3
+demand-3 = ran-opened

@@ -68,7 +68,7 @@ reached-taken t p s m q a r =
     go (is-live e) = rw (r .ever (rw e)) (or-true (m .snapshot))
     go (restarts e k) = rw k
 
-reached-step : (t : Terms) (p : Reference) (ask : Ask) (q : Reference) → Steps p ask q → Reached t p → Reached t q
+pub reached-step : (t : Terms) (p : Reference) (ask : Ask) (q : Reference) → Steps p ask q → Reached t p → Reached t q
 unfolding withStatus
 reached-step t p ask q (stays status k l n e) r = rw e (record { terms = r .terms; shut = k ∙ r .shut; ever = λ h. r .ever (l h); number = r .number })
 reached-step t p ask q (moves s m d a n e) r = rw e (reached-taken t p s m d a r)
@@ -87,7 +87,7 @@ opened-waits t = at (good t)
     at true = refl
     at false = refl
 
-reached-opened : (t : Terms) → Reached t (opened t)
+pub reached-opened : (t : Terms) → Reached t (opened t)
 unfolding opened
 reached-opened t = record { terms = refl; shut = refl; ever = λ h. absurd (true≢false (sym h ∙ opened-waits t)); number = λ k. refl }
 

@@ -15,7 +15,7 @@ use Rattle.message.specs.Answers.{number as numberOf}
 use Rattle.message.specs.Meaning.{Message, Said, refuses, says, said}
 use Rattle.message.specs.declared.Answer.{Answer}
 use Rattle.message.specs.declared.Answer.the-variants.{Taken}
-use Rattle.book.specs.Reference.{Status, waiting, live, Reference, isLive, opened, bidsAfter, asksAfter, maxLevels, pricesOf, checksumOf, taken, isTaken, hear, Value, nothing, counts, level, amount, Reply, noLevel, Ask, message, howMany, levelAt, whichNumber, howManyUpdates, write, does, Call, run, final}
+use Rattle.book.specs.Reference.{Status, waiting, live, Reference, isLive, opened, bidsAfter, asksAfter, maxLevels, pricesOf, checksumOf, taken, isTaken, hear, Value, nothing, counts, level, amount, Reply, noLevel, Ask, message, howMany, levelAt, whichNumber, howManyUpdates, write, does, Call, run, final, snapshotText}
 use Rattle.book.specs.declared.Scope.{Scope}
 use Rattle.book.specs.declared.Scope.the-variants.{Current, LastGood}
 
@@ -221,3 +221,16 @@ pub record No-price : Type 0 where
   pub at-first : (t : Terms) (cs : List Call) → anySnapshot (takenOf (opened t) cs) ≡ false → prices (opened t) cs ≡ []
   pub after-refusal : (p : Reference) (s : List ℕ) (cs : List Call) → (hear p s .answer ≡ Taken → ⊥) → oneOf unchanging (numberOf (hear p s .answer)) ≡ false
       → anySnapshot (takenOf (hear p s .book) cs) ≡ false → prices (hear p s .book) cs ≡ []
+
+-- ---- the round trip: what the writer writes of a live book is taken by a new book with the same settings, which then shows the same levels and number,
+-- with a count of 0. Rules out a writer that loses a text, a level or the number, and one whose snapshot our own reader refuses.
+pub record ReadsBack (t : Terms) (p : Reference) : Type 0 where
+  pub answer : hear (opened t) (snapshotText p) .answer ≡ Taken
+  pub status : hear (opened t) (snapshotText p) .book .status ≡ live
+  pub bids : hear (opened t) (snapshotText p) .book .bids ≡ p .bids
+  pub asks : hear (opened t) (snapshotText p) .book .asks ≡ p .asks
+  pub number : hear (opened t) (snapshotText p) .book .number ≡ p .number
+  pub updates : hear (opened t) (snapshotText p) .book .updates ≡ 0
+
+abbrev pub Round-trip : Type 0
+Round-trip = (t : Terms) (cs : List Call) → isLive (final (opened t) cs .status) ≡ true → ReadsBack t (final (opened t) cs)

@@ -6,3 +6,4 @@ pub mod Examples
 pub mod Shown
 pub mod Asking
 pub mod Taking
+pub mod Calls

@@ -7,8 +7,10 @@
 //
 // A method takes the book by value and hands it back with its answer.
 mod taking;
+mod writing;
 
 use decimal::Decimal;
+use decimal::Written;
 use message::Answer;
 use settings::Dialect;
 use settings::Settings;
@@ -17,7 +19,7 @@ use side::Levels;
 use side::Side;
 ghost use mathlib.Core.Path.{_≡_};
 ghost use Rattle.book.specs.Reference.{hear, whichNumber, howManyUpdates};
-ghost use Rattle.book.specs.Shown.{statusOf, shows, Good, Opened, Told, AnswersCounts, AnswersLevel, AnswersAmount};
+ghost use Rattle.book.specs.Shown.{statusOf, shows, Good, Opened, Told, AnswersCounts, AnswersLevel, AnswersAmount, Wrote};
 ghost use Rattle.book.specs.Asking.{firstState, answers, refusalOf, levelIn};
 
 // What a question is about.
@@ -194,6 +196,25 @@ impl Book {
                 book: self,
                 answer: Answer::Taken,
                 amount: self.updates,
+            };
+        }
+        no_amount(self, refusal(state))
+    }
+
+    // Writes the book as a snapshot at the start of the buffer; answers its length.
+    pub fn write(self, buffer: &mut [u8]) -> Amounted
+        requires { ⌜ Good self ⌝ }
+        ensures { λ r. ⌜ Wrote self (now (buffer .entry)) (now (buffer .exit)) r ⌝ }
+    {
+        let state = self.state;
+        if stands(state, self.ever, Scope::Current) {
+            return match writing::lay(self, buffer) {
+                Written::To(n) => Amounted {
+                    book: self,
+                    answer: Answer::Taken,
+                    amount: n as u64,
+                },
+                Written::Full => no_amount(self, Answer::NoRoom),
             };
         }
         no_amount(self, refusal(state))

@@ -22,6 +22,7 @@ use settings::Dialect;
 use settings::is_m;
 use side::Levels;
 use side::Side;
+use sides::apply_entries;
 
 const MAX_LEVELS: usize = 100;
 
@@ -68,8 +69,8 @@ fn take_snapshot(book: Book, s: &[u8], outline: Outline) -> Step
     let dialect = settings.dialect;
     let m = is_m(dialect);
     let none = side::empty();
-    let bids = sides::apply_entries(none, Side::Bids, depth, m, s, outline.bids_at, outline.bids);
-    let asks = sides::apply_entries(none, Side::Asks, depth, m, s, outline.asks_at, outline.asks);
+    let bids = apply_entries(none, Side::Bids, depth, m, s, outline.bids_at, outline.bids);
+    let asks = apply_entries(none, Side::Asks, depth, m, s, outline.asks_at, outline.asks);
     if bids.met {
         return refuse(book, Answer::PriceTwice);
     }
@@ -94,7 +95,7 @@ fn take_update(book: Book, s: &[u8], outline: Outline) -> Step
         return refuse(book, Answer::OldNumber);
     }
     let old_bids = book.bids;
-    let bids = sides::apply_entries(
+    let bids = apply_entries(
         old_bids,
         Side::Bids,
         depth,
@@ -104,7 +105,7 @@ fn take_update(book: Book, s: &[u8], outline: Outline) -> Step
         outline.bids,
     );
     let old_asks = book.asks;
-    let asks = sides::apply_entries(
+    let asks = apply_entries(
         old_asks,
         Side::Asks,
         depth,
@@ -116,16 +117,10 @@ fn take_update(book: Book, s: &[u8], outline: Outline) -> Step
     if is_over(m, bids.count, asks.count) {
         return refuse(book, Answer::TooManyLevels);
     }
-    let new_bids = bids.levels;
-    let new_asks = asks.levels;
-    settle(
-        book,
-        outline,
-        new_bids,
-        new_asks,
-        one_more(book.updates),
-        book.ever,
-    )
+    let next_bids = bids.levels;
+    let next_asks = asks.levels;
+    let updates = one_more(book.updates);
+    settle(book, outline, next_bids, next_asks, updates, book.ever)
 }
 
 // The book with these sides, if the message's checksum is theirs.

@@ -9,7 +9,7 @@ use native.Mathlib.Omega.{arith}
 use Rattle.decimal.specs.Ascii.{ascii}
 use Rattle.decimal.specs.Digits.{Reading, reads, refused, leading, valueOf}
 use Rattle.decimal.specs.Decimal.{isWhole}
-use Rattle.decimal.specs.Whole.{readWhole}
+use Rattle.decimal.specs.Whole.{readWhole, atMost, readChecksum}
 use Rattle.decimal.proofs.Digits.{Digits, leading-digits, value-below, tens-mono}
 use Rattle.decimal.proofs.Scan.{leading-whole}
 use Rattle.json.specs.Names.{part}
@@ -17,7 +17,7 @@ use Rattle.json.specs.Json.{Span, Pair, text}
 use Rattle.settings.specs.Settings.{Terms}
 use Rattle.settings.specs.declared.Dialect.{Dialect}
 use Rattle.settings.specs.declared.Dialect.the-variants.{K, M, Unknown}
-use Rattle.entries.specs.Places.{andThen, all, arrayAt, objectAt, valuesOf, only, wholeAt, checksumAt, quotedChecksumAt, top}
+use Rattle.entries.specs.Places.{isString, inner, andThen, all, arrayAt, objectAt, valuesOf, only, wholeAt, checksumAt, quotedChecksumAt, top}
 use Rattle.entries.specs.Rows.{Row, entryK, entryM, entriesAt}
 use Rattle.layout.specs.Layout.{Printed, printed, unprinted, Listed, Layout, Heard, unlisted, listedAt, laid}
 use Rattle.message_k.specs.LayoutK.{Frame, frameOf, isSnapshot, isUpdate, together, listedOf, listedIn, objectsLayout, layoutK, heardK}
@@ -39,11 +39,12 @@ pub data Lies (entry : List ℕ → Span → Reading Row) (s : List ℕ) (l : Li
   nowhere : l .rows ≡ [] → Lies entry s l
   there : (to : ℕ) → entriesAt entry s (record { from = l .at; to = to }) ≡ reads (l .rows) → Lies entry s l
 
--- The entries of both sides, and a sequence number of at most 19 digits.
+-- The entries of both sides, a sequence number of at most 19 digits, and a checksum within its bound.
 pub record LieIn (entry : List ℕ → Span → Reading Row) (s : List ℕ) (l : Layout) : Type 0 where
   pub bids : Lies entry s (l .bids)
   pub asks : Lies entry s (l .asks)
   pub small : l .number < 10 ^ 19
+  pub low : (n : ℕ) → l .checksum ≡ printed n → n ≤ 4294967295
 
 -- ---- what was read of what was read
 no-reading : {A B : Type 0} {b : B} → refused ≡ reads b → A
@@ -84,6 +85,34 @@ whole-small s n h = at (isWhole 19 s && eqb (length (leading s)) (length s)) ref
         let m : 10 ^ length s ≤ 10 ^ 19 = tens-mono (length s) 19 k in
         subst (λ (x : ℕ). x < 10 ^ 19) (reads-same g) (below v m)
 
+-- ---- a checksum is within its bound
+
+no-print : {A : Type 0} {k : ℕ} → unprinted ≡ printed k → A
+no-print h = let z : _≡_ {A = ℕ} 0 1 = cc in absurd (omega arith)
+
+printed-same : {i k : ℕ} → printed i ≡ printed k → i ≡ k
+printed-same h = cc
+
+checksum-low : (s : List ℕ) (n : ℕ) → readChecksum s ≡ reads n → n ≤ 4294967295
+unfolding readChecksum atMost
+checksum-low s n h = go (readWhole s) h
+  where
+    at : (k : ℕ) (b : Bool) → leb k 4294967295 ≡ b → elim b [ true ↦ reads k | false ↦ refused ] ≡ reads n → n ≤ 4294967295
+    at k true q g = subst (λ (x : ℕ). x ≤ 4294967295) (reads-same g) (leb-true k 4294967295 q)
+    at k false q g = no-reading g
+
+    go : (x : Reading ℕ) → atMost 4294967295 x ≡ reads n → n ≤ 4294967295
+    go (reads k) g = at k (leb k 4294967295) refl g
+    go refused g = no-reading g
+
+quoted-low : (s : List ℕ) (a : Span) (n : ℕ) → quotedChecksumAt s a ≡ reads n → n ≤ 4294967295
+unfolding quotedChecksumAt
+quoted-low s a n h = go (isString s a) h
+  where
+    go : (b : Bool) → cond b (readChecksum (inner s a)) refused ≡ reads n → n ≤ 4294967295
+    go true g = checksum-low (inner s a) n g
+    go false g = no-reading g
+
 -- ---- a side, and a layout of two
 module _ (entry : List ℕ → Span → Reading Row) (s : List ℕ) where
   listed-lies : (a : Span) (l : Listed) → listedAt entry s a ≡ reads l → Lies entry s l
@@ -98,13 +127,13 @@ module _ (entry : List ℕ → Span → Reading Row) (s : List ℕ) where
 
   laid-lies : (snapshot : Bool) (p : Printed) (n : ℕ) (b a : Reading Listed)
       → ((x : Listed) → b ≡ reads x → Lies entry s x) → ((x : Listed) → a ≡ reads x → Lies entry s x)
-      → n < 10 ^ 19 → (l : Layout) → laid snapshot p n b a ≡ reads l → LieIn entry s l
+      → n < 10 ^ 19 → ((k : ℕ) → p ≡ printed k → k ≤ 4294967295) → (l : Layout) → laid snapshot p n b a ≡ reads l → LieIn entry s l
   unfolding laid andThen
-  laid-lies snapshot p n (reads b) (reads a) f g small l h =
+  laid-lies snapshot p n (reads b) (reads a) f g small low l h =
       let e : l ≡ record { snapshot = snapshot; bids = b; asks = a; checksum = p; number = n } = sym (reads-same h) in
-      rw e (record { bids = f b refl; asks = g a refl; small = small })
-  laid-lies snapshot p n (reads b) refused f g small l h = no-reading h
-  laid-lies snapshot p n refused a f g small l h = no-reading h
+      rw e (record { bids = f b refl; asks = g a refl; small = small; low = low })
+  laid-lies snapshot p n (reads b) refused f g small low l h = no-reading h
+  laid-lies snapshot p n refused a f g small low l h = no-reading h
 
 -- ---- K
 module _ (s : List ℕ) where
@@ -128,11 +157,11 @@ module _ (s : List ℕ) where
           andThen (quotedChecksumAt s c) (λ sum. laid false (printed sum) 0 (listedIn s (ascii "b") o) (listedIn s (ascii "a") o))))
           refused)
           ≡ reads l → LieIn entryK s l
-      at true y g = laid-lies entryK s true unprinted 0 _ _ (lies (ascii "bs")) (lies (ascii "as")) (lit< tt) l g
+      at true y g = laid-lies entryK s true unprinted 0 _ _ (lies (ascii "bs")) (lies (ascii "as")) (lit< tt) (λ k e. no-print e) l g
       at false true g =
           let c = then-reads (only (valuesOf s (ascii "c") (together o))) _ l g in
           let d = then-reads (quotedChecksumAt s (c .0)) _ l (c .1) in
-          laid-lies entryK s false (printed (d .0)) 0 _ _ (lies (ascii "b")) (lies (ascii "a")) (lit< tt) l (d .1)
+          laid-lies entryK s false (printed (d .0)) 0 _ _ (lies (ascii "b")) (lies (ascii "a")) (lit< tt) (λ k e. subst (λ (x : ℕ). x ≤ 4294967295) (printed-same e) (quoted-low s (c .0) (d .0) (d .2))) l (d .1)
       at false false g = no-reading g
 
   k-lies : (f : Frame) (l : Layout) → layoutK s f ≡ reads l → LieIn entryK s l
@@ -150,7 +179,7 @@ module _ (s : List ℕ) where
       listed-lies entryM s (a .0) x (a .1)
 
   m-lies : (ms : List Pair) (l : Layout) → layoutM s ms ≡ reads l → LieIn entryM s l
-  unfolding layoutM wholeAt
+  unfolding layoutM wholeAt checksumAt
   m-lies ms l h =
       let a = then-reads (only (valuesOf s (ascii "channel") ms)) _ l h in
       let b = then-reads (only (valuesOf s (ascii "product") ms)) _ l (a .1) in
@@ -162,7 +191,7 @@ module _ (s : List ℕ) where
       let n = then-reads (checksumAt s (k .0)) _ l (k .1) in
       let g = then-reads (only (valuesOf s (ascii "gsn") ms)) _ l (n .1) in
       let w = then-reads (wholeAt s (g .0)) _ l (g .1) in
-      laid-lies entryM s (t .0) (printed (n .0)) (w .0) _ _ (m-list-lies (ascii "bids") (o .0)) (m-list-lies (ascii "asks") (o .0)) (whole-small (part s (g .0)) (w .0) (w .2)) l (w .1)
+      laid-lies entryM s (t .0) (printed (n .0)) (w .0) _ _ (m-list-lies (ascii "bids") (o .0)) (m-list-lies (ascii "asks") (o .0)) (whole-small (part s (g .0)) (w .0) (w .2)) (λ i e. subst (λ (x : ℕ). x ≤ 4294967295) (printed-same e) (checksum-low (part s (k .0)) (n .0) (n .2))) l (w .1)
 
 -- ---- the whole: a message that passes checks 2 to 7, and one that passes 8 too
 no-pass : {A : Type 0} (a : Answer) (l : Layout) → fails a ≡ passes l → A

@@ -33,7 +33,7 @@ use Rattle.sides.specs.Worked.{Sound, editsAt, Worked}
 -- ---- sizes keep the limits of decimals
 
 -- a number that is read of a message does
-number-within : (s : List ℕ) (a : Span) → Within (numberAt s a)
+pub number-within : (s : List ℕ) (a : Span) → Within (numberAt s a)
 unfolding numberAt
 number-within s a = go (read (inner s a)) refl
   where

@@ -1,0 +1,421 @@
+-- The round trip: what every side that is reached has, and what a new book makes of a snapshot of it.
+-- Assumes nothing.
+use mathlib.Core.Path.{_≡_, refl, sym, ap, ap₂, _∙_, subst}
+use mathlib.Core.List.{List, [], _∷_, _++_, map, append-assoc, append-nil}
+use mathlib.Core.Bool.{Bool, true, false, true≢false, _&&_, _||_, not, cond}
+use Prim.Native.Nat.{ℕ, _≤_, _<_, _^_}
+use native.Mathlib.Omega.{arith}
+use borrow.Author.Tests.{ltb-true}
+use lib.Dec.{ltb, lit<}
+use lib.ListN.{length, take, length-take, length-map}
+use lib.Seq.{take-all}
+use Rattle.decimal.specs.Digits.{Reading, reads, refused}
+use Rattle.decimal.specs.Decimal.{Number, read, isZero, Within, value}
+use Rattle.decimal.proofs.RoundTrip.{read-within}
+use Rattle.json.specs.Json.{Span}
+use Rattle.settings.specs.Settings.{Terms, isM, good, kept}
+use Rattle.settings.specs.declared.Dialect.{Dialect}
+use Rattle.settings.specs.declared.Dialect.the-variants.{K, M, Unknown}
+use Rattle.entries.specs.Places.{inner}
+use Rattle.entries.specs.Rows.{Row, numberAt, badPrice, badSize, badTexts}
+use Rattle.entries.specs.Summary.{anyBroken}
+use Rattle.entries.proofs.Claims.{broken-none, zero-none}
+use Rattle.side.specs.Level.{PriceLevel, shownPrice}
+use Rattle.side.specs.Side.{Edit, sets, removes, All, IfSet, before, place, apply, applyAll, ranked, Sorted, Distinct, namesTwice}
+use Rattle.side.specs.declared.Side.{Side}
+use Rattle.side.specs.declared.Side.the-variants.{Bids, Asks}
+use Rattle.side.proofs.All.{all-take}
+use Rattle.side.proofs.Ranking.{all-applyAll, all-ranked, applyRanked, commute, without-none, place-middle, ranked-sorted, sorted-take, sorted-distinct, distinct-applyAll, distinct-once}
+use Rattle.side.proofs.Lengths.{length-ranked}
+use Rattle.sides.proofs.Working.{number-within}
+use Rattle.crc32_spec.specs.Crc.{crc, run}
+use Rattle.writer.specs.Snapshot.{kSnapshot, mSnapshot}
+use Rattle.checksum.specs.Text.{interleaved, colonJoined, mText, mChecksum}
+use Rattle.layout.specs.Layout.{Printed, printed, unprinted, Layout}
+use Rattle.message.specs.Meaning.{Quote, quoteAt, Message, messageOf, Checked, fails, passes, bad, checked, saidOf, said, says, refuses}
+use Rattle.message.specs.declared.Answer.the-variants.{Taken}
+use Rattle.message.proofs.Where.{LieIn, entryIn, framed-lies}
+use Rattle.message.proofs.Entering.{Readable, is-k, is-m, good-readable, also-framed}
+use Rattle.round_trip.specs.Claims.{quoteOf, Positive, FineLevel, Each, each-none, each-more, Fine}
+use Rattle.round_trip.proofs.Claims.{k-round-trip, m-round-trip}
+use Rattle.book.specs.Reference.{Status, shut, waiting, live, isShut, isLive, Reference, opened, editOf, cut, afterQuotes, bidsAfter, asksAfter, pricesOf, checksumOf, taken, After, hear, textIn, snapshotText, Ask, does, Call, final}
+use Rattle.book.specs.Claims.{Ready, restarts, Agrees, carries-none, the-same, Acceptable, withStatus, ReadsBack, Round-trip}
+use Rattle.book.proofs.Outcome.{or-none, ready-open, acceptable-taken}
+use Rattle.book.proofs.Carried.{said-carries}
+use Rattle.book.proofs.Runs.{Steps, stays, moves, steps, Reached, reached, reached-step, reached-opened}
+use Rattle.book.proofs.Settling.{good-depth}
+
+-- ---- a sorted side, set level by level on an empty one and ranked, is the side
+
+abbrev key : PriceLevel → ℕ
+key x = value (shownPrice x)
+
+before-differs : (side : Side) (a b : ℕ) → before side a b ≡ true → a ≡ b → ⊥
+before-differs Bids a b h e = let l : b < a = ltb-true b a h in omega arith
+before-differs Asks a b h e = let l : a < b = ltb-true a b h in omega arith
+
+module _ (side : Side) where
+  -- what stands before x in a sorted side
+  at-end : (P : PriceLevel → Type 0) (p : List PriceLevel) (x : PriceLevel) (q : List PriceLevel) → All P (p ++ (x ∷ q)) → P x
+  unfolding All
+  at-end P [] x q h = h .0
+  at-end P (y ∷ p) x q h = at-end P p x q (h .1)
+
+  sorted-before : (p : List PriceLevel) (x : PriceLevel) (q : List PriceLevel) → Sorted shownPrice side (p ++ (x ∷ q)) → All (λ y. before side (key y) (key x) ≡ true) p
+  unfolding All Sorted
+  sorted-before [] x q h = tt
+  sorted-before (y ∷ p) x q h = (at-end (λ z. before side (key y) (key z) ≡ true) p x q (h .0), sorted-before p x q (h .1))
+
+  all-differ : (x : PriceLevel) (p : List PriceLevel) → All (λ y. before side (key y) (key x) ≡ true) p → All (λ y. key y ≡ key x → ⊥) p
+  unfolding All
+  all-differ x [] h = tt
+  all-differ x (y ∷ p) h = (before-differs side (key y) (key x) (h .0), all-differ x p (h .1))
+
+  placed-last : (p : List PriceLevel) (x : PriceLevel) (q : List PriceLevel) → Sorted shownPrice side (p ++ (x ∷ q)) → applyRanked shownPrice side (sets x) p ≡ p ++ (x ∷ [])
+  unfolding applyRanked All
+  placed-last p x q h =
+      let b = sorted-before p x q h in
+      ap (place shownPrice side x) (without-none shownPrice (key x) p (all-differ x p b) ∙ sym (append-nil p)) ∙ place-middle shownPrice side x p [] b tt
+
+  sets-back : (q p s : List PriceLevel) → Sorted shownPrice side (p ++ q) → ranked shownPrice side s ≡ p → ranked shownPrice side (applyAll shownPrice (map sets q) s) ≡ p ++ q
+  unfolding applyAll
+  sets-back [] p s h e = e ∙ sym (append-nil p)
+  sets-back (x ∷ q) p s h e =
+      let w = commute shownPrice side (sets x) s ∙ ap (applyRanked shownPrice side (sets x)) e ∙ placed-last p x q h in
+      let a = append-assoc p (x ∷ []) q in
+      sets-back q (p ++ (x ∷ [])) (apply shownPrice (sets x) s) (subst (Sorted shownPrice side) (sym a) h) w ∙ a
+
+  pub side-back : (q : List PriceLevel) → Sorted shownPrice side q → ranked shownPrice side (applyAll shownPrice (map sets q) []) ≡ q
+  unfolding ranked
+  side-back q h = sets-back q [] [] h refl
+
+-- the entries of a snapshot of it
+fine-sets : (q : List PriceLevel) → All FineLevel q → map editOf (map quoteOf q) ≡ map sets q
+unfolding All editOf quoteOf
+fine-sets [] h = refl
+fine-sets (x ∷ q) h = let z = h .0 .size .some in ap₂ (λ (e : Edit PriceLevel) (l : List (Edit PriceLevel)). e ∷ l) (rw z) (fine-sets q (h .1))
+
+prices-back : (q : List PriceLevel) → pricesOf (map quoteOf q) ≡ map shownPrice q
+unfolding quoteOf
+prices-back [] = refl
+prices-back (x ∷ q) = ap (λ (l : List Number). x .price ∷ l) (prices-back q)
+
+each-fine : (q : List PriceLevel) → All FineLevel q → Each FineLevel q
+unfolding All
+each-fine [] h = each-none
+each-fine (x ∷ q) h = each-more (h .0) (each-fine q (h .1))
+
+-- ---- the quotes of a message that passes check 8
+
+pub record Offer (q : Quote) : Type 0 where
+  pub price : Positive (q .price)
+  pub size : Within (q .size)
+
+price-positive : (s : List ℕ) (a : Span) → badPrice s a ≡ false → Positive (numberAt s a)
+unfolding badPrice numberAt
+price-positive s a h = go (read (inner s a)) refl h
+  where
+    go : (x : Reading Number) → read (inner s a) ≡ x → elim x [ reads n ↦ isZero n | refused ↦ true ] ≡ false → Positive (elim x [ reads n ↦ n | refused ↦ record { digits = 0; decimals = 0 } ])
+    go (reads n) q g = record { within = read-within (inner s a) n q; some = g }
+    go refused q g = absurd (true≢false g)
+
+offers : (s : List ℕ) (rows : List Row) → anyBroken s rows ≡ false → All Offer (map (quoteAt s) rows)
+unfolding All anyBroken quoteAt
+offers s [] h = tt
+offers s (r ∷ l) h =
+    let a = or-none (badPrice s (r .price) || badSize false s (r .size)) (anyBroken s l) h in
+    let b = or-none (badPrice s (r .price)) (badSize false s (r .size)) (a .0) in
+    (record { price = price-positive s (r .price) (b .0); size = number-within s (r .size) }, offers s l (a .1))
+
+texts-offers : (snapshot : Bool) (s : List ℕ) (rows : List Row) → badTexts snapshot s rows ≡ [] → All Offer (map (quoteAt s) rows)
+texts-offers true s rows h = offers s rows (zero-none s rows h .0)
+texts-offers false s rows h = offers s rows (broken-none s rows h)
+
+offer-edit : (q : Quote) → Offer q → IfSet FineLevel (editOf q)
+unfolding editOf IfSet
+offer-edit q o = at (isZero (q .size)) refl
+  where
+    at : (b : Bool) → isZero (q .size) ≡ b → IfSet {A = PriceLevel} FineLevel (cond b (removes (q .price)) (sets (record { price = q .price; size = q .size })))
+    at true e = tt
+    at false e = record { price = o .price; size = record { within = o .size; some = e } }
+
+offer-edits : (qs : List Quote) → All Offer qs → All (IfSet FineLevel) (map editOf qs)
+unfolding All
+offer-edits [] h = tt
+offer-edits (q ∷ qs) h = (offer-edit q (h .0), offer-edits qs (h .1))
+
+-- ---- what a message that is understood has
+
+append-none : {A : Type 0} (x y : List A) → x ++ y ≡ [] → (x ≡ []) × (y ≡ [])
+append-none [] y h = (refl, h)
+append-none (a ∷ x) y h = let z : _≡_ {A = ℕ} 0 1 = cc in absurd (omega arith)
+
+pub record Understood (m : Message) : Type 0 where
+  pub bids : All Offer (m .bids)
+  pub asks : All Offer (m .asks)
+  pub small : m .number < 10 ^ 19
+  pub low : (n : ℕ) → m .checksum ≡ printed n → n ≤ 4294967295
+
+understood : (t : Terms) (s : List ℕ) (m : Message) → said t s ≡ says m → Understood m
+unfolding said saidOf messageOf bad
+understood t s m h = go (checked t s) refl h
+  where
+    go : (x : Checked) → checked t s ≡ x → saidOf s x ≡ says m → Understood m
+    go (fails a) q g = let z : _≡_ {A = ℕ} 0 1 = cc in absurd (omega arith)
+    go (passes l) q g =
+        let e : messageOf s l ≡ m = cc in
+        let f = also-framed t s l q in
+        let b = append-none (badTexts (l .snapshot) s (l .bids .rows)) (badTexts (l .snapshot) s (l .asks .rows)) (f .1) in
+        let w = framed-lies t s l (f .0) in
+        subst Understood e (record {
+          bids = texts-offers (l .snapshot) s (l .bids .rows) (b .0);
+          asks = texts-offers (l .snapshot) s (l .asks .rows) (b .1);
+          small = w .small;
+          low = w .low;
+        })
+
+-- ---- what every book that is reached holds
+
+pub record SaneSide (side : Side) (depth : ℕ) (s : List PriceLevel) : Type 0 where
+  pub sorted : Sorted shownPrice side s
+  pub fine : All FineLevel s
+  pub few : length s ≤ depth
+
+pub record Sane (p : Reference) : Type 0 where
+  pub bids : SaneSide Bids (p .terms .depth) (p .bids)
+  pub asks : SaneSide Asks (p .terms .depth) (p .asks)
+  pub small : p .number < 10 ^ 19
+  -- an M book's checksum was compared with one that a message carried
+  pub low : p .terms .dialect ≡ M → mChecksum (p .bids) (p .asks) ≤ 4294967295
+
+empty-sane : (side : Side) (depth : ℕ) → SaneSide side depth []
+unfolding Sorted All
+empty-sane side depth = record { sorted = tt; fine = tt; few = omega arith }
+
+-- a side after a message
+module _ (t : Terms) (g : good t ≡ true) (side : Side) (qs : List Quote) (base : List PriceLevel) (h : SaneSide side (t .depth) base) (o : All Offer qs) where
+  abbrev worked : List PriceLevel
+  worked = applyAll shownPrice (map editOf qs) base
+
+  worked-sorted : Sorted shownPrice side (ranked shownPrice side worked)
+  worked-sorted = ranked-sorted shownPrice side worked (distinct-applyAll shownPrice (map editOf qs) base (sorted-distinct shownPrice side base (h .sorted)))
+
+  worked-fine : All FineLevel (ranked shownPrice side worked)
+  worked-fine = all-ranked shownPrice FineLevel side worked (all-applyAll shownPrice FineLevel (map editOf qs) base (offer-edits qs o) (h .fine))
+
+  after-sane : (t .dialect ≡ M → length (afterQuotes t side qs base) ≤ 100) → SaneSide side (t .depth) (afterQuotes t side qs base)
+  unfolding afterQuotes cut isM
+  after-sane few = go (good-readable t g) refl few (good-depth t g .1)
+    where
+      go : {d : Dialect} → Readable d → t .dialect ≡ d → (t .dialect ≡ M → length (cut (t .dialect) (t .depth) (ranked shownPrice side worked)) ≤ 100) → (isM (t .dialect) ≡ true → t .depth ≡ 100)
+          → SaneSide side (t .depth) (cut (t .dialect) (t .depth) (ranked shownPrice side worked))
+      go is-k e f x =
+          let n = length-take (t .depth) (ranked shownPrice side worked) in
+          rw e (record { sorted = sorted-take shownPrice side (t .depth) (ranked shownPrice side worked) worked-sorted; fine = all-take FineLevel (t .depth) (ranked shownPrice side worked) worked-fine; few = omega arith })
+      go is-m e f x =
+          let y : t .depth ≡ 100 = x (ap isM e) in
+          let l : length (cut (t .dialect) (t .depth) (ranked shownPrice side worked)) ≤ 100 = f e in
+          let l′ : length (ranked shownPrice side worked) ≤ 100 = subst (λ (d : Dialect). length (cut d (t .depth) (ranked shownPrice side worked)) ≤ 100) e l in
+          rw e (record { sorted = worked-sorted; fine = worked-fine; few = omega arith })
+
+sane-opened : (t : Terms) → Sane (opened t)
+unfolding opened mChecksum mText interleaved colonJoined crc run
+sane-opened t = record { bids = empty-sane Bids (kept t .depth); asks = empty-sane Asks (kept t .depth); small = lit< tt; low = λ e. none-low }
+  where
+    none-low : mChecksum [] [] ≤ 4294967295
+    none-low = let e : mChecksum [] [] ≡ 0 = refl in omega arith
+
+module _ (p : Reference) (s : List ℕ) (m : Message) (q : said (p .terms) s ≡ says m) (a : Acceptable p m) (g : good (p .terms) ≡ true) (h : Sane p) where
+  u : Understood m
+  u = understood (p .terms) s m q
+
+  bids-sane : SaneSide Bids (p .terms .depth) (bidsAfter p m)
+  unfolding bidsAfter
+  bids-sane = at (m .snapshot) refl
+    where
+      at : (b : Bool) → m .snapshot ≡ b → SaneSide Bids (p .terms .depth) (afterQuotes (p .terms) Bids (m .bids) (cond (m .snapshot) [] (p .bids)))
+      at true e = after-sane (p .terms) g Bids (m .bids) (cond (m .snapshot) [] (p .bids)) (rw e (empty-sane Bids (p .terms .depth))) (u .bids) (λ k. a .few k .0)
+      at false e = after-sane (p .terms) g Bids (m .bids) (cond (m .snapshot) [] (p .bids)) (rw e (h .bids)) (u .bids) (λ k. a .few k .0)
+
+  asks-sane : SaneSide Asks (p .terms .depth) (asksAfter p m)
+  unfolding asksAfter
+  asks-sane = at (m .snapshot) refl
+    where
+      at : (b : Bool) → m .snapshot ≡ b → SaneSide Asks (p .terms .depth) (afterQuotes (p .terms) Asks (m .asks) (cond (m .snapshot) [] (p .asks)))
+      at true e = after-sane (p .terms) g Asks (m .asks) (cond (m .snapshot) [] (p .asks)) (rw e (empty-sane Asks (p .terms .depth))) (u .asks) (λ k. a .few k .1)
+      at false e = after-sane (p .terms) g Asks (m .asks) (cond (m .snapshot) [] (p .asks)) (rw e (h .asks)) (u .asks) (λ k. a .few k .1)
+
+  taken-low : p .terms .dialect ≡ M → mChecksum (bidsAfter p m) (asksAfter p m) ≤ 4294967295
+  unfolding checksumOf
+  taken-low e = go (a .checksum)
+    where
+      go : Agrees (m .checksum) (checksumOf (p .terms .dialect) (bidsAfter p m) (asksAfter p m)) → mChecksum (bidsAfter p m) (asksAfter p m) ≤ 4294967295
+      go (carries-none c) =
+          let k = said-carries (p .terms) s m q .compared c .0 in
+          let z : _≡_ {A = Dialect} M K = sym e ∙ k in
+          let w : _≡_ {A = ℕ} 1 0 = ap (λ (d : Dialect). elim d [ K ↦ 0 | M ↦ 1 | Unknown ↦ 2 ]) z in
+          absurd (omega arith)
+      go (the-same c) = u .low (mChecksum (bidsAfter p m) (asksAfter p m)) (c ∙ ap printed (rw e))
+
+  sane-taken : Sane (taken p m)
+  unfolding taken
+  sane-taken = record { bids = bids-sane; asks = asks-sane; small = u .small; low = taken-low }
+
+good-kept : (t : Terms) (p : Reference) → Reached t p → isShut (p .status) ≡ false → good (p .terms) ≡ true
+unfolding opened kept isShut
+good-kept t p r h = at (good t) refl (sym (r .shut) ∙ h)
+  where
+    at : (b : Bool) → good t ≡ b → isShut (cond (good t) waiting shut) ≡ false → good (p .terms) ≡ true
+    at true e k = ap good (r .terms) ∙ rw e e
+    at false e k = absurd (true≢false (sym (rw e) ∙ k))
+
+sane-step : (t : Terms) (p : Reference) (ask : Ask) (q : Reference) → Reached t p → Steps p ask q → Sane p → Sane q
+unfolding withStatus
+sane-step t p ask q r (stays status k l n e) h = rw e (record { bids = h .bids; asks = h .asks; small = h .small; low = h .low })
+sane-step t p ask q r (moves s m d a n e) h = rw e (sane-taken p s m d a (good-kept t p r (ready-open p m (a .ready))) h)
+
+sane-final : (t : Terms) (p : Reference) (cs : List Call) → Reached t p → Sane p → Sane (final p cs)
+unfolding final
+sane-final t p [] r h = h
+sane-final t p (c ∷ cs) r h =
+    let q : Reference = does p (c .ask) (c .buffer) .after in
+    let x = steps p (c .ask) (c .buffer) in
+    sane-final t q cs (reached-step t p (c .ask) q x r) (sane-step t p (c .ask) q r x h)
+
+pub sane : (t : Terms) (cs : List Call) → Sane (final (opened t) cs)
+sane t cs = sane-final t (opened t) cs (reached-opened t) (sane-opened t)
+
+-- ---- reading back
+
+-- the snapshot of a sane side gives the side again
+module _ (t : Terms) (g : good t ≡ true) (side : Side) (l : List PriceLevel) (h : SaneSide side (t .depth) l) where
+  pub back : afterQuotes t side (map quoteOf l) [] ≡ l
+  unfolding afterQuotes cut
+  back = go (good-readable t g) refl
+    where
+      is : ranked shownPrice side (applyAll shownPrice (map editOf (map quoteOf l)) []) ≡ l
+      is = ap (λ (x : List (Edit PriceLevel)). ranked shownPrice side (applyAll shownPrice x [])) (fine-sets l (h .fine)) ∙ side-back side l (h .sorted)
+
+      go : {d : Dialect} → Readable d → t .dialect ≡ d → cut (t .dialect) (t .depth) (ranked shownPrice side (applyAll shownPrice (map editOf (map quoteOf l)) [])) ≡ l
+      go is-k e = rw e (ap (take (t .depth)) is ∙ take-all (t .depth) l (h .few))
+      go is-m e = rw e is
+
+  pub back-fine : Fine l
+  back-fine = let d = good-depth t g .0 in let f = h .few in record { few = omega arith; each = each-fine l (h .fine) }
+
+  pub back-once : namesTwice (pricesOf (map quoteOf l)) ≡ false
+  back-once = ap namesTwice (prices-back l) ∙ distinct-once shownPrice l (sorted-distinct shownPrice side l (h .sorted))
+
+-- the message that a snapshot of a book is
+snapshotOf : Reference → Printed → Message
+snapshotOf p c = record { snapshot = true; bids = map quoteOf (p .bids); asks = map quoteOf (p .asks); checksum = c; number = p .number }
+
+module _ (t : Terms) (p : Reference) (r : Reached t p) (h : Sane p) (g : good t ≡ true) where
+  same-terms : p .terms ≡ t
+  unfolding kept
+  same-terms = r .terms ∙ rw g
+
+  open-terms : opened t .terms ≡ t
+  unfolding opened kept
+  open-terms = rw g
+
+  abbrev at-bids : SaneSide Bids (t .depth) (p .bids)
+  at-bids = subst (λ (x : Terms). SaneSide Bids (x .depth) (p .bids)) same-terms (h .bids)
+
+  abbrev at-asks : SaneSide Asks (t .depth) (p .asks)
+  at-asks = subst (λ (x : Terms). SaneSide Asks (x .depth) (p .asks)) same-terms (h .asks)
+
+  module _ (c : Printed) where
+    bids-back : bidsAfter (opened t) (snapshotOf p c) ≡ p .bids
+    unfolding bidsAfter snapshotOf
+    bids-back = rw open-terms (back t g Bids (p .bids) at-bids)
+
+    asks-back : asksAfter (opened t) (snapshotOf p c) ≡ p .asks
+    unfolding asksAfter snapshotOf
+    asks-back = rw open-terms (back t g Asks (p .asks) at-asks)
+
+    acceptable-back : Agrees c (checksumOf (t .dialect) (p .bids) (p .asks)) → Acceptable (opened t) (snapshotOf p c)
+    unfolding snapshotOf opened
+    acceptable-back x =
+        let bf = back-fine t g Bids (p .bids) at-bids .few in
+        let af = back-fine t g Asks (p .asks) at-asks .few in
+        record {
+          ready = restarts open-status refl;
+          once = λ e. (back-once t g Bids (p .bids) at-bids, back-once t g Asks (p .asks) at-asks);
+          newer = λ e n. absurd (true≢false n);
+          few = λ e. (rw bids-back bf, rw asks-back af);
+          checksum = rw (bids-back, asks-back, open-terms) x;
+        }
+      where
+        open-status : opened t .status ≡ waiting
+        open-status = rw g
+
+    read-back : said t (snapshotText p) ≡ says (snapshotOf p c) → Agrees c (checksumOf (t .dialect) (p .bids) (p .asks)) → ReadsBack t p
+    unfolding taken snapshotOf
+    read-back q x =
+        let q′ : said (opened t .terms) (snapshotText p) ≡ says (snapshotOf p c) = subst (λ (y : Terms). said y (snapshotText p) ≡ says (snapshotOf p c)) (sym open-terms) q in
+        let e = acceptable-taken (opened t) (snapshotText p) (snapshotOf p c) q′ (acceptable-back x) in
+        record {
+          answer = ap (λ (y : After). y .answer) e;
+          status = ap (λ (y : After). y .book .status) e;
+          bids = ap (λ (y : After). y .book .bids) e ∙ bids-back;
+          asks = ap (λ (y : After). y .book .asks) e ∙ asks-back;
+          number = ap (λ (y : After). y .book .number) e;
+          updates = ap (λ (y : After). y .book .updates) e;
+        }
+
+  -- ---- dialect by dialect
+
+  in-dialect : (d : Dialect) → t .dialect ≡ d → record { dialect = d; depth = t .depth; name = t .name } ≡ t
+  in-dialect d e = ap (λ (x : Dialect). record { dialect = x; depth = t .depth; name = t .name }) (sym e)
+
+  text-in : (d : Dialect) → t .dialect ≡ d → snapshotText p ≡ textIn d p
+  unfolding snapshotText
+  text-in d e = ap (λ (x : Terms). textIn (x .dialect) p) same-terms ∙ ap (λ (x : Dialect). textIn x p) e
+
+  k-back : t .dialect ≡ K → ReadsBack t p
+  unfolding snapshotOf textIn
+  k-back e =
+      let i = in-dialect K e in
+      let g′ : good (record { dialect = K; depth = t .depth; name = t .name }) ≡ true = subst (λ (x : Terms). good x ≡ true) (sym i) g in
+      let w = k-round-trip (t .depth) (t .name) (p .bids) (p .asks) g′ (back-fine t g Bids (p .bids) at-bids) (back-fine t g Asks (p .asks) at-asks) in
+      let n : p .number ≡ 0 = r .number (ap (λ (x : Terms). x .dialect) (sym (r .terms) ∙ same-terms) ∙ e) in
+      let x : snapshotText p ≡ kSnapshot (t .depth) (t .name) (p .bids) (p .asks) = text-in K e ∙ ap (λ (y : Terms). kSnapshot (y .depth) (y .name) (p .bids) (p .asks)) same-terms in
+      let q : said t (snapshotText p) ≡ says (snapshotOf p unprinted) = ap₂ said (sym i) x ∙ w ∙ rw n in
+      read-back unprinted q (carries-none refl)
+
+  m-back : t .dialect ≡ M → ReadsBack t p
+  unfolding snapshotOf textIn isM checksumOf
+  m-back e =
+      let i = in-dialect M e in
+      let d : t .depth ≡ 100 = good-depth t g .1 (ap isM e) in
+      let j : record { dialect = M; depth = 100; name = t .name } ≡ t = ap (λ (x : ℕ). record { dialect = M; depth = x; name = t .name }) (sym d) ∙ i in
+      let g′ : good (record { dialect = M; depth = 100; name = t .name }) ≡ true = subst (λ (x : Terms). good x ≡ true) (sym j) g in
+      let sum : ℕ = mChecksum (p .bids) (p .asks) in
+      let low = h .low (ap (λ (x : Terms). x .dialect) same-terms ∙ e) in
+      let w = m-round-trip (t .name) (p .bids) (p .asks) sum (p .number) g′ (back-fine t g Bids (p .bids) at-bids) (back-fine t g Asks (p .asks) at-asks) low (h .small) in
+      let x : snapshotText p ≡ mSnapshot (t .name) (p .bids) (p .asks) sum (p .number) = text-in M e ∙ ap (λ (y : Terms). mSnapshot (y .name) (p .bids) (p .asks) sum (p .number)) same-terms in
+      let q : said t (snapshotText p) ≡ says (snapshotOf p (printed sum)) = ap₂ said (sym j) x ∙ w in
+      read-back (printed sum) q (the-same (rw e))
+
+  pub either-back : ReadsBack t p
+  either-back = go (good-readable t g) refl
+    where
+      go : {d : Dialect} → Readable d → t .dialect ≡ d → ReadsBack t p
+      go is-k e = k-back e
+      go is-m e = m-back e
+
+live-good : (t : Terms) (p : Reference) → Reached t p → isLive (p .status) ≡ true → good t ≡ true
+unfolding opened isShut isLive
+live-good t p r l = at (good t) refl (p .status) refl
+  where
+    at : (b : Bool) → good t ≡ b → (x : Status) → p .status ≡ x → good t ≡ true
+    at true e x k = e
+    at false e shut k = absurd (true≢false (sym l ∙ rw k))
+    at false e waiting k = absurd (true≢false (sym l ∙ rw k))
+    at false e live k =
+        let z : isShut (p .status) ≡ true = r .shut ∙ rw e in
+        absurd (true≢false (sym z ∙ rw k))
+
+pub reached-back : Round-trip
+reached-back t cs l = let r = reached t cs in either-back t (final (opened t) cs) r (sane t cs) (live-good t (final (opened t) cs) r l)

@@ -1,0 +1,100 @@
+-- `lay` meets its contract: dialect by dialect.
+use Rattle.book.proofs.Snapshots.{name-length, k-text, m-text, no-text}
+use Rattle.book.proofs.Settling.{m-sums}
+use mathlib.Core.Path.{sym, subst}
+use mathlib.Core.List.{List}
+use Prim.Native.Nat.{ℕ}
+use native.Mathlib.Omega.{arith}
+use denote.Ref.{now}
+use Rattle.decimal.specs.Buffer.{Laid}
+use borrow.Author.Needs.{needs}
+use Rattle.book.proofs.writing.lay.Statement.{statement}
+use Rattle.book.proofs.writing.lay.Tie as tie
+
+enum-told : tie.Need-enum-told
+enum-told c = search needs
+
+array-share-prefix-name : tie.Need-array-share-prefix-name
+array-share-prefix-name c = search needs
+
+slice-aggregate-k-write : tie.Need-slice-aggregate-k-write
+slice-aggregate-k-write c =
+    let a = c .before .before .before .before .before .before .before .before .args in
+    sym (name-length (a .book) (c .before .before .before .before .before .before .before .before .pre))
+
+k-write-requires : tie.Need-k-write-requires
+k-write-requires c κs =
+    let a = c .before .before .before .before .before .before .before .before .before .args in
+    let g = c .before .before .before .before .before .before .before .before .before .pre in
+    let n = name-length (a .book) g in
+    let s = g .short in
+    (g .bids .good, g .asks .good, g .bids .sized, g .asks .sized, omega arith)
+
+enum-told-2 : tie.Need-enum-told-2
+enum-told-2 c = search needs
+
+m-checksum-requires : tie.Need-m-checksum-requires
+m-checksum-requires c κs =
+    let a = c .before .before .before .before .before .before .before .args in
+    let g = c .before .before .before .before .before .before .before .pre in
+    m-sums (a .book .settings .dialect) (a .book .bids) (a .book .asks) (c .enum-told2 .given .1) (g .bids) (g .asks)
+
+array-share-prefix-name-2 : tie.Need-array-share-prefix-name-2
+array-share-prefix-name-2 c = search needs
+
+slice-aggregate-m-write : tie.Need-slice-aggregate-m-write
+slice-aggregate-m-write c =
+    let a = c .before .before .before .before .before .before .before .before .before .args in
+    sym (name-length (a .book) (c .before .before .before .before .before .before .before .before .before .pre))
+
+m-write-requires : tie.Need-m-write-requires
+m-write-requires c κs =
+    let a = c .before .before .before .before .before .before .before .before .before .before .args in
+    let g = c .before .before .before .before .before .before .before .before .before .before .pre in
+    let n = name-length (a .book) g in
+    let s = g .short in
+    (g .bids .good, g .asks .good, g .bids .sized, g .asks .sized, omega arith)
+
+enum-told-3 : tie.Need-enum-told-3
+enum-told-3 c = search needs
+
+same-length : tie.Need-same-length
+same-length c = search needs
+
+returns : tie.Need-returns
+returns c =
+    let a = c .before .before .before .before .before .before .before .before .before .before .before .before .args in
+    subst (λ (t : List ℕ). Laid (now (a .buffer)) 0 t (c .before .before .k-write .last .1 .1 .1 .1 .0) (c .before .before .k-write .result)) (k-text (a .book) (c .before .before .before .before .before .enum-told .given .1)) (c .before .before .k-write .ensures)
+
+same-length-2 : tie.Need-same-length-2
+same-length-2 c = search needs
+
+returns-2 : tie.Need-returns-2
+returns-2 c =
+    let a = c .before .before .before .before .before .before .before .before .before .before .before .before .before .args in
+    subst (λ (t : List ℕ). Laid (now (a .buffer)) 0 t (c .before .before .m-write .last .1 .1 .1 .1 .1 .0) (c .before .before .m-write .result)) (m-text (a .book) (c .before .before .before .before .before .before .enum-told2 .given .1) (c .before .before .before .before .before .m-checksum .result) (c .before .before .before .before .before .m-checksum .ensures)) (c .before .before .m-write .ensures)
+
+returns-3 : tie.Need-returns-3
+returns-3 c =
+    let a = c .before .before .before .before .before .before .before .args in
+    no-text (a .book) (c .enum-told3 .given .1) (now (a .buffer))
+
+pub lay-spec : {M : Type 1} → statement M
+lay-spec =
+    tie.close
+    (tie.spec
+    enum-told
+    array-share-prefix-name
+    slice-aggregate-k-write
+    k-write-requires
+    enum-told-2
+    m-checksum-requires
+    array-share-prefix-name-2
+    slice-aggregate-m-write
+    m-write-requires
+    enum-told-3
+    same-length
+    returns
+    same-length-2
+    returns-2
+    returns-3)

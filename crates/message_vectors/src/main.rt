@@ -1,0 +1,256 @@
+// Runs the lines of standard input and writes a line for each, with what the crate `message` answers:
+//
+//     = DIALECT DEPTH NAME    the settings for what follows: a letter, digits, and the rest of the line
+//     < MESSAGE               a message
+//     + LENGTH MESSAGE        a message with blanks at its end up to a length
+//
+// Of a message it writes the number of the first of checks 1 to 8 that fails, or 0 and where the entries lie, the checksum and the
+// sequence number; then where the first bad decimal lies, and its text. Other lines are written as they are. What is to come was
+// worked out apart from the crate, by tools/message_vectors.py.
+use decimal::ParsedWhole;
+use layout::Outline;
+use libc::STDIN_FILENO;
+use libc::STDOUT_FILENO;
+use lines::LINE_END;
+use lines::find;
+use message::Answer;
+use message::Verdict;
+use settings::Dialect;
+ghost use mathlib.Core.Path.{_≡_};
+ghost use Prim.Native.Nat.{_≤_};
+ghost use lib.ListN.{length};
+
+const BLANK: u8 = 32;
+
+// The longest message with blanks at its end.
+const MAX_PADDED: usize = 40000;
+
+// Settings; the name is a part of the input.
+struct Terms {
+    dialect: Dialect,
+    depth: usize,
+    from: usize,
+    to: usize,
+}
+
+fn main() {
+    let mut table = empty_table();
+    let n = io::read_full(STDIN_FILENO, &mut table);
+    run_lines(&table[..n]);
+}
+
+fn empty_table() -> [u8; 262144]
+    ensures { λ r. ⌜ 262144 ≡ length r ⌝ }
+{
+    [0; 262144]
+}
+
+fn run_lines(s: &[u8]) {
+    let mut terms = no_terms();
+    let mut i = 0;
+    while i < s.len() {
+        let e = find(s, i, LINE_END);
+        terms = run_line(s, terms, i, e);
+        write(b"\n");
+        if s.len() <= e {
+            return;
+        }
+        i = e + 1;
+    }
+}
+
+fn no_terms() -> Terms {
+    Terms {
+        dialect: Dialect::Unknown,
+        depth: 0,
+        from: 0,
+        to: 0,
+    }
+}
+
+// Runs the line from `from` to `to`, and answers the settings for the next one.
+fn run_line(s: &[u8], terms: Terms, from: usize, to: usize) -> Terms
+    requires { ⌜ (from ≤ to) × (to ≤ length (now s)) ⌝ }
+{
+    if to - from < 2 {
+        write(&s[from..to]);
+        return terms;
+    }
+    let c = s[from];
+    let start = from + 2;
+    if c == b'<' {
+        run_message(s, terms, &s[start..to]);
+        return terms;
+    }
+    if c == b'+' {
+        run_padded(s, terms, start, to);
+        return terms;
+    }
+    write(&s[from..to]);
+    if c == b'=' {
+        return read_terms(s, start, to);
+    }
+    terms
+}
+
+fn read_terms(s: &[u8], from: usize, to: usize) -> Terms
+    requires { ⌜ (from ≤ to) × (to ≤ length (now s)) ⌝ }
+{
+    if to - from < 2 {
+        return no_terms();
+    }
+    let c = s[from];
+    let digits = from + 2;
+    let end = find(s, digits, BLANK);
+    if to <= end {
+        return no_terms();
+    }
+    Terms {
+        dialect: dialect_of(c),
+        depth: whole(&s[digits..end]),
+        from: end + 1,
+        to,
+    }
+}
+
+fn dialect_of(c: u8) -> Dialect {
+    if c == b'K' {
+        return Dialect::K;
+    }
+    if c == b'M' {
+        return Dialect::M;
+    }
+    Dialect::Unknown
+}
+
+// The whole number that a text writes, or 0 where it writes none.
+fn whole(s: &[u8]) -> usize {
+    match decimal::parse_whole(s) {
+        ParsedWhole::Number(n) => n as usize,
+        ParsedWhole::Refused => 0,
+    }
+}
+
+fn run_padded(s: &[u8], terms: Terms, from: usize, to: usize)
+    requires { ⌜ (from ≤ to) × (to ≤ length (now s)) ⌝ }
+{
+    let end = find(s, from, BLANK);
+    if to <= end {
+        return;
+    }
+    let start = end + 1;
+    let most = whole(&s[from..end]);
+    let padded = pad(&s[start..to]);
+    run_front(s, terms, &padded, most);
+}
+
+// Runs the message that the first bytes of a text are.
+fn run_front(s: &[u8], terms: Terms, text: &[u8], most: usize) {
+    let from = 0;
+    if most <= text.len() {
+        run_message(s, terms, &text[from..most]);
+    }
+}
+
+// A text with blanks past it, as far as it fits.
+fn pad(text: &[u8]) -> [u8; 40000]
+    ensures { λ r. ⌜ 40000 ≡ length r ⌝ }
+{
+    let mut padded = [BLANK; 40000];
+    let mut i = 0;
+    while i < text.len() {
+        if MAX_PADDED <= i {
+            return padded;
+        }
+        padded[i] = text[i];
+        i += 1;
+    }
+    padded
+}
+
+fn run_message(s: &[u8], terms: Terms, text: &[u8]) {
+    let from = terms.from;
+    let to = terms.to;
+    if from <= to {
+        if to <= s.len() {
+            let dialect = terms.dialect;
+            tell(dialect, terms.depth, &s[from..to], text);
+        }
+    }
+}
+
+fn tell(dialect: Dialect, depth: usize, name: &[u8], text: &[u8]) {
+    match message::read(dialect, depth, name, text) {
+        Verdict::Fails(answer) => write_number(number_of(answer)),
+        Verdict::Passes(outline) => tell_outline(outline),
+    }
+    tell_bad(dialect, depth, name, text);
+}
+
+// Where the first bad decimal lies, and its text.
+fn tell_bad(dialect: Dialect, depth: usize, name: &[u8], text: &[u8]) {
+    let part = message::bad_place(dialect, depth, name, text);
+    write(b" bad ");
+    write_number(part.from as u64);
+    write(b" ");
+    write_number(part.to as u64);
+    let bad = message::bad_decimal(dialect, depth, name, text);
+    if 0 < bad.len() {
+        write(b" ");
+        write(bad);
+    }
+}
+
+fn tell_outline(outline: Outline) {
+    if outline.snapshot {
+        write(b"0 snapshot");
+    } else {
+        write(b"0 update");
+    }
+    tell_side(b" bids ", outline.bids_at, outline.bids);
+    tell_side(b" asks ", outline.asks_at, outline.asks);
+    if outline.printed {
+        write(b" checksum ");
+        write_number(outline.checksum as u64);
+    }
+    write(b" number ");
+    write_number(outline.number);
+}
+
+// Where the array of a side's entries begins, and how many there are.
+fn tell_side(label: &[u8], at: usize, count: usize) {
+    write(label);
+    write_number(at as u64);
+    write(b" ");
+    write_number(count as u64);
+}
+
+fn write(s: &[u8]) {
+    io::write_all(STDOUT_FILENO, s);
+}
+
+fn write_number(n: u64) {
+    io::print_decimal(STDOUT_FILENO, n);
+}
+
+// The number of an answer in document 01's table.
+fn number_of(answer: Answer) -> u64 {
+    match answer {
+        Answer::Taken => 0,
+        Answer::Shut => 1,
+        Answer::TooLong => 2,
+        Answer::NotJson => 3,
+        Answer::Escaped => 4,
+        Answer::NotOurs => 5,
+        Answer::BadLayout => 6,
+        Answer::TooManyEntries => 7,
+        Answer::BadDecimal => 8,
+        Answer::PriceTwice => 9,
+        Answer::NoSnapshot => 10,
+        Answer::OldNumber => 11,
+        Answer::TooManyLevels => 12,
+        Answer::WrongChecksum => 13,
+        Answer::NoLevel => 14,
+        Answer::NoRoom => 15,
+    }
+}

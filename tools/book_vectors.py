@@ -1,0 +1,320 @@
+"""Calls on books, and what they must answer: writes crates/book_vectors/stdin and stdout. Run at the top of the repository.
+
+The book here follows document 01 with Python's own numbers and zlib's CRC: a dictionary from price to level for each side. What a
+message says is read by message_vectors.py. Lines of input:
+
+    = DIALECT DEPTH NAME    opens a book
+    < MESSAGE               hands it a message
+    c n u                   how many bids and asks, the number, the count of updates; C N U of the last good book
+    b I, a I                level I of the bids, of the asks; B I, A I of the last good book
+    w LENGTH                writes it into a buffer of that many dots
+    r                       writes it, opens a new book with the same settings, hands it the text, and goes on with that book
+"""
+import random
+import zlib
+from decimal import Decimal
+
+import message_vectors as message
+
+MAX_LEVELS, MAX_UPDATES, ROOM = 100, 4294967295, 20000
+
+
+def stripped(text):
+    return text.replace(b".", b"").lstrip(b"0")
+
+
+class Book:
+    def __init__(self, dialect, depth, name):
+        self.settings = dialect, depth, name
+        self.status = "waiting" if message.good_settings(dialect, depth, name) else "shut"
+        self.sides, self.number, self.updates, self.ever = ({}, {}), 0, 0, False
+
+    def ranked(self, side, levels):
+        return [levels[price] for price in sorted(levels, reverse=side == 0)]
+
+    def shown(self, side):
+        return self.ranked(side, self.sides[side])
+
+    def checksum(self, sides):
+        bids, asks = (self.ranked(side, levels) for side, levels in enumerate(sides))
+        if self.settings[0] == b"K":
+            return zlib.crc32(b"".join(stripped(price) + stripped(size) for price, size in asks[:10] + bids[:10]))
+        turns = [levels[i] for i in range(max(len(bids), len(asks))) for levels in (bids, asks) if i < len(levels)]
+        return zlib.crc32(b":".join(price + b":" + size for price, size in turns))
+
+    def refuse(self, number):
+        if number not in (1, 5, 10):
+            self.status = "waiting"
+        return number
+
+    def after(self, said):
+        """The sides after a message, ranked and cut."""
+        sides = []
+        for side, rows in enumerate(said.rows):
+            levels = {} if said.snapshot else dict(self.sides[side])
+            for price, size in ((price.inside(), size.inside()) for price, size in rows):
+                levels.pop(Decimal(price.decode()), None)
+                if not message.zero(size):
+                    levels[Decimal(price.decode())] = price, size
+            if self.settings[0] == b"K":
+                best = sorted(levels, reverse=side == 0)[:self.settings[1]]
+                levels = {price: levels[price] for price in best}
+            sides.append(levels)
+        return tuple(sides)
+
+    def take(self, text):
+        if self.status == "shut":
+            return 1
+        try:
+            said = message.check(*self.settings, text)
+        except message.Refused as refused:
+            return self.refuse(refused.number)
+        for rows in said.rows:
+            prices = [Decimal(price.inside().decode()) for price, _ in rows]
+            if said.snapshot and len(set(prices)) < len(prices):
+                return self.refuse(9)
+        if not said.snapshot and self.status != "live":
+            return 10
+        is_m = self.settings[0] == b"M"
+        if is_m and not said.snapshot and said.number <= self.number:
+            return self.refuse(11)
+        sides = self.after(said)
+        if is_m and max(map(len, sides)) > MAX_LEVELS:
+            return self.refuse(12)
+        if said.checksum is not None and said.checksum != self.checksum(sides):
+            return self.refuse(13)
+        self.sides, self.status, self.number = sides, "live", said.number
+        self.updates = 0 if said.snapshot else min(self.updates + 1, MAX_UPDATES)
+        self.ever = self.ever or said.snapshot
+        return 0
+
+    def asked(self, last):
+        if self.status == "shut":
+            return 1
+        return 0 if (self.ever if last else self.status == "live") else 10
+
+    def text(self):
+        dialect, depth, name = self.settings
+        listed = [b"[" + b",".join(b'["%s","%s"%s]' % (price, size, b',"0.000000"' if dialect == b"K" else b"") for price, size in self.shown(side)) + b"]"
+                  for side in (0, 1)]
+        if dialect == b"K":
+            return b'[0,{"as":%s,"bs":%s},"book-%d","%s"]' % (listed[1], listed[0], depth, name)
+        return (b'{"channel":"book","product":"%s","type":"snapshot","data":{"bids":%s,"asks":%s},"checksum":%d,"gsn":%d}'
+                % (name, listed[0], listed[1], self.checksum(self.sides), self.number))
+
+
+class Files:
+    def __init__(self):
+        self.cases, self.answers, self.book = [], [], None
+
+    def say(self, line, told):
+        self.cases.append(line)
+        self.answers.append(told)
+
+    def heading(self, text):
+        self.say(b"# " + text.encode(), b"# " + text.encode())
+
+    def open(self, dialect, depth, name):
+        self.book = Book(dialect, depth, name)
+        self.say(b"= %s %d %s" % (dialect, depth, name), b"")
+
+    def take(self, text, expected=None):
+        text = text if isinstance(text, bytes) else text.encode()
+        number = self.book.take(text)
+        assert expected in (None, number), (expected, number, text)
+        self.say(b"< " + text, b"%d" % number)
+
+    def ask(self, letter, i=None):
+        last, kind = letter.isupper(), letter.lower()
+        number = self.book.asked(last)
+        if kind == "c":
+            told = b"%d %d %d" % (number, *((len(self.book.shown(side)) for side in (0, 1)) if number == 0 else (0, 0)))
+        elif kind in "nu":
+            told = b"%d %d" % (number, 0 if number else self.book.number if kind == "n" else self.book.updates)
+        else:
+            levels = self.book.shown("ba".index(kind))
+            if number == 0 and i >= len(levels):
+                number = 14
+            told = b"%d %s %s" % (number, *(levels[i] if number == 0 else (b"0", b"0")))
+        self.say(letter.encode() + (b" %d" % i if i is not None else b""), told)
+
+    def ask_all(self, deep=1):
+        for letter in "cnuCNU":
+            self.ask(letter)
+        for letter in "baBA":
+            for i in range(deep + 1):
+                self.ask(letter, i)
+
+    def write(self, length):
+        number, text = self.book.asked(False), self.book.text() if self.book.status == "live" else b""
+        if number == 0 and length < len(text):
+            number = 15
+        room = (text if number == 0 else b"").ljust(length, b".")
+        self.say(b"w %d" % length, b"%d %d %s" % (number, len(text) if number == 0 else 0, room))
+
+    def back(self):
+        number, text = self.book.asked(False), self.book.text() if self.book.status == "live" else b""
+        told = b"%d" % number
+        if number == 0:
+            new = Book(*self.book.settings)
+            told += b" %d" % new.take(text)
+            assert [new.shown(side) for side in (0, 1)] == [self.book.shown(side) for side in (0, 1)] and new.number == self.book.number
+            self.book = new
+        self.say(b"r", told)
+
+    def message(self, snapshot, bids, asks, number=0, checksum=None):
+        """A message of the book's dialect with the checksum that the book will have, or another."""
+        dialect, depth, name = self.book.settings
+        def listed(rows):
+            return b"[" + b",".join(b'["%s","%s"%s]' % (price.encode(), size.encode(), b',"1.0"' if dialect == b"K" else b"") for price, size in rows) + b"]"
+        def make(printed):
+            if dialect == b"K":
+                body = (b'{"as":%s,"bs":%s}' % (listed(asks), listed(bids)) if snapshot else b'{"a":%s,"b":%s,"c":"%d"}' % (listed(asks), listed(bids), printed))
+                return b'[1,%s,"book-%d","%s"]' % (body, depth, name)
+            return (b'{"channel":"book","product":"%s","type":"%s","data":{"bids":%s,"asks":%s},"checksum":%d,"gsn":%d}'
+                    % (name, b"snapshot" if snapshot else b"update", listed(bids), listed(asks), printed, number))
+        if checksum is None:
+            checksum = self.book.checksum(self.book.after(message.check(*self.book.settings, make(0))))
+        return make(checksum)
+
+
+K10, K11, M100 = (b"K", 10, b"XBT/USD"), (b"K", 11, b"XBT/USD"), (b"M", 100, b"BTC-VND")
+
+
+def session(files):
+    files.heading("the session of 01")
+    files.open(*M100)
+    files.ask_all()
+    files.take('{"channel":"book","product":"BTC-VND","type":"snapshot","data":{"bids":[["9","2"]],"asks":[["10","1"]]},"checksum":1226559413,"gsn":7}', 0)
+    files.ask_all()
+    files.take('{"channel":"trades"}', 5)
+    files.ask("c")
+    files.take('{"channel":"book"', 3)
+    files.ask_all()
+    files.take('{"channel":"book","product":"BTC-VND","type":"update","data":{"bids":[],"asks":[]},"checksum":1226559413,"gsn":8}', 10)
+    files.ask_all()
+    files.write(400)
+
+
+def depths(files):
+    files.heading("depth 9, 10, 100, 101 in K, 99, 100, 101 in M: shut or not")
+    for dialect, depth in ((b"K", 9), (b"K", 10), (b"K", 100), (b"K", 101), (b"M", 99), (b"M", 100), (b"M", 101), (b"L", 10)):
+        files.open(dialect, depth, b"XBT/USD")
+        files.ask_all(0)
+        files.take("7")
+        files.take(b"x" * 40)
+        files.ask("c")
+        files.write(10)
+        files.back()
+
+
+def numbers(files):
+    files.heading("gsn equal and one more; a snapshot may carry any")
+    files.open(*M100)
+    files.take(files.message(True, [("9", "2")], [("10", "1")], 7), 0)
+    files.take(files.message(False, [("8", "3")], [], 8), 0)
+    for letter in "nNuU":
+        files.ask(letter)
+    files.take(files.message(False, [("8", "4")], [], 8), 11)
+    files.ask_all(2)
+    files.take(files.message(True, [("9", "2")], [], 3), 0)
+    files.ask_all(1)
+    files.take(files.message(False, [], [("10", "1")], 9999999999999999999), 0)
+    files.take(files.message(False, [], [("10", "2")], 9999999999999999999), 11)
+    files.take(files.message(True, [], [], 0), 0)
+    files.ask_all(0)
+    for length in (0, 119, 120, 121, 122, 123, 130):
+        files.write(length)
+
+
+def twice(files):
+    files.heading("a price twice: in a snapshot 9, also by value and beyond the cut; in an update the last holds")
+    for settings in (K10, M100):
+        files.open(*settings)
+        files.take(files.message(True, [("9", "2"), ("9.0", "3")], [("10", "1")], 1, 0), 9)
+        files.take(files.message(True, [("9", "2")], [("10", "1"), ("11", "1"), ("10.00", "1")], 1, 0), 9)
+        files.take(files.message(True, [("9", "2")], [("9", "1")], 1), 0)
+        files.take(files.message(False, [("9", "2"), ("9.00", "5"), ("9.0", "4")], [("9.000", "0"), ("12", "0")], 2), 0)
+        files.ask_all(1)
+        files.take(files.message(False, [("9", "0"), ("9", "7")], [("12", "3"), ("12", "0.0")], 3), 0)
+        files.ask_all(1)
+        files.take(files.message(False, [("9", "1")], [], 4, 5), 13)
+        files.ask_all(1)
+        files.back()
+        files.take(files.message(True, [("9", "1")], [("0.000000001", "9999999999.999999999")], 4), 0)
+        files.write(200)
+        files.back()
+        files.ask_all(1)
+
+
+def cuts(files):
+    files.heading("K cuts to the depth after the whole message; M refuses more than 100 levels")
+    rows = [("%d.5" % price, "1") for price in range(1, 13)]
+    files.open(*K10)
+    files.take(files.message(True, rows, rows), 0)
+    files.ask("c")
+    files.take(files.message(False, [("100", "1"), ("100", "0"), ("99", "2"), ("12.5", "0")], [("0.5", "1"), ("1.5", "0")]), 0)
+    files.ask("c")
+    for i in (0, 8, 9, 10):
+        files.ask("b", i)
+        files.ask("a", i)
+    files.open(*M100)
+    hundred = [("%d" % price, "1") for price in range(1, 101)]
+    files.take(files.message(True, hundred, [], 1), 0)
+    files.take(files.message(False, [("0.5", "1"), ("100", "0")], hundred, 2), 0)
+    files.ask("c")
+    files.take(files.message(False, [("0.25", "1")], [], 3, 0), 12)
+    files.ask_all(0)
+    files.take(files.message(True, hundred + [("101", "1")], [], 1, 0), 7)
+    files.take(files.message(True, hundred, hundred, 1), 0)
+    files.take(files.message(False, [("%d" % price, "1") for price in range(101, 201)], [], 2, 0), 12)
+
+
+def written(files, pick):
+    files.heading("buffers of every length about the text's")
+    for settings in (K10, K11, M100):
+        files.open(*settings)
+        files.take(files.message(True, [("0.05000", "0.00000500"), ("0.05", "1")][:1], [("0.05005", "0.00000500")], 7), 0)
+        text = files.book.text()
+        for length in (0, 1, len(text) - 1, len(text), len(text) + 1, len(text) + 7):
+            files.write(length)
+        files.back()
+        files.ask_all(1)
+    files.heading("long histories")
+    for settings in (K10, K11, M100, (b"K", 100, b"!")):
+        files.open(*settings)
+        number = 0
+        for turn in range(60):
+            def rows(count, zeros):
+                return [("%d.%0*d" % (pick.randrange(1, 30), places, pick.randrange(10 ** places)) if (places := pick.randrange(0, 4)) else "%d" % pick.randrange(1, 30),
+                         "0" if zeros and pick.random() < 0.3 else "%d.%d" % (pick.randrange(0, 5), pick.randrange(1, 10))) for _ in range(count)]
+            number += pick.randrange(0, 3)
+            snapshot = turn % 20 == 0 or files.book.status != "live"
+            bids, asks = rows(pick.randrange(0, 12), not snapshot), rows(pick.randrange(0, 12), not snapshot)
+            if snapshot:
+                bids, asks = (list({Decimal(price): (price, size) for price, size in side}.values()) for side in (bids, asks))
+            wrong = 5 if pick.random() < 0.08 else None
+            files.take(files.message(snapshot, bids, asks, number, wrong))
+            files.ask(pick.choice("cCnNuU"))
+            files.ask(pick.choice("baBA"), pick.randrange(0, 14))
+            if pick.random() < 0.1:
+                files.back()
+        files.ask_all(3)
+        files.write(len(files.book.text()))
+
+
+def main():
+    files = Files()
+    session(files)
+    depths(files)
+    numbers(files)
+    twice(files)
+    cuts(files)
+    written(files, random.Random(6))
+    for name, lines in (("stdin", files.cases), ("stdout", files.answers)):
+        with open("crates/book_vectors/" + name, "wb") as out:
+            out.write(b"".join(line + b"\n" for line in lines))
+
+
+if __name__ == "__main__":
+    main()

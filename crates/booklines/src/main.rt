@@ -10,7 +10,7 @@ use lines::find;
 ghost use Prim.Native.Nat.{_+_, _≤_, _<_};
 ghost use lib.ListN.{length};
 ghost use Rattle.book.specs.Shown.{Good};
-ghost use Rattle.booklines.specs.Carried.{carried};
+ghost use Rattle.feed.specs.Feed.{carried};
 
 const INPUT: usize = 262144;
 

@@ -1,20 +1,23 @@
 -- Lines heard one after another: what is left gives what the whole gives. Assumes nothing.
-use Prim.Native.Nat.{ℕ, _+_, _-_, _≤_, _<_, zero-le}
+use Prim.Native.Nat.{ℕ, suc, _+_, _-_, _≤_, _<_, zero-le}
 use mathlib.Core.Path.{_≡_, refl, sym, ap, ap₂, _∙_, subst}
-use mathlib.Core.List.{List, [], _∷_}
+use mathlib.Core.List.{List, [], _∷_, _++_}
 use native.Mathlib.Omega.{arith}
-use borrow.Author.Tests.{le-leb, lt-leb}
+use borrow.Author.Tests.{le-leb, lt-leb, leb-true, leb-false}
+use lib.Dec.{leb}
+use mathlib.Core.Bool.{Bool, true, false}
+use native.Mathlib.Nat.{le-refl}
+use Rattle.decimal.proofs.Buffer.{overlaid-none}
 use lib.ListN.{length, take, drop}
 use Rattle.decimal.specs.Buffer.{overlaid}
 use Rattle.lines.specs.Lines.{before, lineEnd, complete, unfinished}
 use Rattle.lines.proofs.Split.{next-complete, next-unfinished, no-more}
 use Rattle.writer.specs.Parts.{Room, Put}
-use Rattle.writer.proofs.Owed.{put-length}
+use Rattle.writer.proofs.Owed.{put-length, length-overlaid, overlaid-twice}
 use Rattle.book.specs.Reference.{Reference, hear}
 use Rattle.book.specs.Shown.{Good, shows}
 use Rattle.book.specs.declared.Book.{Book}
-use Rattle.feed.specs.declared.Heard.{Heard}
-use Rattle.feed.specs.Feed.{replyTo, maxReply, Progress, hearing, HeardLines}
+use Rattle.feed.specs.Feed.{replyTo, replies, maxReply, Progress, hearing, HeardLines}
 
 module _ (p : Reference) (buffer : List ℕ) (at : ℕ) where
   stopped : List (List ℕ) → Progress
@@ -87,3 +90,47 @@ module _ {s : List ℕ} {p : Reference} {buffer₀ buffer : List ℕ} {now : Boo
           ap (λ (q : Reference). hearing (complete (drop (e + 1) s)) q (overlaid buffer written (replyTo (hear (shows now) line))) (written + length (replyTo (hear (shows now) line)))) (sym shown)
           ∙ ap (λ (t : List ℕ). hearing (complete (drop (e + 1) s)) (shows book) (overlaid buffer written t) (written + length t)) (sym reply)
           ∙ ap₂ (hearing (complete (drop (e + 1) s)) (shows book)) (sym (put .bytes)) (sym (put .end))
+
+-- ---- where all lines were heard, the buffer has the replies
+
+-- what follows the first line
+abbrev later : List ℕ → List (List ℕ) → Reference → List ℕ → ℕ → Progress
+later line ls p buffer at = hearing ls (hear p line .book) (overlaid buffer at (replyTo (hear p line))) (at + length (replyTo (hear p line)))
+
+left-all : (p : Reference) (buffer : List ℕ) (at : ℕ) (ls : List (List ℕ)) → length buffer < at + maxReply → ls ≡ hearing ls p buffer at .left
+unfolding stopped
+left-all p buffer at ls h = ap (λ (x : Progress). x .left) (no-room p buffer at ls h)
+
+past-grows : (ls : List (List ℕ)) (p : Reference) (buffer : List ℕ) (at : ℕ) → at ≤ hearing ls p buffer at .past
+unfolding hearing
+past-grows [] p buffer at = le-refl at
+past-grows (line ∷ ls) p buffer at =
+    go (leb (at + maxReply) (length buffer)) refl (past-grows ls (hear p line .book) (overlaid buffer at (replyTo (hear p line))) (at + length (replyTo (hear p line))))
+  where
+    go : (b : Bool) → leb (at + maxReply) (length buffer) ≡ b →
+        at + length (replyTo (hear p line)) ≤ later line ls p buffer at .past →
+        at ≤ hearing (line ∷ ls) p buffer at .past
+    go true q ih = rw (q, hearing) (let h = ih in omega arith)
+    go false q ih = rw (q, hearing) (le-refl at)
+
+pub heard-replies : (ls : List (List ℕ)) (p : Reference) (buffer : List ℕ) (at : ℕ) → hearing ls p buffer at .past ≤ length buffer → hearing ls p buffer at .left ≡ [] →
+    hearing ls p buffer at .buffer ≡ overlaid buffer at (replies p ls)
+unfolding hearing replies
+heard-replies [] p buffer at room e = sym (overlaid-none buffer at)
+heard-replies (line ∷ ls) p buffer at room e =
+    go (leb (at + maxReply) (length buffer)) refl (heard-replies ls (hear p line .book) (overlaid buffer at (replyTo (hear p line))) (at + length (replyTo (hear p line))))
+  where
+    go : (b : Bool) → leb (at + maxReply) (length buffer) ≡ b →
+        (later line ls p buffer at .past ≤ length (overlaid buffer at (replyTo (hear p line))) → later line ls p buffer at .left ≡ [] → later line ls p buffer at .buffer ≡ overlaid (overlaid buffer at (replyTo (hear p line))) (at + length (replyTo (hear p line))) (replies (hear p line .book) ls)) →
+        hearing (line ∷ ls) p buffer at .buffer ≡ overlaid buffer at ((replyTo (hear p line)) ++ replies (hear p line .book) ls)
+    go true q ih =
+        let one : hearing (line ∷ ls) p buffer at ≡ later line ls p buffer at = one-line p buffer at line ls (leb-true (at + maxReply) (length buffer) q) in
+        let past : later line ls p buffer at .past ≤ length buffer = subst (λ (x : Progress). x .past ≤ length buffer) one room in
+        let left : later line ls p buffer at .left ≡ [] = sym (ap (λ (x : Progress). x .left) one) ∙ e in
+        let g : at + length (replyTo (hear p line)) ≤ later line ls p buffer at .past = past-grows ls (hear p line .book) (overlaid buffer at (replyTo (hear p line))) (at + length (replyTo (hear p line))) in
+        let l : length (overlaid buffer at (replyTo (hear p line))) ≡ length buffer = length-overlaid buffer at (replyTo (hear p line)) (omega arith) in
+        ap (λ (x : Progress). x .buffer) one ∙ ih (omega arith) left ∙ overlaid-twice buffer at (replyTo (hear p line)) (replies (hear p line .book) ls) (omega arith)
+    go false q ih =
+        let all : line ∷ ls ≡ [] = left-all p buffer at (line ∷ ls) (leb-false (at + maxReply) (length buffer) q) ∙ e in
+        let z : suc (length ls) ≡ 0 = ap length all in
+        absurd (omega (arith, z))

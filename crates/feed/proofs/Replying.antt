@@ -1,7 +1,7 @@
 -- What the book answers to a message and to the question how many levels it has is the reply. Assumes nothing.
 use Prim.Native.Nat.{ℕ, _-_}
-use mathlib.Core.Path.{_≡_, refl, sym, ap, ap₂, _∙_}
-use mathlib.Core.Bool.{Bool, true, false, cond}
+use mathlib.Core.Path.{_≡_, refl, ap, ap₂, _∙_}
+use mathlib.Core.Bool.{true, false, cond}
 use mathlib.Core.List.{List, []}
 use lib.Dec.{eqb}
 use native.Mathlib.Omega.{arith}
@@ -12,7 +12,7 @@ use Rattle.message.specs.Answers.{number}
 use Rattle.message.specs.declared.Answer.{Answer}
 use Rattle.message.specs.declared.Answer.the-variants.{Taken, NoSnapshot}
 use Rattle.message.specs.declared.Answer.the-variants as answer·
-use Rattle.book.specs.Reference.{Status, shut, waiting, live, isShut, isLive, isTaken, Reference, After, hear, Value, counts, stands, asked, ifTaken, howMany, does}
+use Rattle.book.specs.Reference.{Status, shut, waiting, live, isShut, isLive, isTaken, Reference, hear, Value, counts, stands, asked, ifTaken, howMany, does}
 use Rattle.book.specs.Shown.{shows, Told, AnswersCounts}
 use Rattle.book.specs.declared.Scope.the-variants.{Current}
 use Rattle.book.specs.declared.Step.{Step}

@@ -31,6 +31,10 @@ session (line ∷ ls) = replies (opened (lineOne line)) ls
 unfoldable pub output : List ℕ → List ℕ
 output s = session (linesOf s)
 
+-- What is carried over of a line from block to block: one byte more than a message may have.
+abbrev pub carried : ℕ
+carried = 32769
+
 -- ---- as far as a buffer has room for the replies
 
 -- The longest reply: three numbers of 20 digits, two blanks and a line end.

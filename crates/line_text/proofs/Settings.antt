@@ -1,6 +1,6 @@
 -- Laws of the settings on line 1, case by case. Assumes nothing.
 use Prim.Native.Nat.{ℕ, suc, _+_, _-_, _≤_, _<_}
-use mathlib.Core.Path.{_≡_, refl, sym, ap, _∙_, subst}
+use mathlib.Core.Path.{_≡_, refl, sym, ap, _∙_}
 use mathlib.Core.List.{List, [], _∷_}
 use native.Mathlib.Nat.{le-refl}
 use native.Mathlib.Omega.{arith}
@@ -12,7 +12,7 @@ use Rattle.decimal.specs.Digits.{reads, refused}
 use Rattle.decimal.specs.Whole.{readWhole}
 use Rattle.settings.specs.Settings.{Terms, shut}
 use Rattle.settings.specs.declared.Dialect.{Dialect}
-use Rattle.settings.specs.declared.Dialect.the-variants.{K, M, Unknown}
+use Rattle.settings.specs.declared.Dialect.the-variants.{Unknown}
 use Rattle.line_text.specs.declared.FirstLine.{FirstLine}
 use Rattle.line_text.specs.Opening.{blank, dialectOf, withDepth, depthAndName, lineOne, termsOn, Found}
 

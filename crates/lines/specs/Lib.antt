@@ -1,2 +1,3 @@
--- Where a byte stands in a text.
+-- In reading order: the lines of a text, whole and in blocks; worked examples.
 pub mod Lines
+pub mod Examples

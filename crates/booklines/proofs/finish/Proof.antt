@@ -6,46 +6,34 @@ use Rattle.booklines.proofs.Bounds.{front, in-front}
 use borrow.Author.Needs.{needs}
 use Rattle.booklines.proofs.finish.Statement.{statement}
 use Rattle.booklines.proofs.finish.Tie as tie
-use Rattle.booklines.proofs.finish.Reads as reads
-use Rattle.booklines.proofs.finish.Lts as lts
-use Rattle.booklines.proofs.serve.Reads as serve-reads
 
 fits : (s : tie.Start) → s .args .held + 1 ≤ length (set (s .args .input .now) (s .args .held) 10)
 fits s = let h = s .pre .1 in simp length-set (omega arith)
 
--- src/main.rt:70:9
 returns : tie.Need-returns
 returns c = search needs
 
--- src/main.rt:72:5
 slice-write-input : tie.Need-slice-write-input
 slice-write-input c = search needs
 
--- src/main.rt:73:14
 add-to : tie.Need-add-to
 add-to c = search needs
 
--- src/main.rt:74:20
 slice-reshare-prefix-serve : tie.Need-slice-reshare-prefix-serve
 slice-reshare-prefix-serve c = fits (c .before .before .before)
 
--- src/main.rt:74:20
 slice-aggregate-serve : tie.Need-slice-aggregate-serve
 slice-aggregate-serve c = front (c .before .before .before .before .args .held + 1) (set (c .before .before .before .before .args .input .now) (c .before .before .before .before .args .held) 10) (fits (c .before .before .before .before))
 
--- src/main.rt:74:5
 serve-requires : tie.Need-serve-requires
 serve-requires c κs = (c .before .before .before .before .before .pre .0, in-front (c .before .before .before .before .before .args .held) (c .before .before .before .before .before .args .held + 1) (set (c .before .before .before .before .before .args .input .now) (c .before .before .before .before .before .args .held) 10) (omega arith) (fits (c .before .before .before .before .before)))
 
--- src/main.rt:66:1
 same-length : tie.Need-same-length
 same-length c = search needs
 
--- src/main.rt:66:1
 same-length-2 : tie.Need-same-length-2
 same-length-2 c = search needs
 
--- src/main.rt:66:1
 returns-2 : tie.Need-returns-2
 returns-2 c = search needs
 

@@ -1,5 +1,5 @@
 -- `reply` meets its contract: the book stays good, and the next line begins in the text. The measure is the number of turns that are left.
-use Prim.Native.Nat.{ℕ, _+_, _≤_}
+use Prim.Native.Nat.{_+_, _≤_}
 use mathlib.Core.Path.{_≡_, refl, sym}
 use native.Mathlib.Omega.{arith}
 use borrow.Author.Needs.{needs}
@@ -9,10 +9,6 @@ use Rattle.book.specs.Shown.{Good}
 use Rattle.booklines.proofs.Bounds.{rest-within}
 use Rattle.booklines.proofs.reply.Statement.{statement}
 use Rattle.booklines.proofs.reply.Tie as tie
-use Rattle.booklines.proofs.reply.Reads as reads
-use Rattle.booklines.proofs.reply.Lts as lts
-use Rattle.feed.proofs.hear_lines.Reads as hear-lines-reads
-use Rattle.io.proofs.write_all.Reads as write-all-reads
 
 abbrev Inv-loop : tie.InvT-loop
 Inv-loop s from output₀ book₀ next₀ turns₀ output book next turns = Good book × (next ≤ length s) × (length output ≡ length output₀)
@@ -23,70 +19,54 @@ abbrev μ-loop : tie.MeasureT-loop
 within : (c : tie.After-hear-lines Inv-loop μ-loop) → c .before .before .before .before .loop .next + c .hear-lines .result .next ≤ length (c .before .before .before .before .before .before .before .args .s .now)
 within c = rest-within (c .before .before .before .before .before .before .before .args .s .now) (c .before .before .before .before .loop .next) (c .hear-lines .result .next) (c .before .before .before .before .loop .inv .1) (c .hear-lines .ensures .within)
 
--- src/main.rt:107:5
 loop-holds : tie.Need-loop-holds Inv-loop μ-loop
 loop-holds c = (c .before .before .pre .0, c .before .before .pre .1, refl)
 
--- src/main.rt:108:9
 sub-turns : tie.Need-sub-turns Inv-loop μ-loop
 sub-turns c = search needs
 
--- src/main.rt:109:44
 sub-hear-lines : tie.Need-sub-hear-lines Inv-loop μ-loop
 sub-hear-lines c = search needs
 
--- src/main.rt:109:44
 part-hear-lines-start : tie.Need-part-hear-lines-start Inv-loop μ-loop
 part-hear-lines-start c = search needs
 
--- src/main.rt:109:44
 part-hear-lines-end : tie.Need-part-hear-lines-end Inv-loop μ-loop
 part-hear-lines-end c = search needs
 
--- src/main.rt:109:13
 hear-lines-requires : tie.Need-hear-lines-requires Inv-loop μ-loop
 hear-lines-requires c κs = c .before .before .before .loop .inv .0
 
--- src/main.rt:115:9
 add-next : tie.Need-add-next Inv-loop μ-loop
 add-next c = let w = within (c .before .before .before .before .before) in let g = c .before .before .before .before .before .before .before .before .before .before .before .before .good in omega arith
 
--- src/main.rt:116:38
 slice-reshare-prefix-write-all : tie.Need-slice-reshare-prefix-write-all Inv-loop μ-loop
 slice-reshare-prefix-write-all c = let r = c .before .before .before .before .before .hear-lines .ensures .room in search needs
 
--- src/main.rt:116:38
 slice-aggregate-write-all : tie.Need-slice-aggregate-write-all Inv-loop μ-loop
 slice-aggregate-write-all c =
     let r = c .before .before .before .before .before .before .hear-lines .ensures .room in
     let b : c .before .before .before .before .before .before .hear-lines .result .written ≤ length (c .before .before .before .before .before .before .hear-lines .last .1 .1 .0) = search needs in
     sym (length-take-le (c .before .before .before .before .before .before .hear-lines .result .written) (c .before .before .before .before .before .before .hear-lines .last .1 .1 .0) b)
 
--- src/main.rt:116:9
 write-all-requires : tie.Need-write-all-requires Inv-loop μ-loop
 write-all-requires c κs = search needs
 
--- src/main.rt:107:5
 loop-less : tie.Need-loop-less Inv-loop μ-loop
 loop-less c = search needs
 
--- src/main.rt:107:5
 loop-again : tie.Need-loop-again Inv-loop μ-loop
 loop-again c = (c .before .before .before .before .before .before .before .hear-lines .ensures .good, within (c .before .before .before .before .before .before .before), search needs)
 
--- src/main.rt:100:1
 same-length : tie.Need-same-length Inv-loop μ-loop
 same-length c = search needs
 
--- src/main.rt:100:1
 returns : tie.Need-returns Inv-loop μ-loop
 returns c = (c .before .loop .inv .0, c .before .loop .inv .1)
 
--- src/main.rt:100:1
 same-length-2 : tie.Need-same-length-2 Inv-loop μ-loop
 same-length-2 c = search needs
 
--- src/main.rt:100:1
 returns-2 : tie.Need-returns-2 Inv-loop μ-loop
 returns-2 c = (c .before .before .before .before .before .before .before .loop .inv .0, c .before .before .before .before .before .before .before .loop .inv .1)
 

@@ -5,17 +5,10 @@ use native.Mathlib.Omega.{arith}
 use borrow.Author.Needs.{needs}
 use lib.ListN.{length}
 use Rattle.book.specs.Shown.{Good}
-use Rattle.booklines.specs.Carried.{carried}
+use Rattle.feed.specs.Feed.{carried}
 use Rattle.booklines.proofs.Bounds.{front, in-front}
 use Rattle.booklines.proofs.run.Statement.{statement}
 use Rattle.booklines.proofs.run.Tie as tie
-use Rattle.booklines.proofs.run.Reads as reads
-use Rattle.booklines.proofs.run.Lts as lts
-use Rattle.booklines.proofs.finish.Reads as finish-reads
-use Rattle.booklines.proofs.read_more.Reads as read-more-reads
-use Rattle.booklines.proofs.serve.Reads as serve-reads
-use Rattle.feed.proofs.open.Reads as open-reads
-use Rattle.lines.proofs.move_to_front.Reads as move-to-front-reads
 
 abbrev Inv-loop : tie.InvT-loop
 Inv-loop input₀ output₀ session₀ held₀ turns₀ input output session held turns = Good (session .book) × (held ≤ carried) × (length input ≡ length input₀) × (length output ≡ length output₀)
@@ -30,69 +23,55 @@ held c =
     let l = c .loop .inv .2 in
     omega arith
 
--- src/main.rt:46:26
 kept : (c : tie.After-input Inv-loop μ-loop) → length (c .before .read-more .last .0) ≡ length (c .before .before .before .before .loop .input)
 kept c = search needs
 
 slice-aggregate-open : tie.Need-slice-aggregate-open Inv-loop μ-loop
 slice-aggregate-open c = search needs
 
--- src/main.rt:46:15
 open-requires : tie.Need-open-requires Inv-loop μ-loop
 open-requires c κs = search needs
 
--- src/main.rt:50:5
 loop-holds : tie.Need-loop-holds Inv-loop μ-loop
 loop-holds c = (c .«open» .ensures .good, zero-le, refl, refl)
 
--- src/main.rt:51:9
 sub-turns : tie.Need-sub-turns Inv-loop μ-loop
 sub-turns c = search needs
 
--- src/main.rt:52:13
 read-more-requires : tie.Need-read-more-requires Inv-loop μ-loop
 read-more-requires c κs = let h = held (c .before .before) in omega arith
 
--- src/main.rt:54:13
 finish-requires : tie.Need-finish-requires Inv-loop μ-loop
 finish-requires c κs =
     let h = held (c .before .before .before .before .before .before .before .before) in
     let k = kept (c .before .before .before .before) in
     (c .before .before .before .before .before .before .before .before .loop .inv .0, omega arith)
 
--- src/main.rt:55:13
 same-length : tie.Need-same-length Inv-loop μ-loop
 same-length c = search needs
 
--- src/main.rt:55:13
 same-length-2 : tie.Need-same-length-2 Inv-loop μ-loop
 same-length-2 c = search needs
 
--- src/main.rt:55:13
 returns : tie.Need-returns Inv-loop μ-loop
 returns c = search needs
 
--- src/main.rt:57:18
 add-to : tie.Need-add-to Inv-loop μ-loop
 add-to c = search needs
 
--- src/main.rt:58:37
 slice-reshare-prefix-serve : tie.Need-slice-reshare-prefix-serve Inv-loop μ-loop
 slice-reshare-prefix-serve c = let r = c .before .before .before .read-more .ensures in search needs
 
--- src/main.rt:58:37
 slice-aggregate-serve : tie.Need-slice-aggregate-serve Inv-loop μ-loop
 slice-aggregate-serve c =
     let r = c .before .before .before .before .read-more .ensures in
     front (c .before .before .before .before .before .before .before .loop .held + c .before .before .before .before .read-more .result) (c .before .before .before .before .read-more .last .0) (search needs)
 
--- src/main.rt:58:13
 serve-requires : tie.Need-serve-requires Inv-loop μ-loop
 serve-requires c κs =
     let r = c .before .before .before .before .before .read-more .ensures in
     (c .before .before .before .before .before .before .before .before .loop .inv .0, in-front (c .before .before .before .before .before .before .before .before .loop .held) (c .before .before .before .before .before .before .before .before .loop .held + c .before .before .before .before .before .read-more .result) (c .before .before .before .before .before .read-more .last .0) (omega arith) (search needs))
 
--- src/main.rt:61:9
 move-to-front-requires : tie.Need-move-to-front-requires Inv-loop μ-loop
 move-to-front-requires c κs =
     let k = kept (c .before .before .before .before .before .before .before .before .before) in
@@ -102,11 +81,9 @@ move-to-front-requires c κs =
     let f = front (c .before .before .before .before .before .before .before .before .before .before .before .before .before .loop .held + c .before .before .before .before .before .before .before .before .before .before .read-more .result) (c .before .before .before .before .before .before .before .before .before .before .read-more .last .0) l in
     (omega arith, l)
 
--- src/main.rt:50:5
 loop-less : tie.Need-loop-less Inv-loop μ-loop
 loop-less c = search needs
 
--- src/main.rt:50:5
 loop-again : tie.Need-loop-again Inv-loop μ-loop
 loop-again c =
     let m = c .before .before .move-to-front .ensures .0 in
@@ -117,15 +94,12 @@ loop-again c =
     let g = c .before .before .before .before .before .before .output2 in
     (c .before .before .before .before .before .before .before .serve .ensures .0, omega arith, search needs, search needs)
 
--- src/main.rt:41:1
 same-length-3 : tie.Need-same-length-3 Inv-loop μ-loop
 same-length-3 c = search needs
 
--- src/main.rt:41:1
 same-length-4 : tie.Need-same-length-4 Inv-loop μ-loop
 same-length-4 c = search needs
 
--- src/main.rt:41:1
 returns-2 : tie.Need-returns-2 Inv-loop μ-loop
 returns-2 c = search needs
 

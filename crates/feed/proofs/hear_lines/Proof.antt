@@ -15,13 +15,6 @@ use Rattle.book.specs.Shown.{shows}
 use Rattle.feed.proofs.Hearing.{Walk, begun, ended-lines, ended-room, went-on}
 use Rattle.feed.proofs.hear_lines.Statement.{statement}
 use Rattle.feed.proofs.hear_lines.Tie as tie
-use Rattle.feed.proofs.hear_lines.Reads as reads
-use Rattle.feed.proofs.hear_lines.Lts as lts
-use Rattle.book.proofs.Book.counts.Reads as counts-reads
-use Rattle.book.proofs.Book.take.Reads as take-reads
-use Rattle.line_text.proofs.number_of.Reads as number-of-reads
-use Rattle.line_text.proofs.write_reply.Reads as write-reply-reads
-use Rattle.lines.proofs.find.Reads as find-reads
 
 abbrev Inv-loop : tie.InvT-loop
 Inv-loop s buffer₀ now₀ next₀ written₀ buffer now next written = Walk s (shows now₀) buffer₀ buffer now next written
@@ -49,74 +42,57 @@ fits c =
 
 -- ---- needs
 
--- src/lib.rt:40:5
 loop-holds : tie.Need-loop-holds Inv-loop μ-loop
 loop-holds c = begun (c .before .before .args .s .now) (c .before .before .args .buffer .now) (c .before .before .pre)
 
--- src/lib.rt:40:24
 sub-loop : tie.Need-sub-loop Inv-loop μ-loop
 sub-loop c = c .loop .inv .room
 
--- src/lib.rt:41:13
 find-requires : tie.Need-find-requires Inv-loop μ-loop
 find-requires c κs = c .before .loop .inv .within
 
--- src/lib.rt:43:13
 same-length : tie.Need-same-length Inv-loop μ-loop
 same-length c = search needs
 
--- src/lib.rt:43:13
 returns : tie.Need-returns Inv-loop μ-loop
 returns c = ended-lines (c .before .before .before .loop .inv) (c .before .find .ensures .2) (c .if1 .taken)
 
--- src/lib.rt:49:29
 sub-take : tie.Need-sub-take Inv-loop μ-loop
 sub-take c = search needs
 
--- src/lib.rt:49:29
 part-take-start : tie.Need-part-take-start Inv-loop μ-loop
 part-take-start c = search needs
 
--- src/lib.rt:49:29
 part-take-end : tie.Need-part-take-end Inv-loop μ-loop
 part-take-end c = search needs
 
--- src/lib.rt:49:13
 take-requires : tie.Need-take-requires Inv-loop μ-loop
 take-requires c κs = c .before .before .before .before .loop .inv .good
 
--- src/lib.rt:52:13
 counts-requires : tie.Need-counts-requires Inv-loop μ-loop
 counts-requires c κs = c .before .take .ensures .good
 
--- src/lib.rt:54:20
 number-of-requires : tie.Need-number-of-requires Inv-loop μ-loop
 number-of-requires c κs = search needs
 
--- src/lib.rt:55:9
 write-reply-requires : tie.Need-write-reply-requires Inv-loop μ-loop
 write-reply-requires c κs = fits (c .before)
 
--- src/lib.rt:63:16
 add-next : tie.Need-add-next Inv-loop μ-loop
 add-next c = let h = c .before .before .before .before .before .before .before .before .before .if1 .left in let g = c .before .before .before .before .before .before .before .before .before .before .before .before .before .before .before .good in omega arith
 
--- src/lib.rt:40:5
 loop-less : tie.Need-loop-less Inv-loop μ-loop
 loop-less c = let w = c .before .before .before .before .before .before .before .before .before .before .find .ensures in omega arith
 
--- src/lib.rt:40:5
 loop-again : tie.Need-loop-again Inv-loop μ-loop
 loop-again c =
     let n = c .before .before .before .before in
     let find = c .before .before .before .before .before .before .before .before .before .before .find in
     went-on (c .before .before .before .before .before .before .before .before .before .before .before .before .loop .inv) (find .ensures .2) (c .before .before .before .before .before .before .before .before .before .if1 .left) (c .before .before .before .before .before .before .before .before .before .before .before .loop-test .taken) (c .before .before .before .before .before .before .before .take .ensures .good) (c .before .before .before .before .before .before .before .take .ensures .same) (reply n) (fits n) (c .before .before .write-reply .ensures)
 
--- src/lib.rt:33:1
 same-length-2 : tie.Need-same-length-2 Inv-loop μ-loop
 same-length-2 c = search needs
 
--- src/lib.rt:33:1
 returns-2 : tie.Need-returns-2 Inv-loop μ-loop
 returns-2 c = ended-room (c .before .loop .inv) (c .loop-test .left)
 

@@ -6,32 +6,22 @@ use Rattle.line_text.specs.Opening.{termsOn}
 use borrow.Author.Needs.{needs}
 use Rattle.feed.proofs.open.Statement.{statement}
 use Rattle.feed.proofs.open.Tie as tie
-use Rattle.feed.proofs.open.Reads as reads
-use Rattle.feed.proofs.open.Lts as lts
-use Rattle.book.proofs.open.Reads as open-reads
-use Rattle.line_text.proofs.read_settings.Reads as read-settings-reads
 
--- src/lib.rt:25:9
 read-settings-requires : tie.Need-read-settings-requires
 read-settings-requires c κs = search needs
 
--- src/lib.rt:28:38
 sub-open : tie.Need-sub-open
 sub-open c = search needs
 
--- src/lib.rt:28:38
 part-open-start : tie.Need-part-open-start
 part-open-start c = search needs
 
--- src/lib.rt:28:38
 part-open-end : tie.Need-part-open-end
 part-open-end c = search needs
 
--- src/lib.rt:28:5
 open-requires : tie.Need-open-requires
 open-requires c κs = search needs
 
--- src/lib.rt:22:1
 returns : tie.Need-returns
 unfolding termsOn
 returns c =

@@ -9,10 +9,6 @@ use Rattle.line_text.specs.Reply.{countsText}
 use borrow.Author.Needs.{needs}
 use Rattle.line_text.proofs.lay_counts.Statement.{statement}
 use Rattle.line_text.proofs.lay_counts.Tie as tie
-use Rattle.line_text.proofs.lay_counts.Reads as reads
-use Rattle.line_text.proofs.lay_counts.Lts as lts
-use Rattle.writer.proofs.lay.Reads as lay-reads
-use Rattle.writer.proofs.lay_number.Reads as lay-number-reads
 
 -- ---- the texts, and what is owed after each
 
@@ -46,35 +42,27 @@ after-asks c = owed-rest (after-bids (c .before .before .before .before .before)
 
 -- ---- needs
 
--- src/lib.rt:134:33
 slice-aggregate-lay-number : tie.Need-slice-aggregate-lay-number
 slice-aggregate-lay-number c = search needs
 
--- src/lib.rt:134:9
 lay-number-requires : tie.Need-lay-number-requires
 lay-number-requires c κs = room-first (bidsText (c .before .before .before)) (fromAsks (c .before .before .before)) (left (c .before .before .before))
 
--- src/lib.rt:135:33
 slice-aggregate-lay-number-2 : tie.Need-slice-aggregate-lay-number-2
 slice-aggregate-lay-number-2 c = search needs
 
--- src/lib.rt:135:9
 lay-number-requires-2 : tie.Need-lay-number-requires-2
 lay-number-requires-2 c κs = room-first (asksText (start₁ (c .before .before .before .before))) (ascii "\n") (after-bids (c .before .before .before .before))
 
--- src/lib.rt:136:9
 slice-aggregate-lay : tie.Need-slice-aggregate-lay
 slice-aggregate-lay c = search needs
 
--- src/lib.rt:136:5
 lay-requires : tie.Need-lay-requires
 lay-requires c κs = after-asks (c .before .before .before .before) .room
 
--- src/lib.rt:130:1
 same-length : tie.Need-same-length
 same-length c = search needs
 
--- src/lib.rt:130:1
 returns : tie.Need-returns
 returns c = put-last (after-asks (c .before .before .before .before .before .before .before)) refl (c .before .before .lay .ensures)
 

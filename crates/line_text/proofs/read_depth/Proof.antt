@@ -5,64 +5,46 @@ use Rattle.line_text.proofs.Settings.{found-as, no-name, bad-depth, goo
 use borrow.Author.Needs.{needs}
 use Rattle.line_text.proofs.read_depth.Statement.{statement}
 use Rattle.line_text.proofs.read_depth.Tie as tie
-use Rattle.line_text.proofs.read_depth.Reads as reads
-use Rattle.line_text.proofs.read_depth.Lts as lts
-use Rattle.decimal.proofs.parse_whole.Reads as parse-whole-reads
-use Rattle.line_text.proofs.no_settings.Reads as no-settings-reads
-use Rattle.lines.proofs.find.Reads as find-reads
 
--- src/lib.rt:63:9
 find-requires : tie.Need-find-requires
 find-requires c κs = search needs
 
--- src/lib.rt:65:9
 no-settings-requires : tie.Need-no-settings-requires
 no-settings-requires c κs = search needs
 
--- src/lib.rt:65:9
 returns : tie.Need-returns
 returns c = found-as (no-name (c .before .before .before .before .args .line .now) (c .before .before .before .before .args .dialect) (c .before .before .find .result) (c .before .before .find .ensures .2) (c .before .if1 .taken)) (c .no-settings .ensures)
 
--- src/lib.rt:67:32
 sub-parse-whole : tie.Need-sub-parse-whole
 sub-parse-whole c = search needs
 
--- src/lib.rt:67:32
 part-parse-whole-start : tie.Need-part-parse-whole-start
 part-parse-whole-start c = search needs
 
--- src/lib.rt:67:32
 part-parse-whole-end : tie.Need-part-parse-whole-end
 part-parse-whole-end c = search needs
 
--- src/lib.rt:67:11
 parse-whole-requires : tie.Need-parse-whole-requires
 parse-whole-requires c κs = search needs
 
--- src/lib.rt:68:29
 enum-known-depth : tie.Need-enum-known-depth
 enum-known-depth c = search needs
 
--- src/lib.rt:71:19
 add-t13 : tie.Need-add-t13
 add-t13 c = search needs
 
--- src/lib.rt:73:33
 enum-told : tie.Need-enum-told
 enum-told c = search needs
 
--- src/lib.rt:73:33
 no-settings-requires-2 : tie.Need-no-settings-requires-2
 no-settings-requires-2 c κs = search needs
 
--- src/lib.rt:59:1
 returns-2 : tie.Need-returns-2
 returns-2 c =
     let s = c .before .before .before .before .before .before .before .before in
     let find = c .before .before .before .before .before .before .find in
     good-depth (s .args .line .now) (s .args .dialect) (find .result) (find .ensures .2) (c .before .before .before .before .before .if1 .left) (c .before .depth .given .0 .0) (ap parsedWhole (sym (c .before .depth .given .1)) ∙ c .before .before .before .parse-whole .ensures)
 
--- src/lib.rt:59:1
 returns-3 : tie.Need-returns-3
 returns-3 c =
     let s = c .before .before .before .before .before .before .before .before in

@@ -11,12 +11,6 @@ use Rattle.line_text.specs.Reply.{countsText, replyText}
 use borrow.Author.Needs.{needs}
 use Rattle.line_text.proofs.write_reply.Statement.{statement}
 use Rattle.line_text.proofs.write_reply.Tie as tie
-use Rattle.line_text.proofs.write_reply.Reads as reads
-use Rattle.line_text.proofs.write_reply.Lts as lts
-use Rattle.line_text.proofs.lay_counts.Reads as lay-counts-reads
-use Rattle.line_text.proofs.number_of.Reads as number-of-reads
-use Rattle.writer.proofs.lay.Reads as lay-reads
-use Rattle.writer.proofs.lay_whole.Reads as lay-whole-reads
 
 -- ---- the texts, and what is owed after the number
 
@@ -52,39 +46,30 @@ not-live s e = ap (follows s) e
 
 -- ---- needs
 
--- src/lib.rt:123:25
 number-of-requires : tie.Need-number-of-requires
 number-of-requires c κs = search needs
 
--- src/lib.rt:123:9
 lay-whole-requires : tie.Need-lay-whole-requires
 lay-whole-requires c κs = room-first-as (numberText (c .before .before .before)) (fromCounts (c .before .before .before)) (ap written (c .before .number-of .ensures)) (left (c .before .before .before))
 
--- src/lib.rt:125:9
 lay-counts-requires : tie.Need-lay-counts-requires
 lay-counts-requires c κs = room-all (after-number (c .before .before .before .before)) (is-live (start₁ (c .before .before .before .before)) (c .before .if1 .taken))
 
--- src/lib.rt:125:9
 same-length : tie.Need-same-length
 same-length c = search needs
 
--- src/lib.rt:125:9
 returns : tie.Need-returns
 returns c = put-last (after-number (c .before .before .before .before .before .before .before)) (is-live (start₁ (c .before .before .before .before .before .before .before)) (c .before .before .before .before .if1 .taken)) (c .before .before .lay-counts .ensures)
 
--- src/lib.rt:127:9
 slice-aggregate-lay : tie.Need-slice-aggregate-lay
 slice-aggregate-lay c = search needs
 
--- src/lib.rt:127:5
 lay-requires : tie.Need-lay-requires
 lay-requires c κs = room-all (after-number (c .before .before .before .before .before)) (not-live (start₁ (c .before .before .before .before .before)) (c .before .before .if1 .left))
 
--- src/lib.rt:112:1
 same-length-2 : tie.Need-same-length-2
 same-length-2 c = search needs
 
--- src/lib.rt:112:1
 returns-2 : tie.Need-returns-2
 returns-2 c = put-last (after-number (c .before .before .before .before .before .before .before .before)) (not-live (start₁ (c .before .before .before .before .before .before .before .before)) (c .before .before .before .before .before .if1 .left)) (c .before .before .lay .ensures)
 

@@ -1,2 +1,0 @@
--- How much of an unfinished line is carried over.
-pub mod Carried

@@ -1,0 +1,88 @@
+-- A line 1 that is longer than what is carried of it opens a shut book, and so does what is carried. Assumes nothing.
+use Prim.Native.Nat.{ℕ, suc, _-_, _≤_, _<_}
+use mathlib.Core.Path.{_≡_, refl, ap, _∙_}
+use mathlib.Core.Bool.{Bool, true, false, _&&_}
+use mathlib.Core.List.{List, [], _∷_}
+use native.Mathlib.Omega.{arith}
+use borrow.Author.Tests.{lt-leb, leb-true, leb-false, ltb-true}
+use lib.Dec.{leb, ltb, eqb}
+use lib.ListN.{length, take, drop, length-drop}
+use lib.Seq.{take-all, length-take-le}
+use Rattle.lines.specs.Lines.{before}
+use Rattle.decimal.specs.Digits.{Reading, reads, refused}
+use Rattle.decimal.specs.Whole.{readWhole, maxWholeNumber}
+use Rattle.decimal.proofs.Scan.{whole-long}
+use Rattle.decimal.proofs.WholeNumber.{whole-wrong}
+use Rattle.settings.specs.Settings.{Terms, shut, goodDepth, goodName, good, kept}
+use Rattle.settings.specs.declared.Dialect.{Dialect}
+use Rattle.line_text.specs.Opening.{blank, dialectOf, withDepth, depthAndName, lineOne}
+use Rattle.book.specs.Reference.{opened}
+use Rattle.feed.specs.Feed.{carried}
+
+and-no : (b : Bool) → b && false ≡ false
+and-no true = refl
+and-no false = refl
+
+long-name : (name : List ℕ) → 16 < length name → goodName name ≡ false
+unfolding goodName
+long-name name h = rw (lt-leb (length name) 16 h) (and-no (leb 1 (length name)))
+
+shut-bad : good shut ≡ false
+unfolding good goodDepth
+shut-bad = refl
+
+long-bad : (dialect : Dialect) (r : Reading ℕ) (name : List ℕ) → 16 < length name → good (withDepth dialect r name) ≡ false
+unfolding good withDepth goodDepth
+long-bad dialect (reads n) name h = ap (λ (b : Bool). goodDepth dialect n && b) (long-name name h) ∙ and-no (goodDepth dialect n)
+long-bad dialect refused name h = refl
+
+no-depth : (dialect : Dialect) (name : List ℕ) {r : Reading ℕ} → r ≡ refused → good (withDepth dialect r name) ≡ false
+unfolding withDepth
+no-depth dialect name e = ap (λ (x : Reading ℕ). good (withDepth dialect x name)) e ∙ shut-bad
+
+-- a depth of too many digits, or a name of too many bytes
+bad-depth : (dialect : Dialect) (s : List ℕ) → 36 < length s → good (depthAndName dialect s) ≡ false
+unfolding depthAndName
+bad-depth dialect s h = at (ltb (before blank s) (length s)) refl
+  where
+    depth : (b : Bool) → leb (before blank s) maxWholeNumber ≡ b → before blank s < length s →
+        good (withDepth dialect (readWhole (take (before blank s) s)) (drop (suc (before blank s)) s)) ≡ false
+    depth true e l =
+        let k : before blank s ≤ maxWholeNumber = leb-true (before blank s) maxWholeNumber e in
+        let n = length-drop (suc (before blank s)) s in
+        let g = h in
+        long-bad dialect (readWhole (take (before blank s) s)) (drop (suc (before blank s)) s) (omega arith)
+    depth false e l =
+        let k : maxWholeNumber < before blank s = leb-false (before blank s) maxWholeNumber e in
+        let n : length (take (before blank s) s) ≡ before blank s = length-take-le (before blank s) s (omega arith) in
+        no-depth dialect (drop (suc (before blank s)) s) (whole-wrong (take (before blank s) s) (whole-long maxWholeNumber (take (before blank s) s) (omega arith)))
+
+    at : (b : Bool) → ltb (before blank s) (length s) ≡ b → good (depthAndName dialect s) ≡ false
+    at true e =
+        rw (e, depthAndName)
+        (depth (leb (before blank s) maxWholeNumber) refl (ltb-true (before blank s) (length s) e))
+    at false e = rw (e, depthAndName) shut-bad
+
+pub bad-line : (line : List ℕ) → 38 < length line → good (lineOne line) ≡ false
+unfolding lineOne
+bad-line [] h = absurd (omega (arith, h))
+bad-line (letter ∷ []) h = shut-bad
+bad-line (letter ∷ (c ∷ s)) h = at (eqb c blank) refl
+  where
+    at : (b : Bool) → eqb c blank ≡ b → good (lineOne (letter ∷ (c ∷ s))) ≡ false
+    at true e = rw (e, lineOne) (bad-depth (dialectOf letter) s (let l = h in omega arith))
+    at false e = rw (e, lineOne) shut-bad
+
+opened-bad : (t u : Terms) → good t ≡ false → good u ≡ false → opened t ≡ opened u
+unfolding opened kept
+opened-bad t u e f = rw (e, f)
+
+pub carried-opened : (line : List ℕ) → opened (lineOne (take carried line)) ≡ opened (lineOne line)
+carried-opened line = at (leb (length line) carried) refl
+  where
+    at : (b : Bool) → leb (length line) carried ≡ b → opened (lineOne (take carried line)) ≡ opened (lineOne line)
+    at true e = ap (λ (l : List ℕ). opened (lineOne l)) (take-all carried line (leb-true (length line) carried e))
+    at false e =
+        let h : carried < length line = leb-false (length line) carried e in
+        let l : length (take carried line) ≡ carried = length-take-le carried line (omega arith) in
+        opened-bad (lineOne (take carried line)) (lineOne line) (bad-line (take carried line) (omega arith)) (bad-line line (omega arith))

@@ -1,2 +1,5 @@
+-- In reading order: words and whole calls; one call; the loop over a script.
 pub mod Fields
 pub mod Answering
+pub mod Laying
+pub mod Replaying

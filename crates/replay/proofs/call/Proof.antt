@@ -1,37 +1,29 @@
+-- `call` meets its contract: the lent buffer stands behind the words, which are laid last.
+use borrow.Author.Needs.{needs}
+use Rattle.replay.proofs.Laying.{reply-laid}
 use Rattle.replay.proofs.call.Statement.{statement}
 use Rattle.replay.proofs.call.Tie as tie
-use Rattle.replay.proofs.call.Reads as reads
-use Rattle.replay.proofs.call.Lts as lts
-use Rattle.replay.proofs.asking.answer.Reads as answer-reads
-use Rattle.replay.proofs.asking.lay_reply.Reads as lay-reply-reads
 
--- src/lib.rt:51:36
 sub-answer : tie.Need-sub-answer
-sub-answer c = ?
+sub-answer c = search needs
 
--- src/lib.rt:51:36
 part-answer-start : tie.Need-part-answer-start
-part-answer-start c = ?
+part-answer-start c = search needs
 
--- src/lib.rt:51:36
 part-answer-end : tie.Need-part-answer-end
-part-answer-end c = ?
+part-answer-end c = search needs
 
--- src/lib.rt:51:9
 answer-requires : tie.Need-answer-requires
-answer-requires c κs = ?
+answer-requires c κs = search needs
 
--- src/lib.rt:52:5
 lay-reply-requires : tie.Need-lay-reply-requires
-lay-reply-requires c κs = ?
+lay-reply-requires c κs = search needs
 
--- src/lib.rt:47:1
 same-length : tie.Need-same-length
-same-length c = ?
+same-length c = search needs
 
--- src/lib.rt:47:1
 returns : tie.Need-returns
-returns c = ?
+returns c = reply-laid (c .before .before .before .before .before .before .before .before .before .before .before .args .part .now) (c .before .before .before .before .before .before .before .before .before .before .before .pre .2) _ _ _ (c .before .before .before .before .before .before .before .answer .result) (c .before .before .before .before .before .before .before .answer .ensures) (c .before .before .before .lay-reply .ensures)
 
 pub call-spec : {M : Type 1} → statement M
 call-spec =

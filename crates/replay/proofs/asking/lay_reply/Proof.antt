@@ -1,36 +1,30 @@
+-- `lay_reply` meets its contract: word after word, the rest is owed.
+use mathlib.Core.List.{[], _∷_}
+use borrow.Author.Needs.{needs}
+use Rattle.replay.proofs.Laying.{words-owed, word-room, word-laid, words-laid}
 use Rattle.replay.proofs.asking.lay_reply.Statement.{statement}
 use Rattle.replay.proofs.asking.lay_reply.Tie as tie
-use Rattle.replay.proofs.asking.lay_reply.Reads as reads
-use Rattle.replay.proofs.asking.lay_reply.Lts as lts
-use Rattle.replay.proofs.words.lay_word.Reads as lay-word-reads
 
--- src/asking.rt:68:9
 lay-word-requires : tie.Need-lay-word-requires
-lay-word-requires c κs = ?
+lay-word-requires c κs = word-room (c .before .before .args .reply .answer) (c .before .before .args .reply .first ∷ c .before .before .args .reply .second ∷ c .before .before .args .reply .third ∷ c .before .before .args .reply .fourth ∷ []) (words-owed (c .before .before .args .part .now) (c .before .before .args .reply) (c .before .before .pre))
 
--- src/asking.rt:69:5
 lay-word-requires-2 : tie.Need-lay-word-requires-2
-lay-word-requires-2 c κs = ?
+lay-word-requires-2 c κs = word-room (c .before .before .before .before .before .before .args .reply .first) (c .before .before .before .before .before .before .args .reply .second ∷ c .before .before .before .before .before .before .args .reply .third ∷ c .before .before .before .before .before .before .args .reply .fourth ∷ []) (word-laid (c .before .before .before .before .before .before .args .reply .answer) (c .before .before .before .before .before .before .args .reply .first ∷ c .before .before .before .before .before .before .args .reply .second ∷ c .before .before .before .before .before .before .args .reply .third ∷ c .before .before .before .before .before .before .args .reply .fourth ∷ []) (words-owed (c .before .before .before .before .before .before .args .part .now) (c .before .before .before .before .before .before .args .reply) (c .before .before .before .before .before .before .pre)) (c .before .before .before .lay-word .ensures))
 
--- src/asking.rt:70:5
 lay-word-requires-3 : tie.Need-lay-word-requires-3
-lay-word-requires-3 c κs = ?
+lay-word-requires-3 c κs = word-room (c .before .before .before .before .before .before .before .before .before .before .args .reply .second) (c .before .before .before .before .before .before .before .before .before .before .args .reply .third ∷ c .before .before .before .before .before .before .before .before .before .before .args .reply .fourth ∷ []) (word-laid (c .before .before .before .before .before .before .before .before .before .before .args .reply .first) (c .before .before .before .before .before .before .before .before .before .before .args .reply .second ∷ c .before .before .before .before .before .before .before .before .before .before .args .reply .third ∷ c .before .before .before .before .before .before .before .before .before .before .args .reply .fourth ∷ []) (word-laid (c .before .before .before .before .before .before .before .before .before .before .args .reply .answer) (c .before .before .before .before .before .before .before .before .before .before .args .reply .first ∷ c .before .before .before .before .before .before .before .before .before .before .args .reply .second ∷ c .before .before .before .before .before .before .before .before .before .before .args .reply .third ∷ c .before .before .before .before .before .before .before .before .before .before .args .reply .fourth ∷ []) (words-owed (c .before .before .before .before .before .before .before .before .before .before .args .part .now) (c .before .before .before .before .before .before .before .before .before .before .args .reply) (c .before .before .before .before .before .before .before .before .before .before .pre)) (c .before .before .before .before .before .before .before .lay-word .ensures)) (c .before .before .before .lay-word2 .ensures))
 
--- src/asking.rt:71:5
 lay-word-requires-4 : tie.Need-lay-word-requires-4
-lay-word-requires-4 c κs = ?
+lay-word-requires-4 c κs = word-room (c .before .before .before .before .before .before .before .before .before .before .before .before .before .before .args .reply .third) (c .before .before .before .before .before .before .before .before .before .before .before .before .before .before .args .reply .fourth ∷ []) (word-laid (c .before .before .before .before .before .before .before .before .before .before .before .before .before .before .args .reply .second) (c .before .before .before .before .before .before .before .before .before .before .before .before .before .before .args .reply .third ∷ c .before .before .before .before .before .before .before .before .before .before .before .before .before .before .args .reply .fourth ∷ []) (word-laid (c .before .before .before .before .before .before .before .before .before .before .before .before .before .before .args .reply .first) (c .before .before .before .before .before .before .before .before .before .before .before .before .before .before .args .reply .second ∷ c .before .before .before .before .before .before .before .before .before .before .before .before .before .before .args .reply .third ∷ c .before .before .before .before .before .before .before .before .before .before .before .before .before .before .args .reply .fourth ∷ []) (word-laid (c .before .before .before .before .before .before .before .before .before .before .before .before .before .before .args .reply .answer) (c .before .before .before .before .before .before .before .before .before .before .before .before .before .before .args .reply .first ∷ c .before .before .before .before .before .before .before .before .before .before .before .before .before .before .args .reply .second ∷ c .before .before .before .before .before .before .before .before .before .before .before .before .before .before .args .reply .third ∷ c .before .before .before .before .before .before .before .before .before .before .before .before .before .before .args .reply .fourth ∷ []) (words-owed (c .before .before .before .before .before .before .before .before .before .before .before .before .before .before .args .part .now) (c .before .before .before .before .before .before .before .before .before .before .before .before .before .before .args .reply) (c .before .before .before .before .before .before .before .before .before .before .before .before .before .before .pre)) (c .before .before .before .before .before .before .before .before .before .before .before .lay-word .ensures)) (c .before .before .before .before .before .before .before .lay-word2 .ensures)) (c .before .before .before .lay-word3 .ensures))
 
--- src/asking.rt:72:5
 lay-word-requires-5 : tie.Need-lay-word-requires-5
-lay-word-requires-5 c κs = ?
+lay-word-requires-5 c κs = word-room (c .before .before .before .before .before .before .before .before .before .before .before .before .before .before .before .before .before .before .args .reply .fourth) [] (word-laid (c .before .before .before .before .before .before .before .before .before .before .before .before .before .before .before .before .before .before .args .reply .third) (c .before .before .before .before .before .before .before .before .before .before .before .before .before .before .before .before .before .before .args .reply .fourth ∷ []) (word-laid (c .before .before .before .before .before .before .before .before .before .before .before .before .before .before .before .before .before .before .args .reply .second) (c .before .before .before .before .before .before .before .before .before .before .before .before .before .before .before .before .before .before .args .reply .third ∷ c .before .before .before .before .before .before .before .before .before .before .before .before .before .before .before .before .before .before .args .reply .fourth ∷ []) (word-laid (c .before .before .before .before .before .before .before .before .before .before .before .before .before .before .before .before .before .before .args .reply .first) (c .before .before .before .before .before .before .before .before .before .before .before .before .before .before .before .before .before .before .args .reply .second ∷ c .before .before .before .before .before .before .before .before .before .before .before .before .before .before .before .before .before .before .args .reply .third ∷ c .before .before .before .before .before .before .before .before .before .before .before .before .before .before .before .before .before .before .args .reply .fourth ∷ []) (word-laid (c .before .before .before .before .before .before .before .before .before .before .before .before .before .before .before .before .before .before .args .reply .answer) (c .before .before .before .before .before .before .before .before .before .before .before .before .before .before .before .before .before .before .args .reply .first ∷ c .before .before .before .before .before .before .before .before .before .before .before .before .before .before .before .before .before .before .args .reply .second ∷ c .before .before .before .before .before .before .before .before .before .before .before .before .before .before .before .before .before .before .args .reply .third ∷ c .before .before .before .before .before .before .before .before .before .before .before .before .before .before .before .before .before .before .args .reply .fourth ∷ []) (words-owed (c .before .before .before .before .before .before .before .before .before .before .before .before .before .before .before .before .before .before .args .part .now) (c .before .before .before .before .before .before .before .before .before .before .before .before .before .before .before .before .before .before .args .reply) (c .before .before .before .before .before .before .before .before .before .before .before .before .before .before .before .before .before .before .pre)) (c .before .before .before .before .before .before .before .before .before .before .before .before .before .before .before .lay-word .ensures)) (c .before .before .before .before .before .before .before .before .before .before .before .lay-word2 .ensures)) (c .before .before .before .before .before .before .before .lay-word3 .ensures)) (c .before .before .before .lay-word4 .ensures))
 
--- src/asking.rt:64:1
 same-length : tie.Need-same-length
-same-length c = ?
+same-length c = search needs
 
--- src/asking.rt:64:1
 returns : tie.Need-returns
-returns c = ?
+returns c = words-laid (word-laid (c .before .before .before .before .before .before .before .before .before .before .before .before .before .before .before .before .before .before .before .before .before .args .reply .fourth) [] (word-laid (c .before .before .before .before .before .before .before .before .before .before .before .before .before .before .before .before .before .before .before .before .before .args .reply .third) (c .before .before .before .before .before .before .before .before .before .before .before .before .before .before .before .before .before .before .before .before .before .args .reply .fourth ∷ []) (word-laid (c .before .before .before .before .before .before .before .before .before .before .before .before .before .before .before .before .before .before .before .before .before .args .reply .second) (c .before .before .before .before .before .before .before .before .before .before .before .before .before .before .before .before .before .before .before .before .before .args .reply .third ∷ c .before .before .before .before .before .before .before .before .before .before .before .before .before .before .before .before .before .before .before .before .before .args .reply .fourth ∷ []) (word-laid (c .before .before .before .before .before .before .before .before .before .before .before .before .before .before .before .before .before .before .before .before .before .args .reply .first) (c .before .before .before .before .before .before .before .before .before .before .before .before .before .before .before .before .before .before .before .before .before .args .reply .second ∷ c .before .before .before .before .before .before .before .before .before .before .before .before .before .before .before .before .before .before .before .before .before .args .reply .third ∷ c .before .before .before .before .before .before .before .before .before .before .before .before .before .before .before .before .before .before .before .before .before .args .reply .fourth ∷ []) (word-laid (c .before .before .before .before .before .before .before .before .before .before .before .before .before .before .before .before .before .before .before .before .before .args .reply .answer) (c .before .before .before .before .before .before .before .before .before .before .before .before .before .before .before .before .before .before .before .before .before .args .reply .first ∷ c .before .before .before .before .before .before .before .before .before .before .before .before .before .before .before .before .before .before .before .before .before .args .reply .second ∷ c .before .before .before .before .before .before .before .before .before .before .before .before .before .before .before .before .before .before .before .before .before .args .reply .third ∷ c .before .before .before .before .before .before .before .before .before .before .before .before .before .before .before .before .before .before .before .before .before .args .reply .fourth ∷ []) (words-owed (c .before .before .before .before .before .before .before .before .before .before .before .before .before .before .before .before .before .before .before .before .before .args .part .now) (c .before .before .before .before .before .before .before .before .before .before .before .before .before .before .before .before .before .before .before .before .before .args .reply) (c .before .before .before .before .before .before .before .before .before .before .before .before .before .before .before .before .before .before .before .before .before .pre)) (c .before .before .before .before .before .before .before .before .before .before .before .before .before .before .before .before .before .before .lay-word .ensures)) (c .before .before .before .before .before .before .before .before .before .before .before .before .before .before .lay-word2 .ensures)) (c .before .before .before .before .before .before .before .before .before .before .lay-word3 .ensures)) (c .before .before .before .before .before .before .lay-word4 .ensures)) (c .before .before .lay-word5 .ensures))
 
 pub lay-reply-spec : {M : Type 1} → statement M
 lay-reply-spec =

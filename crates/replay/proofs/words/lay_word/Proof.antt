@@ -20,7 +20,6 @@ room-byte : (c : tie.In-loop Inv-loop μ-loop) → c .before .loop .end < length
 room-byte c =
     let r = c .before .loop .inv .0 .room in
     let l = length-bytes (c .before .loop .i) (c .before .loop .left) in
-    let t = c .loop-test .test in
     omega arith
 
 loop-holds : tie.Need-loop-holds Inv-loop μ-loop
@@ -44,7 +43,7 @@ loop-less c = omega arith
 loop-again : tie.Need-loop-again Inv-loop μ-loop
 loop-again c =
     (
-      owed-byte (rw (next-byte (c .before .loop .i) (c .before .loop .left) (c .loop-test .test)) at (c .before .loop .inv .0)),
+      owed-byte (rw (next-byte (c .before .loop .i) (c .before .loop .left) (omega arith)) at (c .before .loop .inv .0)),
       omega arith,
       length-set (c .before .loop .part) (c .before .loop .end) (c .before .loop .left % 256) ∙ c .before .loop .inv .2,
     )

@@ -87,6 +87,17 @@ module _ {p : Reference} {s before out : List ℕ} {b : Book} {at done calls : �
     unfolding replyLength
     reply-within = let f = fits in let h = g .room in (omega arith, omega arith)
 
+    -- what the call asks of its parts
+    pub call-ready : (Good b) × (48 ≤ length (take (at + n - at) (drop at s))) × (40 ≤ length (take (done + m - done) (drop done out)))
+    call-ready =
+        let hn = call-within in
+        let hm = reply-within in
+        let ls = length-drop at s in
+        let lo = length-drop done out in
+        let ln : length (take (at + n - at) (drop at s)) ≡ at + n - at = length-take-le (at + n - at) (drop at s) (omega arith) in
+        let lm : length (take (done + m - done) (drop done out)) ≡ done + m - done = length-take-le (done + m - done) (drop done out) (omega arith) in
+        (g .good, omega arith, omega arith)
+
     pub going-more : (b' : Book) (part : List ℕ) →
         length part ≡ length (take (done + m - done) (drop done out)) →
         Called (shows b) (askOf (take (at + n - at) (drop at s))) (take (done + m - done) (drop done out)) part b' →

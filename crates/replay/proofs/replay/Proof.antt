@@ -1,138 +1,137 @@
+-- `replay` meets its contract: the replies to the calls that are left are owed, until none is left.
+use Prim.Native.Nat.{_+_, _-_}
+use mathlib.Core.Path.{_≡_, refl, sym, _∙_}
+use native.Mathlib.Omega.{arith}
+use borrow.Author.Needs.{needs}
+use lib.ListN.{length}
+use Rattle.book.specs.Shown.{shows}
+use Rattle.replay.proofs.Laying.{rest-is}
+use Rattle.replay.proofs.Replaying.{Going, going-none, stop, call-within, reply-within, call-ready, going-more}
 use Rattle.replay.proofs.replay.Statement.{statement}
 use Rattle.replay.proofs.replay.Tie as tie
-use Rattle.replay.proofs.replay.Reads as reads
-use Rattle.replay.proofs.replay.Lts as lts
-use Rattle.book.proofs.open.Reads as open-reads
-use Rattle.replay.proofs.call.Reads as call-reads
-use Rattle.replay.proofs.words.call_length.Reads as call-length-reads
-use Rattle.replay.proofs.words.is_whole.Reads as is-whole-reads
-use Rattle.replay.proofs.words.reply_length.Reads as reply-length-reads
 
 abbrev Inv-loop : tie.InvT-loop
-Inv-loop depth name script out₀ book₀ at₀ done₀ calls₀ out book at done calls = ?
+Inv-loop depth name script out₀ book₀ at₀ done₀ calls₀ out book at done calls = Going (shows book₀) script out₀ out book at done calls
 
 abbrev μ-loop : tie.MeasureT-loop
-μ-loop depth name script out₀ book₀ at₀ done₀ calls₀ out book at done calls = ?
+μ-loop depth name script out₀ book₀ at₀ done₀ calls₀ out book at done calls = length script - at
 
--- src/lib.rt:30:9
 open-requires : tie.Need-open-requires Inv-loop μ-loop
-open-requires c κs = ?
+open-requires c κs = search needs
 
--- src/lib.rt:34:5
 loop-holds : tie.Need-loop-holds Inv-loop μ-loop
-loop-holds c = ?
+loop-holds c = going-none (c .before .before .before .before .args .script .now) (c .before .before .before .before .args .out .now) (c .«open» .result) (c .«open» .ensures .good)
 
--- src/lib.rt:34:20
 sub-is-whole : tie.Need-sub-is-whole Inv-loop μ-loop
-sub-is-whole c = ?
+sub-is-whole c = search needs
 
--- src/lib.rt:34:20
 part-is-whole-start : tie.Need-part-is-whole-start Inv-loop μ-loop
-part-is-whole-start c = ?
+part-is-whole-start c = search needs
 
--- src/lib.rt:34:20
 part-is-whole-end : tie.Need-part-is-whole-end Inv-loop μ-loop
-part-is-whole-end c = ?
+part-is-whole-end c = search needs
 
--- src/lib.rt:34:35
 sub-is-whole-2 : tie.Need-sub-is-whole-2 Inv-loop μ-loop
-sub-is-whole-2 c = ?
+sub-is-whole-2 c = search needs
 
--- src/lib.rt:34:11
 is-whole-requires : tie.Need-is-whole-requires Inv-loop μ-loop
-is-whole-requires c κs = ?
+is-whole-requires c κs = search needs
 
--- src/lib.rt:35:20
 sub-room : tie.Need-sub-room Inv-loop μ-loop
-sub-room c = ?
+sub-room c = search needs
 
--- src/lib.rt:36:37
 sub-call-length : tie.Need-sub-call-length Inv-loop μ-loop
-sub-call-length c = ?
+sub-call-length c = search needs
 
--- src/lib.rt:36:37
 part-call-length-start : tie.Need-part-call-length-start Inv-loop μ-loop
-part-call-length-start c = ?
+part-call-length-start c = search needs
 
--- src/lib.rt:36:37
 part-call-length-end : tie.Need-part-call-length-end Inv-loop μ-loop
-part-call-length-end c = ?
+part-call-length-end c = search needs
 
--- src/lib.rt:36:25
 call-length-requires : tie.Need-call-length-requires Inv-loop μ-loop
-call-length-requires c κs = ?
+call-length-requires c κs = (sym (c .before .before .is-whole .ensures) ∙ c .before .if1 .taken)
 
--- src/lib.rt:36:20
 add-next : tie.Need-add-next Inv-loop μ-loop
-add-next c = ?
+add-next c = let h = call-within (c .before .before .before .before .before .loop .inv) (rw (rest-is (c .before .before .before .before .before .before .before .before .before .before .args .script .now) (c .before .before .before .before .before .loop .at)) at (sym (c .before .before .before .is-whole .ensures) ∙ c .before .before .if1 .taken)) (rw (rest-is (c .before .before .before .before .before .before .before .before .before .before .args .script .now) (c .before .before .before .before .before .loop .at)) at (c .call-length .ensures)) refl in omega arith
 
--- src/lib.rt:37:39
 sub-reply-length : tie.Need-sub-reply-length Inv-loop μ-loop
-sub-reply-length c = ?
+sub-reply-length c = search needs
 
--- src/lib.rt:37:39
 part-reply-length-start : tie.Need-part-reply-length-start Inv-loop μ-loop
-part-reply-length-start c = ?
+part-reply-length-start c = search needs
 
--- src/lib.rt:37:39
 part-reply-length-end : tie.Need-part-reply-length-end Inv-loop μ-loop
-part-reply-length-end c = ?
+part-reply-length-end c = search needs
 
--- src/lib.rt:37:26
 reply-length-requires : tie.Need-reply-length-requires Inv-loop μ-loop
-reply-length-requires c κs = ?
+reply-length-requires c κs = (sym (c .before .before .before .before .is-whole .ensures) ∙ c .before .before .before .if1 .taken)
 
--- src/lib.rt:37:19
 add-end : tie.Need-add-end Inv-loop μ-loop
-add-end c = ?
+add-end c =
+    let h = call-within (c .before .before .before .before .before .before .before .loop .inv) (rw (rest-is (c .before .before .before .before .before .before .before .before .before .before .before .before .args .script .now) (c .before .before .before .before .before .before .before .loop .at)) at (sym (c .before .before .before .before .before .is-whole .ensures) ∙ c .before .before .before .before .if1 .taken)) (rw (rest-is (c .before .before .before .before .before .before .before .before .before .before .before .before .args .script .now) (c .before .before .before .before .before .before .before .loop .at)) at (c .before .before .call-length .ensures)) (rw (rest-is (c .before .before .before .before .before .before .before .before .before .before .before .before .args .script .now) (c .before .before .before .before .before .before .before .loop .at)) at (c .reply-length .ensures)) in
+    let k = reply-within (c .before .before .before .before .before .before .before .loop .inv) (rw (rest-is (c .before .before .before .before .before .before .before .before .before .before .before .before .args .script .now) (c .before .before .before .before .before .before .before .loop .at)) at (sym (c .before .before .before .before .before .is-whole .ensures) ∙ c .before .before .before .before .if1 .taken)) (rw (rest-is (c .before .before .before .before .before .before .before .before .before .before .before .before .args .script .now) (c .before .before .before .before .before .before .before .loop .at)) at (c .before .before .call-length .ensures)) (rw (rest-is (c .before .before .before .before .before .before .before .before .before .before .before .before .args .script .now) (c .before .before .before .before .before .before .before .loop .at)) at (c .reply-length .ensures)) in
+    omega arith
 
--- src/lib.rt:38:27
 sub-call : tie.Need-sub-call Inv-loop μ-loop
-sub-call c = ?
+sub-call c =
+    let h = call-within (c .before .before .before .before .before .before .before .loop .inv) (rw (rest-is (c .before .before .before .before .before .before .before .before .before .before .before .before .args .script .now) (c .before .before .before .before .before .before .before .loop .at)) at (sym (c .before .before .before .before .before .is-whole .ensures) ∙ c .before .before .before .before .if1 .taken)) (rw (rest-is (c .before .before .before .before .before .before .before .before .before .before .before .before .args .script .now) (c .before .before .before .before .before .before .before .loop .at)) at (c .before .before .call-length .ensures)) (rw (rest-is (c .before .before .before .before .before .before .before .before .before .before .before .before .args .script .now) (c .before .before .before .before .before .before .before .loop .at)) at (c .reply-length .ensures)) in
+    let k = reply-within (c .before .before .before .before .before .before .before .loop .inv) (rw (rest-is (c .before .before .before .before .before .before .before .before .before .before .before .before .args .script .now) (c .before .before .before .before .before .before .before .loop .at)) at (sym (c .before .before .before .before .before .is-whole .ensures) ∙ c .before .before .before .before .if1 .taken)) (rw (rest-is (c .before .before .before .before .before .before .before .before .before .before .before .before .args .script .now) (c .before .before .before .before .before .before .before .loop .at)) at (c .before .before .call-length .ensures)) (rw (rest-is (c .before .before .before .before .before .before .before .before .before .before .before .before .args .script .now) (c .before .before .before .before .before .before .before .loop .at)) at (c .reply-length .ensures)) in
+    omega arith
 
--- src/lib.rt:38:27
 part-call-start : tie.Need-part-call-start Inv-loop μ-loop
-part-call-start c = ?
+part-call-start c =
+    let h = call-within (c .before .before .before .before .before .before .before .loop .inv) (rw (rest-is (c .before .before .before .before .before .before .before .before .before .before .before .before .args .script .now) (c .before .before .before .before .before .before .before .loop .at)) at (sym (c .before .before .before .before .before .is-whole .ensures) ∙ c .before .before .before .before .if1 .taken)) (rw (rest-is (c .before .before .before .before .before .before .before .before .before .before .before .before .args .script .now) (c .before .before .before .before .before .before .before .loop .at)) at (c .before .before .call-length .ensures)) (rw (rest-is (c .before .before .before .before .before .before .before .before .before .before .before .before .args .script .now) (c .before .before .before .before .before .before .before .loop .at)) at (c .reply-length .ensures)) in
+    let k = reply-within (c .before .before .before .before .before .before .before .loop .inv) (rw (rest-is (c .before .before .before .before .before .before .before .before .before .before .before .before .args .script .now) (c .before .before .before .before .before .before .before .loop .at)) at (sym (c .before .before .before .before .before .is-whole .ensures) ∙ c .before .before .before .before .if1 .taken)) (rw (rest-is (c .before .before .before .before .before .before .before .before .before .before .before .before .args .script .now) (c .before .before .before .before .before .before .before .loop .at)) at (c .before .before .call-length .ensures)) (rw (rest-is (c .before .before .before .before .before .before .before .before .before .before .before .before .args .script .now) (c .before .before .before .before .before .before .before .loop .at)) at (c .reply-length .ensures)) in
+    omega arith
 
--- src/lib.rt:38:27
 part-call-end : tie.Need-part-call-end Inv-loop μ-loop
-part-call-end c = ?
+part-call-end c =
+    let h = call-within (c .before .before .before .before .before .before .before .loop .inv) (rw (rest-is (c .before .before .before .before .before .before .before .before .before .before .before .before .args .script .now) (c .before .before .before .before .before .before .before .loop .at)) at (sym (c .before .before .before .before .before .is-whole .ensures) ∙ c .before .before .before .before .if1 .taken)) (rw (rest-is (c .before .before .before .before .before .before .before .before .before .before .before .before .args .script .now) (c .before .before .before .before .before .before .before .loop .at)) at (c .before .before .call-length .ensures)) (rw (rest-is (c .before .before .before .before .before .before .before .before .before .before .before .before .args .script .now) (c .before .before .before .before .before .before .before .loop .at)) at (c .reply-length .ensures)) in
+    let k = reply-within (c .before .before .before .before .before .before .before .loop .inv) (rw (rest-is (c .before .before .before .before .before .before .before .before .before .before .before .before .args .script .now) (c .before .before .before .before .before .before .before .loop .at)) at (sym (c .before .before .before .before .before .is-whole .ensures) ∙ c .before .before .before .before .if1 .taken)) (rw (rest-is (c .before .before .before .before .before .before .before .before .before .before .before .before .args .script .now) (c .before .before .before .before .before .before .before .loop .at)) at (c .before .before .call-length .ensures)) (rw (rest-is (c .before .before .before .before .before .before .before .before .before .before .before .before .args .script .now) (c .before .before .before .before .before .before .before .loop .at)) at (c .reply-length .ensures)) in
+    omega arith
 
--- src/lib.rt:38:46
 sub-call-2 : tie.Need-sub-call-2 Inv-loop μ-loop
-sub-call-2 c = ?
+sub-call-2 c =
+    let h = call-within (c .before .before .before .before .before .before .before .before .loop .inv) (rw (rest-is (c .before .before .before .before .before .before .before .before .before .before .before .before .before .args .script .now) (c .before .before .before .before .before .before .before .before .loop .at)) at (sym (c .before .before .before .before .before .before .is-whole .ensures) ∙ c .before .before .before .before .before .if1 .taken)) (rw (rest-is (c .before .before .before .before .before .before .before .before .before .before .before .before .before .args .script .now) (c .before .before .before .before .before .before .before .before .loop .at)) at (c .before .before .before .call-length .ensures)) (rw (rest-is (c .before .before .before .before .before .before .before .before .before .before .before .before .before .args .script .now) (c .before .before .before .before .before .before .before .before .loop .at)) at (c .before .reply-length .ensures)) in
+    let k = reply-within (c .before .before .before .before .before .before .before .before .loop .inv) (rw (rest-is (c .before .before .before .before .before .before .before .before .before .before .before .before .before .args .script .now) (c .before .before .before .before .before .before .before .before .loop .at)) at (sym (c .before .before .before .before .before .before .is-whole .ensures) ∙ c .before .before .before .before .before .if1 .taken)) (rw (rest-is (c .before .before .before .before .before .before .before .before .before .before .before .before .before .args .script .now) (c .before .before .before .before .before .before .before .before .loop .at)) at (c .before .before .before .call-length .ensures)) (rw (rest-is (c .before .before .before .before .before .before .before .before .before .before .before .before .before .args .script .now) (c .before .before .before .before .before .before .before .before .loop .at)) at (c .before .reply-length .ensures)) in
+    omega arith
 
--- src/lib.rt:38:46
 part-call-start-2 : tie.Need-part-call-start-2 Inv-loop μ-loop
-part-call-start-2 c = ?
+part-call-start-2 c =
+    let h = call-within (c .before .before .before .before .before .before .before .before .loop .inv) (rw (rest-is (c .before .before .before .before .before .before .before .before .before .before .before .before .before .args .script .now) (c .before .before .before .before .before .before .before .before .loop .at)) at (sym (c .before .before .before .before .before .before .is-whole .ensures) ∙ c .before .before .before .before .before .if1 .taken)) (rw (rest-is (c .before .before .before .before .before .before .before .before .before .before .before .before .before .args .script .now) (c .before .before .before .before .before .before .before .before .loop .at)) at (c .before .before .before .call-length .ensures)) (rw (rest-is (c .before .before .before .before .before .before .before .before .before .before .before .before .before .args .script .now) (c .before .before .before .before .before .before .before .before .loop .at)) at (c .before .reply-length .ensures)) in
+    let k = reply-within (c .before .before .before .before .before .before .before .before .loop .inv) (rw (rest-is (c .before .before .before .before .before .before .before .before .before .before .before .before .before .args .script .now) (c .before .before .before .before .before .before .before .before .loop .at)) at (sym (c .before .before .before .before .before .before .is-whole .ensures) ∙ c .before .before .before .before .before .if1 .taken)) (rw (rest-is (c .before .before .before .before .before .before .before .before .before .before .before .before .before .args .script .now) (c .before .before .before .before .before .before .before .before .loop .at)) at (c .before .before .before .call-length .ensures)) (rw (rest-is (c .before .before .before .before .before .before .before .before .before .before .before .before .before .args .script .now) (c .before .before .before .before .before .before .before .before .loop .at)) at (c .before .reply-length .ensures)) in
+    omega arith
 
--- src/lib.rt:38:46
 part-call-end-2 : tie.Need-part-call-end-2 Inv-loop μ-loop
-part-call-end-2 c = ?
+part-call-end-2 c =
+    let h = call-within (c .before .before .before .before .before .before .before .before .loop .inv) (rw (rest-is (c .before .before .before .before .before .before .before .before .before .before .before .before .before .args .script .now) (c .before .before .before .before .before .before .before .before .loop .at)) at (sym (c .before .before .before .before .before .before .is-whole .ensures) ∙ c .before .before .before .before .before .if1 .taken)) (rw (rest-is (c .before .before .before .before .before .before .before .before .before .before .before .before .before .args .script .now) (c .before .before .before .before .before .before .before .before .loop .at)) at (c .before .before .before .call-length .ensures)) (rw (rest-is (c .before .before .before .before .before .before .before .before .before .before .before .before .before .args .script .now) (c .before .before .before .before .before .before .before .before .loop .at)) at (c .before .reply-length .ensures)) in
+    let k = reply-within (c .before .before .before .before .before .before .before .before .loop .inv) (rw (rest-is (c .before .before .before .before .before .before .before .before .before .before .before .before .before .args .script .now) (c .before .before .before .before .before .before .before .before .loop .at)) at (sym (c .before .before .before .before .before .before .is-whole .ensures) ∙ c .before .before .before .before .before .if1 .taken)) (rw (rest-is (c .before .before .before .before .before .before .before .before .before .before .before .before .before .args .script .now) (c .before .before .before .before .before .before .before .before .loop .at)) at (c .before .before .before .call-length .ensures)) (rw (rest-is (c .before .before .before .before .before .before .before .before .before .before .before .before .before .args .script .now) (c .before .before .before .before .before .before .before .before .loop .at)) at (c .before .reply-length .ensures)) in
+    omega arith
 
--- src/lib.rt:38:9
 call-requires : tie.Need-call-requires Inv-loop μ-loop
-call-requires c κs = ?
+call-requires c κs = call-ready (c .before .before .before .before .before .before .before .before .before .loop .inv) (rw (rest-is (c .before .before .before .before .before .before .before .before .before .before .before .before .before .before .args .script .now) (c .before .before .before .before .before .before .before .before .before .loop .at)) at (sym (c .before .before .before .before .before .before .before .is-whole .ensures) ∙ c .before .before .before .before .before .before .if1 .taken)) (rw (rest-is (c .before .before .before .before .before .before .before .before .before .before .before .before .before .before .args .script .now) (c .before .before .before .before .before .before .before .before .before .loop .at)) at (c .before .before .before .before .call-length .ensures)) (rw (rest-is (c .before .before .before .before .before .before .before .before .before .before .before .before .before .before .args .script .now) (c .before .before .before .before .before .before .before .before .before .loop .at)) at (c .before .before .reply-length .ensures))
 
--- src/lib.rt:41:9
 add-calls : tie.Need-add-calls Inv-loop μ-loop
-add-calls c = ?
+add-calls c =
+    let h = call-within (c .before .before .before .before .before .before .before .before .before .before .before .before .loop .inv) (rw (rest-is (c .before .before .before .before .before .before .before .before .before .before .before .before .before .before .before .before .before .args .script .now) (c .before .before .before .before .before .before .before .before .before .before .before .before .loop .at)) at (sym (c .before .before .before .before .before .before .before .before .before .before .is-whole .ensures) ∙ c .before .before .before .before .before .before .before .before .before .if1 .taken)) (rw (rest-is (c .before .before .before .before .before .before .before .before .before .before .before .before .before .before .before .before .before .args .script .now) (c .before .before .before .before .before .before .before .before .before .before .before .before .loop .at)) at (c .before .before .before .before .before .before .before .call-length .ensures)) (rw (rest-is (c .before .before .before .before .before .before .before .before .before .before .before .before .before .before .before .before .before .args .script .now) (c .before .before .before .before .before .before .before .before .before .before .before .before .loop .at)) at (c .before .before .before .before .before .reply-length .ensures)) in
+    let k = reply-within (c .before .before .before .before .before .before .before .before .before .before .before .before .loop .inv) (rw (rest-is (c .before .before .before .before .before .before .before .before .before .before .before .before .before .before .before .before .before .args .script .now) (c .before .before .before .before .before .before .before .before .before .before .before .before .loop .at)) at (sym (c .before .before .before .before .before .before .before .before .before .before .is-whole .ensures) ∙ c .before .before .before .before .before .before .before .before .before .if1 .taken)) (rw (rest-is (c .before .before .before .before .before .before .before .before .before .before .before .before .before .before .before .before .before .args .script .now) (c .before .before .before .before .before .before .before .before .before .before .before .before .loop .at)) at (c .before .before .before .before .before .before .before .call-length .ensures)) (rw (rest-is (c .before .before .before .before .before .before .before .before .before .before .before .before .before .before .before .before .before .args .script .now) (c .before .before .before .before .before .before .before .before .before .before .before .before .loop .at)) at (c .before .before .before .before .before .reply-length .ensures)) in
+    omega (arith, c .before .before .before .before .before .before .before .before .before .before .before .before .before .before .before .before .before .good .1 .1 .1 .0)
 
--- src/lib.rt:34:5
 loop-less : tie.Need-loop-less Inv-loop μ-loop
-loop-less c = ?
+loop-less c =
+    let h = call-within (c .before .before .before .before .before .before .before .before .before .before .before .before .loop .inv) (rw (rest-is (c .before .before .before .before .before .before .before .before .before .before .before .before .before .before .before .before .before .args .script .now) (c .before .before .before .before .before .before .before .before .before .before .before .before .loop .at)) at (sym (c .before .before .before .before .before .before .before .before .before .before .is-whole .ensures) ∙ c .before .before .before .before .before .before .before .before .before .if1 .taken)) (rw (rest-is (c .before .before .before .before .before .before .before .before .before .before .before .before .before .before .before .before .before .args .script .now) (c .before .before .before .before .before .before .before .before .before .before .before .before .loop .at)) at (c .before .before .before .before .before .before .before .call-length .ensures)) (rw (rest-is (c .before .before .before .before .before .before .before .before .before .before .before .before .before .before .before .before .before .args .script .now) (c .before .before .before .before .before .before .before .before .before .before .before .before .loop .at)) at (c .before .before .before .before .before .reply-length .ensures)) in
+    let k = reply-within (c .before .before .before .before .before .before .before .before .before .before .before .before .loop .inv) (rw (rest-is (c .before .before .before .before .before .before .before .before .before .before .before .before .before .before .before .before .before .args .script .now) (c .before .before .before .before .before .before .before .before .before .before .before .before .loop .at)) at (sym (c .before .before .before .before .before .before .before .before .before .before .is-whole .ensures) ∙ c .before .before .before .before .before .before .before .before .before .if1 .taken)) (rw (rest-is (c .before .before .before .before .before .before .before .before .before .before .before .before .before .before .before .before .before .args .script .now) (c .before .before .before .before .before .before .before .before .before .before .before .before .loop .at)) at (c .before .before .before .before .before .before .before .call-length .ensures)) (rw (rest-is (c .before .before .before .before .before .before .before .before .before .before .before .before .before .before .before .before .before .args .script .now) (c .before .before .before .before .before .before .before .before .before .before .before .before .loop .at)) at (c .before .before .before .before .before .reply-length .ensures)) in
+    omega arith
 
--- src/lib.rt:34:5
 loop-again : tie.Need-loop-again Inv-loop μ-loop
-loop-again c = ?
+loop-again c = going-more (c .before .before .before .before .before .before .before .before .before .before .before .before .loop .inv) (rw (rest-is (c .before .before .before .before .before .before .before .before .before .before .before .before .before .before .before .before .before .args .script .now) (c .before .before .before .before .before .before .before .before .before .before .before .before .loop .at)) at (sym (c .before .before .before .before .before .before .before .before .before .before .is-whole .ensures) ∙ c .before .before .before .before .before .before .before .before .before .if1 .taken)) (rw (rest-is (c .before .before .before .before .before .before .before .before .before .before .before .before .before .before .before .before .before .args .script .now) (c .before .before .before .before .before .before .before .before .before .before .before .before .loop .at)) at (c .before .before .before .before .before .before .before .call-length .ensures)) (rw (rest-is (c .before .before .before .before .before .before .before .before .before .before .before .before .before .before .before .before .before .args .script .now) (c .before .before .before .before .before .before .before .before .before .before .before .before .loop .at)) at (c .before .before .before .before .before .reply-length .ensures)) (c .before .before .call .result) (c .before .before .call .last .1 .1 .0) (c .before .before .call .kept .1 .1 .0) (c .before .before .call .ensures)
 
--- src/lib.rt:27:1
 same-length : tie.Need-same-length Inv-loop μ-loop
-same-length c = ?
+same-length c = search needs
 
--- src/lib.rt:27:1
 returns : tie.Need-returns Inv-loop μ-loop
-returns c = ?
+returns c = stop (c .before .before .before .loop .inv) _ (c .before .before .before .before .«open» .ensures .same) (rw (rest-is (c .before .before .before .before .before .before .before .before .args .script .now) (c .before .before .before .loop .at)) at (sym (c .before .is-whole .ensures) ∙ c .if1 .left))
 
 pub replay-spec : {M : Type 1} → statement M
 replay-spec =

@@ -102,9 +102,6 @@ side-small write = omega arith
 
 -- the words of a header, before any text
 module _ (c : Call) (h : Holds c) (r : List ℕ) where
-  header : List ℕ
-  header = wordsOf (headerWords c)
-
   header-length : length (wordsOf (headerWords c)) ≡ 48
   unfolding headerWords
   header-length = length-words (headerWords c)
@@ -144,47 +141,143 @@ asked-back (whichNumber scope) c a b d e f = rw (a, b) (ap whichNumber (scope-ba
 asked-back (howManyUpdates scope) c a b d e f = rw (a, b) (ap howManyUpdates (scope-back scope))
 asked-back write c a b d e f = rw a
 
+-- a script that begins with a call, and `out` for it
+abbrev zeroWords : List ℕ
+zeroWords = wordsOf (0 ∷ 0 ∷ 0 ∷ 0 ∷ 0 ∷ [])
+
+abbrev text : Call → List ℕ → List ℕ
+text c s = wordsOf (headerWords c) ++ (messageIn (c .ask) ++ s)
+
+abbrev room : Call → List ℕ → List ℕ
+room c out = zeroWords ++ (c .buffer ++ out)
+
 module _ (c : Call) (h : Holds c) (s out : List ℕ) where
-  text : List ℕ
-  text = wordsOf (headerWords c) ++ (messageIn (c .ask) ++ s)
-
-  room : List ℕ
-  room = wordsOf (0 ∷ 0 ∷ 0 ∷ 0 ∷ 0 ∷ []) ++ (c .buffer ++ out)
-
-  first-length : callLength text ≡ 48 + length (messageIn (c .ask))
-  unfolding callLength text
+  first-length : callLength (text c s) ≡ 48 + length (messageIn (c .ask))
+  unfolding callLength
   first-length = rw (w40 c h (messageIn (c .ask) ++ s))
 
-  first-reply : replyLength text ≡ 40 + length (c .buffer)
-  unfolding replyLength text
+  first-reply : replyLength (text c s) ≡ 40 + length (c .buffer)
+  unfolding replyLength
   first-reply = rw (w32 c h (messageIn (c .ask) ++ s))
 
-  first-whole : isWhole text (length room) ≡ true
-  unfolding text room
+  first-whole : isWhole (text c s) (length (room c out)) ≡ true
   first-whole =
       let r : List ℕ = messageIn (c .ask) ++ s in
       let lt = length-append (wordsOf (headerWords c)) r in
       let lh = header-length c h r in
       let lr = length-append (messageIn (c .ask)) s in
-      let lo = length-append (wordsOf (0 ∷ 0 ∷ 0 ∷ 0 ∷ 0 ∷ [])) (c .buffer ++ out) in
+      let lo = length-append zeroWords (c .buffer ++ out) in
       let lw = length-words (0 ∷ 0 ∷ 0 ∷ 0 ∷ 0 ∷ []) in
       let lb = length-append (c .buffer) out in
-      sym (whole-by (wordsOf (headerWords c) ++ r) (length (wordsOf (0 ∷ 0 ∷ 0 ∷ 0 ∷ 0 ∷ []) ++ (c .buffer ++ out))) (omega arith)
-      (sym (w0 c h r)) (opcode-small (c .ask)) (sym (w40 c h r)) (omega arith) (omega arith) (sym (w32 c h r)))
-      ∙ le-leb (length (c .buffer)) (length (wordsOf (0 ∷ 0 ∷ 0 ∷ 0 ∷ 0 ∷ []) ++ (c .buffer ++ out)) - 40) (omega arith)
+      sym (whole-by (text c s) (length (room c out)) (omega arith) (sym (w0 c h r)) (opcode-small (c .ask)) (sym (w40 c h r)) (omega arith) (omega arith)
+      (sym (w32 c h r)))
+      ∙ le-leb (length (c .buffer)) (length (room c out) - 40) (omega arith)
 
-  first-part : take (callLength text) text ≡ wordsOf (headerWords c) ++ messageIn (c .ask)
-  unfolding text
-  first-part =
-      let l : length (wordsOf (headerWords c) ++ messageIn (c .ask)) ≡ callLength (wordsOf (headerWords c) ++ (messageIn (c .ask) ++ s)) =
-      length-append (wordsOf (headerWords c)) (messageIn (c .ask)) ∙ ap (λ (n : ℕ). n + length (messageIn (c .ask))) (header-length c h s) ∙ sym first-length in
-      ap (take (callLength (wordsOf (headerWords c) ++ (messageIn (c .ask) ++ s)))) (sym (append-assoc (wordsOf (headerWords c)) (messageIn (c .ask)) s))
-      ∙ take-at (wordsOf (headerWords c) ++ messageIn (c .ask)) s (callLength (wordsOf (headerWords c) ++ (messageIn (c .ask) ++ s))) l
+  part-length : length (wordsOf (headerWords c) ++ messageIn (c .ask)) ≡ callLength (text c s)
+  part-length =
+      length-append (wordsOf (headerWords c)) (messageIn (c .ask))
+      ∙ ap (λ (n : ℕ). n + length (messageIn (c .ask))) (header-length c h s)
+      ∙ sym first-length
 
-  script-rest : drop (callLength text) text ≡ s
-  unfolding text
-  script-rest =
-      let l : length (wordsOf (headerWords c) ++ messageIn (c .ask)) ≡ callLength (wordsOf (headerWords c) ++ (messageIn (c .ask) ++ s)) =
-      length-append (wordsOf (headerWords c)) (messageIn (c .ask)) ∙ ap (λ (n : ℕ). n + length (messageIn (c .ask))) (header-length c h s) ∙ sym first-length in
-      ap (drop (callLength (wordsOf (headerWords c) ++ (messageIn (c .ask) ++ s)))) (sym (append-assoc (wordsOf (headerWords c)) (messageIn (c .ask)) s))
-      ∙ drop-at (wordsOf (headerWords c) ++ messageIn (c .ask)) s (callLength (wordsOf (headerWords c) ++ (messageIn (c .ask) ++ s))) l
+  grouped : text c s ≡ (wordsOf (headerWords c) ++ messageIn (c .ask)) ++ s
+  grouped = sym (append-assoc (wordsOf (headerWords c)) (messageIn (c .ask)) s)
+
+  first-part : take (callLength (text c s)) (text c s) ≡ wordsOf (headerWords c) ++ messageIn (c .ask)
+  first-part = ap (take (callLength (text c s))) grouped ∙ take-at (wordsOf (headerWords c) ++ messageIn (c .ask)) s (callLength (text c s)) part-length
+
+  script-rest : drop (callLength (text c s)) (text c s) ≡ s
+  script-rest = ap (drop (callLength (text c s))) grouped ∙ drop-at (wordsOf (headerWords c) ++ messageIn (c .ask)) s (callLength (text c s)) part-length
+
+  first-asked : askOf (take (callLength (text c s)) (text c s)) ≡ c .ask
+  first-asked =
+      let m : List ℕ = messageIn (c .ask) in
+      ap askOf first-part
+      ∙ asked-back (c .ask) (wordsOf (headerWords c) ++ m) (w0 c h m) (w8 c h m) (w16 c h m) (w24 c h m)
+      (drop-at (wordsOf (headerWords c)) m 48 (header-length c h m))
+
+  room-length : length (zeroWords ++ c .buffer) ≡ replyLength (text c s)
+  room-length =
+      length-append zeroWords (c .buffer) ∙ ap (λ (n : ℕ). n + length (c .buffer)) (length-words (0 ∷ 0 ∷ 0 ∷ 0 ∷ 0 ∷ [])) ∙ sym first-reply
+
+  room-grouped : room c out ≡ (zeroWords ++ c .buffer) ++ out
+  room-grouped = sym (append-assoc zeroWords (c .buffer) out)
+
+  first-buffer : drop 40 (take (replyLength (text c s)) (room c out)) ≡ c .buffer
+  first-buffer =
+      ap (drop 40)
+      (ap (take (replyLength (text c s))) room-grouped ∙ take-at (zeroWords ++ c .buffer) out (replyLength (text c s)) room-length)
+      ∙ drop-at zeroWords (c .buffer) 40 (length-words (0 ∷ 0 ∷ 0 ∷ 0 ∷ 0 ∷ []))
+
+  out-rest : drop (replyLength (text c s)) (room c out) ≡ out
+  out-rest = ap (drop (replyLength (text c s))) room-grouped ∙ drop-at (zeroWords ++ c .buffer) out (replyLength (text c s)) room-length
+
+  first-called : called (text c s) (room c out) ≡ c
+  unfolding called
+  first-called = ap₂ call first-asked first-buffer
+
+  first-decoded : (turns : ℕ) → decode (suc turns) (text c s) (room c out) ≡ c ∷ decode turns s out
+  unfolding decode
+  first-decoded turns = rw first-whole (ap₂ (λ (x : Call) (xs : List Call). x ∷ xs) first-called (ap₂ (decode turns) script-rest out-rest))
+
+-- ---- every list of calls
+
+decoded : (turns : ℕ) (cs : List Call) → All Holds cs → length (scriptOf cs) ≤ turns → decode turns (scriptOf cs) (outOf cs) ≡ cs
+unfolding decode scriptOf outOf All isWhole
+decoded zero [] h l = refl
+decoded (suc turns) [] h l = refl
+decoded zero (c ∷ cs) h l =
+    let a = length-append (wordsOf (headerWords c)) (messageIn (c .ask) ++ scriptOf cs) in
+    let b = header-length c (h .0) [] in
+    absurd (omega arith)
+decoded (suc turns) (c ∷ cs) h l =
+    let a = length-append (wordsOf (headerWords c)) (messageIn (c .ask) ++ scriptOf cs) in
+    let b = header-length c (h .0) [] in
+    let d = length-append (messageIn (c .ask)) (scriptOf cs) in
+    first-decoded c (h .0) (scriptOf cs) (outOf cs) turns ∙ ap (λ (xs : List Call). c ∷ xs) (decoded turns cs (h .1) (omega arith))
+
+pub every-list : Every-list
+every-list cs h = decoded (length (scriptOf cs)) cs h (omega arith)
+
+pub replayed-list : Replayed-list
+replayed-list t cs after calls h r = record {
+  out = r .out ∙ rw (every-list cs h);
+  count = r .count ∙ rw (every-list cs h);
+}
+
+pub replayed-snapshot : Replayed-snapshot
+replayed-snapshot t cs ds s buffer m after calls h q k a r =
+    replayed-list t (cs ++ (call (message s) buffer ∷ ds)) after calls h r .out ∙ rw (from-snapshot t cs ds s buffer m q k a)
+
+-- ---- every script is one of bytes
+
+bytes-cons : (x : ℕ) (xs : List ℕ) → x < 256 → Bytes xs → Bytes (x ∷ xs)
+bytes-cons x xs h k zero = h
+bytes-cons x xs h k (suc i) = k i
+
+bytes-append : (xs ys : List ℕ) → Bytes xs → Bytes ys → Bytes (xs ++ ys)
+bytes-append [] ys h k = k
+bytes-append (x ∷ xs) ys h k = bytes-cons x (xs ++ ys) (h 0) (bytes-append xs ys (λ i. h (suc i)) k)
+
+bytes-none : Bytes []
+bytes-none i = lit< tt
+
+bytes-word : (k n : ℕ) → Bytes (bytesOf k n)
+unfolding bytesOf
+bytes-word zero n = bytes-none
+bytes-word (suc k) n = bytes-cons (n % 256) (bytesOf k (n / 256)) (omega arith) (bytes-word k (n / 256))
+
+bytes-words : (ns : List ℕ) → Bytes (wordsOf ns)
+unfolding wordsOf
+bytes-words [] = bytes-none
+bytes-words (n ∷ ns) = bytes-append (bytesOf 8 n) (wordsOf ns) (bytes-word 8 n) (bytes-words ns)
+
+pub every-script : Every-script
+unfolding scriptOf outOf All
+every-script [] h = (bytes-none, bytes-none)
+every-script (c ∷ cs) h =
+    let r = every-script cs (h .1) in
+    (
+      bytes-append (wordsOf (headerWords c)) (messageIn (c .ask) ++ scriptOf cs) (bytes-words (headerWords c))
+      (bytes-append (messageIn (c .ask)) (scriptOf cs) (h .0 .message) (r .0)),
+      bytes-append zeroWords (c .buffer ++ outOf cs) (bytes-words (0 ∷ 0 ∷ 0 ∷ 0 ∷ 0 ∷ [])) (bytes-append (c .buffer) (outOf cs) (h .0 .buffer) (r .1)),
+    )

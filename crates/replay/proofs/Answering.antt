@@ -1,0 +1,97 @@
+-- Laws of one call: what its header asks, and the book's answer as words. Assumes nothing.
+use Prim.Native.Nat.{ℕ, _+_, _-_, _≤_, _<_}
+use mathlib.Core.Path.{_≡_, refl, sym, ap, ap₂, _∙_, subst}
+use mathlib.Core.Bool.{true, false}
+use mathlib.Core.List.{List, [], _∷_, _++_}
+use native.Mathlib.Omega.{arith}
+use borrow.Author.Tests.{ne-eqb}
+use lib.Dec.{eqb}
+use lib.ListN.{length, take, drop, length-drop}
+use lib.Seq.{take-all}
+use Rattle.decimal.specs.Decimal as decimal
+use Rattle.message.specs.Answers.{number}
+use Rattle.message.specs.declared.Answer.{Answer}
+use Rattle.side.specs.declared.Side.{Side}
+use Rattle.book.specs.declared.Scope.{Scope}
+use Rattle.book.specs.declared.Book.{Book}
+use Rattle.book.specs.declared.Step.{Step}
+use Rattle.book.specs.declared.Counted.{Counted}
+use Rattle.book.specs.declared.Levelled.{Levelled}
+use Rattle.book.specs.declared.Amounted.{Amounted}
+use Rattle.book.specs.Reference.{Reference, Reply, Value, Ask, message, howMany, levelAt, whichNumber, howManyUpdates, write, does, hear}
+use Rattle.book.specs.Shown.{Good, shows, Told, AnswersCounts, AnswersLevel, AnswersAmount, Wrote}
+use Rattle.replay.specs.Format.{wordAt, opcode, scopeOf, sideOf, askOf, levelWords, valueWords, replyWords}
+use Rattle.replay.specs.Calls.{Answered, toldOf, countedOf, levelledOf, amountedOf}
+use Rattle.replay.specs.declared.asking.Replied.{Replied}
+
+-- ---- what a header asks
+
+module _ (c : List ℕ) {op : ℕ} (e : op ≡ opcode c) where
+  pub asks-message : op ≡ 0 → message (drop 48 c) ≡ askOf c
+  unfolding askOf
+  asks-message h = rw (sym e ∙ h)
+
+  pub asks-write : (op ≡ 0 → ⊥) → (op ≡ 1 → ⊥) → (op ≡ 2 → ⊥) → (op ≡ 3 → ⊥) → (op ≡ 4 → ⊥) → write ≡ askOf c
+  unfolding askOf
+  asks-write n0 n1 n2 n3 n4 = rw (sym e, ne-eqb op 0 n0, ne-eqb op 1 n1, ne-eqb op 2 n2, ne-eqb op 3 n3, ne-eqb op 4 n4)
+
+  module _ {n : ℕ} {scope : Scope} (f : n ≡ wordAt c 8) (g : scope ≡ scopeOf n) where
+    pub asks-counts : op ≡ 1 → howMany scope ≡ askOf c
+    unfolding askOf
+    asks-counts h = rw (sym e ∙ h, g, f)
+
+    pub asks-level : op ≡ 2 → {m i : ℕ} {side : Side} → m ≡ wordAt c 16 → side ≡ sideOf m → i ≡ wordAt c 24 → levelAt scope side i ≡ askOf c
+    unfolding askOf
+    asks-level h k l j = rw (sym e ∙ h, g, f, l, k, j)
+
+    pub asks-number : op ≡ 3 → whichNumber scope ≡ askOf c
+    unfolding askOf
+    asks-number h = rw (sym e ∙ h, g, f)
+
+    pub asks-updates : op ≡ 4 → howManyUpdates scope ≡ askOf c
+    unfolding askOf
+    asks-updates h = rw (sym e ∙ h, g, f)
+
+-- ---- the answer as words
+
+pub as-asked : {p : Reference} {ask ask' : Ask} {before after : List ℕ} {r r' : Replied} → ask ≡ ask' → r' ≡ r → Answered p ask before after r → Answered p ask' before after r'
+as-asked {p} {ask} {ask'} {before} {after} {r} {r'} e f a =
+    subst (λ (x : Ask). Answered p x before after r') e (subst (Answered p ask before after) (sym f) a)
+
+worded : {a a' : Answer} {v v' : Value} → a ≡ a' → v ≡ v' → number a ∷ valueWords v ≡ number a' ∷ valueWords v'
+worded e f = ap₂ (λ (x : Answer) (y : Value). number x ∷ valueWords y) e f
+
+module _ (b : Book) (buffer : List ℕ) where
+  pub told-answered : (m : List ℕ) (s : Step) → Told (hear (shows b) m) s → Answered (shows b) (message m) buffer buffer (toldOf s)
+  unfolding does toldOf valueWords replyWords
+  told-answered m s t =
+      record { good = t .good; same = t .same; words = ap (λ (a : Answer). number a ∷ 0 ∷ 0 ∷ 0 ∷ 0 ∷ []) (t .answer); buffer = refl }
+
+  module _ (g : Good b) where
+    pub counts-answered : (scope : Scope) (s : Counted) → AnswersCounts b scope s → Answered (shows b) (howMany scope) buffer buffer (countedOf s)
+    unfolding does countedOf valueWords replyWords
+    counts-answered scope s a =
+        record { good = subst Good (sym (a .book)) g; same = ap shows (a .book); words = worded (a .answer buffer) (a .value buffer); buffer = refl }
+
+    pub level-answered : (scope : Scope) (side : Side) (i : ℕ) (s : Levelled) → AnswersLevel b scope side i s →
+        Answered (shows b) (levelAt scope side i) buffer buffer (levelledOf s)
+    unfolding does levelledOf valueWords levelWords replyWords decimal.number
+    level-answered scope side i s a =
+        record { good = subst Good (sym (a .book)) g; same = ap shows (a .book); words = worded (a .answer buffer) (a .value buffer); buffer = refl }
+
+    pub number-answered : (scope : Scope) (s : Amounted) → AnswersAmount b (whichNumber scope) s →
+        Answered (shows b) (whichNumber scope) buffer buffer (amountedOf s)
+    unfolding does amountedOf valueWords replyWords
+    number-answered scope s a =
+        record { good = subst Good (sym (a .book)) g; same = ap shows (a .book); words = worded (a .answer buffer) (a .value buffer); buffer = refl }
+
+    pub updates-answered : (scope : Scope) (s : Amounted) → AnswersAmount b (howManyUpdates scope) s →
+        Answered (shows b) (howManyUpdates scope) buffer buffer (amountedOf s)
+    unfolding does amountedOf valueWords replyWords
+    updates-answered scope s a =
+        record { good = subst Good (sym (a .book)) g; same = ap shows (a .book); words = worded (a .answer buffer) (a .value buffer); buffer = refl }
+
+    pub write-answered : (after : List ℕ) (s : Amounted) → Wrote b buffer after s → Answered (shows b) write buffer after (amountedOf s)
+    unfolding does amountedOf valueWords replyWords
+    write-answered after s a =
+        record { good = subst Good (sym (a .book)) g; same = ap shows (a .book); words = worded (a .answer) (a .value); buffer = a .buffer }

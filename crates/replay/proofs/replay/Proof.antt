@@ -1,0 +1,171 @@
+-- `replay` meets its contract: the replies to the calls that are left are owed, until none is left.
+use Prim.Native.Nat.{_+_, _-_}
+use mathlib.Core.Path.{_≡_, refl, sym, _∙_}
+use native.Mathlib.Omega.{arith}
+use borrow.Author.Needs.{needs}
+use lib.ListN.{length}
+use Rattle.book.specs.Shown.{shows}
+use Rattle.replay.proofs.Laying.{rest-is}
+use Rattle.replay.proofs.Replaying.{Going, going-none, stop, call-within, reply-within, call-ready, going-more}
+use Rattle.replay.proofs.replay.Statement.{statement}
+use Rattle.replay.proofs.replay.Tie as tie
+
+abbrev Inv-loop : tie.InvT-loop
+Inv-loop depth name script out₀ book₀ at₀ done₀ calls₀ out book at done calls = Going (shows book₀) script out₀ out book at done calls
+
+abbrev μ-loop : tie.MeasureT-loop
+μ-loop depth name script out₀ book₀ at₀ done₀ calls₀ out book at done calls = length script - at
+
+open-requires : tie.Need-open-requires Inv-loop μ-loop
+open-requires c κs = search needs
+
+loop-holds : tie.Need-loop-holds Inv-loop μ-loop
+loop-holds c = going-none (c .before .before .before .before .args .script .now) (c .before .before .before .before .args .out .now) (c .«open» .result) (c .«open» .ensures .good)
+
+sub-is-whole : tie.Need-sub-is-whole Inv-loop μ-loop
+sub-is-whole c = search needs
+
+part-is-whole-start : tie.Need-part-is-whole-start Inv-loop μ-loop
+part-is-whole-start c = search needs
+
+part-is-whole-end : tie.Need-part-is-whole-end Inv-loop μ-loop
+part-is-whole-end c = search needs
+
+sub-is-whole-2 : tie.Need-sub-is-whole-2 Inv-loop μ-loop
+sub-is-whole-2 c = search needs
+
+is-whole-requires : tie.Need-is-whole-requires Inv-loop μ-loop
+is-whole-requires c κs = search needs
+
+sub-room : tie.Need-sub-room Inv-loop μ-loop
+sub-room c = search needs
+
+sub-call-length : tie.Need-sub-call-length Inv-loop μ-loop
+sub-call-length c = search needs
+
+part-call-length-start : tie.Need-part-call-length-start Inv-loop μ-loop
+part-call-length-start c = search needs
+
+part-call-length-end : tie.Need-part-call-length-end Inv-loop μ-loop
+part-call-length-end c = search needs
+
+call-length-requires : tie.Need-call-length-requires Inv-loop μ-loop
+call-length-requires c κs = (sym (c .before .before .is-whole .ensures) ∙ c .before .if1 .taken)
+
+add-next : tie.Need-add-next Inv-loop μ-loop
+add-next c = let h = call-within (c .before .before .before .before .before .loop .inv) (rw (rest-is (c .before .before .before .before .before .before .before .before .before .before .args .script .now) (c .before .before .before .before .before .loop .at)) at (sym (c .before .before .before .is-whole .ensures) ∙ c .before .before .if1 .taken)) (rw (rest-is (c .before .before .before .before .before .before .before .before .before .before .args .script .now) (c .before .before .before .before .before .loop .at)) at (c .call-length .ensures)) refl in omega arith
+
+sub-reply-length : tie.Need-sub-reply-length Inv-loop μ-loop
+sub-reply-length c = search needs
+
+part-reply-length-start : tie.Need-part-reply-length-start Inv-loop μ-loop
+part-reply-length-start c = search needs
+
+part-reply-length-end : tie.Need-part-reply-length-end Inv-loop μ-loop
+part-reply-length-end c = search needs
+
+reply-length-requires : tie.Need-reply-length-requires Inv-loop μ-loop
+reply-length-requires c κs = (sym (c .before .before .before .before .is-whole .ensures) ∙ c .before .before .before .if1 .taken)
+
+add-end : tie.Need-add-end Inv-loop μ-loop
+add-end c =
+    let h = call-within (c .before .before .before .before .before .before .before .loop .inv) (rw (rest-is (c .before .before .before .before .before .before .before .before .before .before .before .before .args .script .now) (c .before .before .before .before .before .before .before .loop .at)) at (sym (c .before .before .before .before .before .is-whole .ensures) ∙ c .before .before .before .before .if1 .taken)) (rw (rest-is (c .before .before .before .before .before .before .before .before .before .before .before .before .args .script .now) (c .before .before .before .before .before .before .before .loop .at)) at (c .before .before .call-length .ensures)) (rw (rest-is (c .before .before .before .before .before .before .before .before .before .before .before .before .args .script .now) (c .before .before .before .before .before .before .before .loop .at)) at (c .reply-length .ensures)) in
+    let k = reply-within (c .before .before .before .before .before .before .before .loop .inv) (rw (rest-is (c .before .before .before .before .before .before .before .before .before .before .before .before .args .script .now) (c .before .before .before .before .before .before .before .loop .at)) at (sym (c .before .before .before .before .before .is-whole .ensures) ∙ c .before .before .before .before .if1 .taken)) (rw (rest-is (c .before .before .before .before .before .before .before .before .before .before .before .before .args .script .now) (c .before .before .before .before .before .before .before .loop .at)) at (c .before .before .call-length .ensures)) (rw (rest-is (c .before .before .before .before .before .before .before .before .before .before .before .before .args .script .now) (c .before .before .before .before .before .before .before .loop .at)) at (c .reply-length .ensures)) in
+    omega arith
+
+sub-call : tie.Need-sub-call Inv-loop μ-loop
+sub-call c =
+    let h = call-within (c .before .before .before .before .before .before .before .loop .inv) (rw (rest-is (c .before .before .before .before .before .before .before .before .before .before .before .before .args .script .now) (c .before .before .before .before .before .before .before .loop .at)) at (sym (c .before .before .before .before .before .is-whole .ensures) ∙ c .before .before .before .before .if1 .taken)) (rw (rest-is (c .before .before .before .before .before .before .before .before .before .before .before .before .args .script .now) (c .before .before .before .before .before .before .before .loop .at)) at (c .before .before .call-length .ensures)) (rw (rest-is (c .before .before .before .before .before .before .before .before .before .before .before .before .args .script .now) (c .before .before .before .before .before .before .before .loop .at)) at (c .reply-length .ensures)) in
+    let k = reply-within (c .before .before .before .before .before .before .before .loop .inv) (rw (rest-is (c .before .before .before .before .before .before .before .before .before .before .before .before .args .script .now) (c .before .before .before .before .before .before .before .loop .at)) at (sym (c .before .before .before .before .before .is-whole .ensures) ∙ c .before .before .before .before .if1 .taken)) (rw (rest-is (c .before .before .before .before .before .before .before .before .before .before .before .before .args .script .now) (c .before .before .before .before .before .before .before .loop .at)) at (c .before .before .call-length .ensures)) (rw (rest-is (c .before .before .before .before .before .before .before .before .before .before .before .before .args .script .now) (c .before .before .before .before .before .before .before .loop .at)) at (c .reply-length .ensures)) in
+    omega arith
+
+part-call-start : tie.Need-part-call-start Inv-loop μ-loop
+part-call-start c =
+    let h = call-within (c .before .before .before .before .before .before .before .loop .inv) (rw (rest-is (c .before .before .before .before .before .before .before .before .before .before .before .before .args .script .now) (c .before .before .before .before .before .before .before .loop .at)) at (sym (c .before .before .before .before .before .is-whole .ensures) ∙ c .before .before .before .before .if1 .taken)) (rw (rest-is (c .before .before .before .before .before .before .before .before .before .before .before .before .args .script .now) (c .before .before .before .before .before .before .before .loop .at)) at (c .before .before .call-length .ensures)) (rw (rest-is (c .before .before .before .before .before .before .before .before .before .before .before .before .args .script .now) (c .before .before .before .before .before .before .before .loop .at)) at (c .reply-length .ensures)) in
+    let k = reply-within (c .before .before .before .before .before .before .before .loop .inv) (rw (rest-is (c .before .before .before .before .before .before .before .before .before .before .before .before .args .script .now) (c .before .before .before .before .before .before .before .loop .at)) at (sym (c .before .before .before .before .before .is-whole .ensures) ∙ c .before .before .before .before .if1 .taken)) (rw (rest-is (c .before .before .before .before .before .before .before .before .before .before .before .before .args .script .now) (c .before .before .before .before .before .before .before .loop .at)) at (c .before .before .call-length .ensures)) (rw (rest-is (c .before .before .before .before .before .before .before .before .before .before .before .before .args .script .now) (c .before .before .before .before .before .before .before .loop .at)) at (c .reply-length .ensures)) in
+    omega arith
+
+part-call-end : tie.Need-part-call-end Inv-loop μ-loop
+part-call-end c =
+    let h = call-within (c .before .before .before .before .before .before .before .loop .inv) (rw (rest-is (c .before .before .before .before .before .before .before .before .before .before .before .before .args .script .now) (c .before .before .before .before .before .before .before .loop .at)) at (sym (c .before .before .before .before .before .is-whole .ensures) ∙ c .before .before .before .before .if1 .taken)) (rw (rest-is (c .before .before .before .before .before .before .before .before .before .before .before .before .args .script .now) (c .before .before .before .before .before .before .before .loop .at)) at (c .before .before .call-length .ensures)) (rw (rest-is (c .before .before .before .before .before .before .before .before .before .before .before .before .args .script .now) (c .before .before .before .before .before .before .before .loop .at)) at (c .reply-length .ensures)) in
+    let k = reply-within (c .before .before .before .before .before .before .before .loop .inv) (rw (rest-is (c .before .before .before .before .before .before .before .before .before .before .before .before .args .script .now) (c .before .before .before .before .before .before .before .loop .at)) at (sym (c .before .before .before .before .before .is-whole .ensures) ∙ c .before .before .before .before .if1 .taken)) (rw (rest-is (c .before .before .before .before .before .before .before .before .before .before .before .before .args .script .now) (c .before .before .before .before .before .before .before .loop .at)) at (c .before .before .call-length .ensures)) (rw (rest-is (c .before .before .before .before .before .before .before .before .before .before .before .before .args .script .now) (c .before .before .before .before .before .before .before .loop .at)) at (c .reply-length .ensures)) in
+    omega arith
+
+sub-call-2 : tie.Need-sub-call-2 Inv-loop μ-loop
+sub-call-2 c =
+    let h = call-within (c .before .before .before .before .before .before .before .before .loop .inv) (rw (rest-is (c .before .before .before .before .before .before .before .before .before .before .before .before .before .args .script .now) (c .before .before .before .before .before .before .before .before .loop .at)) at (sym (c .before .before .before .before .before .before .is-whole .ensures) ∙ c .before .before .before .before .before .if1 .taken)) (rw (rest-is (c .before .before .before .before .before .before .before .before .before .before .before .before .before .args .script .now) (c .before .before .before .before .before .before .before .before .loop .at)) at (c .before .before .before .call-length .ensures)) (rw (rest-is (c .before .before .before .before .before .before .before .before .before .before .before .before .before .args .script .now) (c .before .before .before .before .before .before .before .before .loop .at)) at (c .before .reply-length .ensures)) in
+    let k = reply-within (c .before .before .before .before .before .before .before .before .loop .inv) (rw (rest-is (c .before .before .before .before .before .before .before .before .before .before .before .before .before .args .script .now) (c .before .before .before .before .before .before .before .before .loop .at)) at (sym (c .before .before .before .before .before .before .is-whole .ensures) ∙ c .before .before .before .before .before .if1 .taken)) (rw (rest-is (c .before .before .before .before .before .before .before .before .before .before .before .before .before .args .script .now) (c .before .before .before .before .before .before .before .before .loop .at)) at (c .before .before .before .call-length .ensures)) (rw (rest-is (c .before .before .before .before .before .before .before .before .before .before .before .before .before .args .script .now) (c .before .before .before .before .before .before .before .before .loop .at)) at (c .before .reply-length .ensures)) in
+    omega arith
+
+part-call-start-2 : tie.Need-part-call-start-2 Inv-loop μ-loop
+part-call-start-2 c =
+    let h = call-within (c .before .before .before .before .before .before .before .before .loop .inv) (rw (rest-is (c .before .before .before .before .before .before .before .before .before .before .before .before .before .args .script .now) (c .before .before .before .before .before .before .before .before .loop .at)) at (sym (c .before .before .before .before .before .before .is-whole .ensures) ∙ c .before .before .before .before .before .if1 .taken)) (rw (rest-is (c .before .before .before .before .before .before .before .before .before .before .before .before .before .args .script .now) (c .before .before .before .before .before .before .before .before .loop .at)) at (c .before .before .before .call-length .ensures)) (rw (rest-is (c .before .before .before .before .before .before .before .before .before .before .before .before .before .args .script .now) (c .before .before .before .before .before .before .before .before .loop .at)) at (c .before .reply-length .ensures)) in
+    let k = reply-within (c .before .before .before .before .before .before .before .before .loop .inv) (rw (rest-is (c .before .before .before .before .before .before .before .before .before .before .before .before .before .args .script .now) (c .before .before .before .before .before .before .before .before .loop .at)) at (sym (c .before .before .before .before .before .before .is-whole .ensures) ∙ c .before .before .before .before .before .if1 .taken)) (rw (rest-is (c .before .before .before .before .before .before .before .before .before .before .before .before .before .args .script .now) (c .before .before .before .before .before .before .before .before .loop .at)) at (c .before .before .before .call-length .ensures)) (rw (rest-is (c .before .before .before .before .before .before .before .before .before .before .before .before .before .args .script .now) (c .before .before .before .before .before .before .before .before .loop .at)) at (c .before .reply-length .ensures)) in
+    omega arith
+
+part-call-end-2 : tie.Need-part-call-end-2 Inv-loop μ-loop
+part-call-end-2 c =
+    let h = call-within (c .before .before .before .before .before .before .before .before .loop .inv) (rw (rest-is (c .before .before .before .before .before .before .before .before .before .before .before .before .before .args .script .now) (c .before .before .before .before .before .before .before .before .loop .at)) at (sym (c .before .before .before .before .before .before .is-whole .ensures) ∙ c .before .before .before .before .before .if1 .taken)) (rw (rest-is (c .before .before .before .before .before .before .before .before .before .before .before .before .before .args .script .now) (c .before .before .before .before .before .before .before .before .loop .at)) at (c .before .before .before .call-length .ensures)) (rw (rest-is (c .before .before .before .before .before .before .before .before .before .before .before .before .before .args .script .now) (c .before .before .before .before .before .before .before .before .loop .at)) at (c .before .reply-length .ensures)) in
+    let k = reply-within (c .before .before .before .before .before .before .before .before .loop .inv) (rw (rest-is (c .before .before .before .before .before .before .before .before .before .before .before .before .before .args .script .now) (c .before .before .before .before .before .before .before .before .loop .at)) at (sym (c .before .before .before .before .before .before .is-whole .ensures) ∙ c .before .before .before .before .before .if1 .taken)) (rw (rest-is (c .before .before .before .before .before .before .before .before .before .before .before .before .before .args .script .now) (c .before .before .before .before .before .before .before .before .loop .at)) at (c .before .before .before .call-length .ensures)) (rw (rest-is (c .before .before .before .before .before .before .before .before .before .before .before .before .before .args .script .now) (c .before .before .before .before .before .before .before .before .loop .at)) at (c .before .reply-length .ensures)) in
+    omega arith
+
+call-requires : tie.Need-call-requires Inv-loop μ-loop
+call-requires c κs = call-ready (c .before .before .before .before .before .before .before .before .before .loop .inv) (rw (rest-is (c .before .before .before .before .before .before .before .before .before .before .before .before .before .before .args .script .now) (c .before .before .before .before .before .before .before .before .before .loop .at)) at (sym (c .before .before .before .before .before .before .before .is-whole .ensures) ∙ c .before .before .before .before .before .before .if1 .taken)) (rw (rest-is (c .before .before .before .before .before .before .before .before .before .before .before .before .before .before .args .script .now) (c .before .before .before .before .before .before .before .before .before .loop .at)) at (c .before .before .before .before .call-length .ensures)) (rw (rest-is (c .before .before .before .before .before .before .before .before .before .before .before .before .before .before .args .script .now) (c .before .before .before .before .before .before .before .before .before .loop .at)) at (c .before .before .reply-length .ensures))
+
+add-calls : tie.Need-add-calls Inv-loop μ-loop
+add-calls c =
+    let h = call-within (c .before .before .before .before .before .before .before .before .before .before .before .before .loop .inv) (rw (rest-is (c .before .before .before .before .before .before .before .before .before .before .before .before .before .before .before .before .before .args .script .now) (c .before .before .before .before .before .before .before .before .before .before .before .before .loop .at)) at (sym (c .before .before .before .before .before .before .before .before .before .before .is-whole .ensures) ∙ c .before .before .before .before .before .before .before .before .before .if1 .taken)) (rw (rest-is (c .before .before .before .before .before .before .before .before .before .before .before .before .before .before .before .before .before .args .script .now) (c .before .before .before .before .before .before .before .before .before .before .before .before .loop .at)) at (c .before .before .before .before .before .before .before .call-length .ensures)) (rw (rest-is (c .before .before .before .before .before .before .before .before .before .before .before .before .before .before .before .before .before .args .script .now) (c .before .before .before .before .before .before .before .before .before .before .before .before .loop .at)) at (c .before .before .before .before .before .reply-length .ensures)) in
+    let k = reply-within (c .before .before .before .before .before .before .before .before .before .before .before .before .loop .inv) (rw (rest-is (c .before .before .before .before .before .before .before .before .before .before .before .before .before .before .before .before .before .args .script .now) (c .before .before .before .before .before .before .before .before .before .before .before .before .loop .at)) at (sym (c .before .before .before .before .before .before .before .before .before .before .is-whole .ensures) ∙ c .before .before .before .before .before .before .before .before .before .if1 .taken)) (rw (rest-is (c .before .before .before .before .before .before .before .before .before .before .before .before .before .before .before .before .before .args .script .now) (c .before .before .before .before .before .before .before .before .before .before .before .before .loop .at)) at (c .before .before .before .before .before .before .before .call-length .ensures)) (rw (rest-is (c .before .before .before .before .before .before .before .before .before .before .before .before .before .before .before .before .before .args .script .now) (c .before .before .before .before .before .before .before .before .before .before .before .before .loop .at)) at (c .before .before .before .before .before .reply-length .ensures)) in
+    omega (arith, c .before .before .before .before .before .before .before .before .before .before .before .before .before .before .before .before .before .good .1 .1 .1 .0)
+
+loop-less : tie.Need-loop-less Inv-loop μ-loop
+loop-less c =
+    let h = call-within (c .before .before .before .before .before .before .before .before .before .before .before .before .loop .inv) (rw (rest-is (c .before .before .before .before .before .before .before .before .before .before .before .before .before .before .before .before .before .args .script .now) (c .before .before .before .before .before .before .before .before .before .before .before .before .loop .at)) at (sym (c .before .before .before .before .before .before .before .before .before .before .is-whole .ensures) ∙ c .before .before .before .before .before .before .before .before .before .if1 .taken)) (rw (rest-is (c .before .before .before .before .before .before .before .before .before .before .before .before .before .before .before .before .before .args .script .now) (c .before .before .before .before .before .before .before .before .before .before .before .before .loop .at)) at (c .before .before .before .before .before .before .before .call-length .ensures)) (rw (rest-is (c .before .before .before .before .before .before .before .before .before .before .before .before .before .before .before .before .before .args .script .now) (c .before .before .before .before .before .before .before .before .before .before .before .before .loop .at)) at (c .before .before .before .before .before .reply-length .ensures)) in
+    let k = reply-within (c .before .before .before .before .before .before .before .before .before .before .before .before .loop .inv) (rw (rest-is (c .before .before .before .before .before .before .before .before .before .before .before .before .before .before .before .before .before .args .script .now) (c .before .before .before .before .before .before .before .before .before .before .before .before .loop .at)) at (sym (c .before .before .before .before .before .before .before .before .before .before .is-whole .ensures) ∙ c .before .before .before .before .before .before .before .before .before .if1 .taken)) (rw (rest-is (c .before .before .before .before .before .before .before .before .before .before .before .before .before .before .before .before .before .args .script .now) (c .before .before .before .before .before .before .before .before .before .before .before .before .loop .at)) at (c .before .before .before .before .before .before .before .call-length .ensures)) (rw (rest-is (c .before .before .before .before .before .before .before .before .before .before .before .before .before .before .before .before .before .args .script .now) (c .before .before .before .before .before .before .before .before .before .before .before .before .loop .at)) at (c .before .before .before .before .before .reply-length .ensures)) in
+    omega arith
+
+loop-again : tie.Need-loop-again Inv-loop μ-loop
+loop-again c = going-more (c .before .before .before .before .before .before .before .before .before .before .before .before .loop .inv) (rw (rest-is (c .before .before .before .before .before .before .before .before .before .before .before .before .before .before .before .before .before .args .script .now) (c .before .before .before .before .before .before .before .before .before .before .before .before .loop .at)) at (sym (c .before .before .before .before .before .before .before .before .before .before .is-whole .ensures) ∙ c .before .before .before .before .before .before .before .before .before .if1 .taken)) (rw (rest-is (c .before .before .before .before .before .before .before .before .before .before .before .before .before .before .before .before .before .args .script .now) (c .before .before .before .before .before .before .before .before .before .before .before .before .loop .at)) at (c .before .before .before .before .before .before .before .call-length .ensures)) (rw (rest-is (c .before .before .before .before .before .before .before .before .before .before .before .before .before .before .before .before .before .args .script .now) (c .before .before .before .before .before .before .before .before .before .before .before .before .loop .at)) at (c .before .before .before .before .before .reply-length .ensures)) (c .before .before .call .result) (c .before .before .call .last .1 .1 .0) (c .before .before .call .kept .1 .1 .0) (c .before .before .call .ensures)
+
+same-length : tie.Need-same-length Inv-loop μ-loop
+same-length c = search needs
+
+returns : tie.Need-returns Inv-loop μ-loop
+returns c = stop (c .before .before .before .loop .inv) _ (c .before .before .before .before .«open» .ensures .same) (rw (rest-is (c .before .before .before .before .before .before .before .before .args .script .now) (c .before .before .before .loop .at)) at (sym (c .before .is-whole .ensures) ∙ c .if1 .left))
+
+pub replay-spec : {M : Type 1} → statement M
+replay-spec =
+    tie.close
+    (tie.spec
+    Inv-loop
+    μ-loop
+    open-requires
+    loop-holds
+    sub-is-whole
+    part-is-whole-start
+    part-is-whole-end
+    sub-is-whole-2
+    is-whole-requires
+    sub-room
+    sub-call-length
+    part-call-length-start
+    part-call-length-end
+    call-length-requires
+    add-next
+    sub-reply-length
+    part-reply-length-start
+    part-reply-length-end
+    reply-length-requires
+    add-end
+    sub-call
+    part-call-start
+    part-call-end
+    sub-call-2
+    part-call-start-2
+    part-call-end-2
+    call-requires
+    add-calls
+    loop-less
+    loop-again
+    same-length
+    returns)

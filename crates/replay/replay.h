@@ -1,0 +1,26 @@
+/* A script of calls run on one order book. docs/REPLAY.md describes the script and the replies.
+ *
+ * dialect: 'K' or 'M'; anything else, and any other bad setting, opens a shut book.
+ * out: the replies are laid into it; its bytes are lent to the calls as their buffers.
+ * Answers how many calls were made. No pointer may be null, also where its length is 0; `out` overlaps nothing else.
+ */
+#ifndef HUURQAN_REPLAY_H
+#define HUURQAN_REPLAY_H
+
+#include <stddef.h>
+#include <stdint.h>
+
+#ifdef __cplusplus
+extern "C" {
+#endif
+
+size_t huurqan_replay(uint8_t dialect, size_t depth,
+                      const uint8_t *name, size_t name_length,
+                      const uint8_t *script, size_t script_length,
+                      uint8_t *out, size_t out_length);
+
+#ifdef __cplusplus
+}
+#endif
+
+#endif

@@ -1,0 +1,120 @@
+-- What is claimed of scripts, as statements; `proofs/Claims` proves each under its own name. The contract of `replay` is about the list of calls that
+-- a script stands for: these say that no list of calls is left out. Assumes nothing: these are definitions.
+use Prim.Native.Nat.{ℕ, _<_, _^_}
+use mathlib.Core.Path.{_≡_}
+use mathlib.Core.Bool.{true}
+use mathlib.Core.List.{List, [], _∷_, _++_}
+use lib.ListN.{length}
+use Rattle.crc32_spec.specs.Text.{Bytes}
+use Rattle.settings.specs.Settings.{Terms, kept}
+use Rattle.side.specs.Side.{All}
+use Rattle.side.specs.declared.Side.{Side}
+use Rattle.side.specs.declared.Side.the-variants.{Bids, Asks}
+use Rattle.message.specs.Meaning.{Message, says, said}
+use Rattle.message.specs.declared.Answer.the-variants.{Taken}
+use Rattle.book.specs.declared.Scope.{Scope}
+use Rattle.book.specs.declared.Scope.the-variants.{Current, LastGood}
+use Rattle.book.specs.Reference.{Ask, message, howMany, levelAt, whichNumber, howManyUpdates, write, Call, opened, hear, run, final}
+use Rattle.book.specs.Claims.{call}
+use Rattle.replay.specs.Format.{wordsOf, script, laidIn}
+use Rattle.replay.specs.Calls.{Replayed}
+
+-- ---- a list of calls as a script
+
+unfoldable pub opcodeOf : Ask → ℕ
+opcodeOf (message s) = 0
+opcodeOf (howMany scope) = 1
+opcodeOf (levelAt scope side i) = 2
+opcodeOf (whichNumber scope) = 3
+opcodeOf (howManyUpdates scope) = 4
+opcodeOf write = 5
+
+unfoldable pub scopeNumber : Scope → ℕ
+scopeNumber Current = 0
+scopeNumber LastGood = 1
+
+unfoldable pub sideNumber : Side → ℕ
+sideNumber Bids = 0
+sideNumber Asks = 1
+
+-- What a call does not use is 0.
+unfoldable pub scopeIn : Ask → ℕ
+scopeIn (message s) = 0
+scopeIn (howMany scope) = scopeNumber scope
+scopeIn (levelAt scope side i) = scopeNumber scope
+scopeIn (whichNumber scope) = scopeNumber scope
+scopeIn (howManyUpdates scope) = scopeNumber scope
+scopeIn write = 0
+
+unfoldable pub sideIn : Ask → ℕ
+sideIn (message s) = 0
+sideIn (howMany scope) = 0
+sideIn (levelAt scope side i) = sideNumber side
+sideIn (whichNumber scope) = 0
+sideIn (howManyUpdates scope) = 0
+sideIn write = 0
+
+unfoldable pub indexIn : Ask → ℕ
+indexIn (message s) = 0
+indexIn (howMany scope) = 0
+indexIn (levelAt scope side i) = i
+indexIn (whichNumber scope) = 0
+indexIn (howManyUpdates scope) = 0
+indexIn write = 0
+
+unfoldable pub messageIn : Ask → List ℕ
+messageIn (message s) = s
+messageIn (howMany scope) = []
+messageIn (levelAt scope side i) = []
+messageIn (whichNumber scope) = []
+messageIn (howManyUpdates scope) = []
+messageIn write = []
+
+unfoldable pub headerWords : Call → List ℕ
+headerWords c =
+    opcodeOf (c .ask) ∷ scopeIn (c .ask) ∷ sideIn (c .ask) ∷ indexIn (c .ask) ∷ length (c .buffer) ∷ length (messageIn (c .ask)) ∷ []
+
+unfoldable pub scriptOf : List Call → List ℕ
+scriptOf [] = []
+scriptOf (c ∷ cs) = wordsOf (headerWords c) ++ (messageIn (c .ask) ++ scriptOf cs)
+
+-- `out` for that script: zeros where the words of a reply go, and the buffers as they are lent.
+unfoldable pub outOf : List Call → List ℕ
+outOf [] = []
+outOf (c ∷ cs) = wordsOf (0 ∷ 0 ∷ 0 ∷ 0 ∷ 0 ∷ []) ++ (c .buffer ++ outOf cs)
+
+-- What a word holds: no message, buffer or index that the code can be given is larger.
+pub record Holds (c : Call) : Type 0 where
+  pub message : length (messageIn (c .ask)) < 2 ^ 64
+  pub buffer : length (c .buffer) < 2 ^ 64
+  pub index : indexIn (c .ask) < 2 ^ 64
+
+-- Each list of calls is some script's.
+abbrev pub Every-list : Type 0
+Every-list = (cs : List Call) → All Holds cs → script (scriptOf cs) (outOf cs) ≡ cs
+
+-- A script of bytes, where the messages and the lent buffers are.
+pub record Plain (c : Call) : Type 0 where
+  pub message : Bytes (messageIn (c .ask))
+  pub buffer : Bytes (c .buffer)
+
+abbrev pub Every-script : Type 0
+Every-script = (cs : List Call) → All Plain cs → Bytes (scriptOf cs) × Bytes (outOf cs)
+
+-- ---- what `replay` ensures for a list of calls
+
+pub record Listed (t : Terms) (cs : List Call) (after : List ℕ) (calls : ℕ) : Type 0 where
+  pub out : after ≡ laidIn (run (opened t) cs) (outOf cs)
+  pub count : calls ≡ length cs
+
+abbrev pub Replayed-list : Type 0
+Replayed-list = (t : Terms) (cs : List Call) (after : List ℕ) (calls : ℕ) → All Holds cs → Replayed t (scriptOf cs) (outOf cs) after calls →
+    Listed t cs after calls
+
+-- From a taken snapshot on, the replies are those of a book that was opened just before it.
+abbrev pub Replayed-snapshot : Type 0
+Replayed-snapshot = (t : Terms) (cs ds : List Call) (s buffer : List ℕ) (m : Message) (after : List ℕ) (calls : ℕ) →
+    All Holds (cs ++ (call (message s) buffer ∷ ds)) → said (kept t) s ≡ says m → m .snapshot ≡ true → hear (final (opened t) cs) s .answer ≡ Taken →
+    Replayed t (scriptOf (cs ++ (call (message s) buffer ∷ ds))) (outOf (cs ++ (call (message s) buffer ∷ ds))) after calls →
+    after ≡
+    laidIn (run (opened t) cs ++ run (opened t) (call (message s) buffer ∷ ds)) (outOf (cs ++ (call (message s) buffer ∷ ds)))

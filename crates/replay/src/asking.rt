@@ -1,0 +1,177 @@
+// One call of a script: made on the book by its method, and its answer as the words of a reply.
+use book::Amounted;
+use book::Book;
+use book::Counted;
+use book::Levelled;
+use book::Scope;
+use book::Step;
+use crate::words::HEADER;
+use crate::words::INDEX;
+use crate::words::OPCODE;
+use crate::words::SCOPE;
+use crate::words::SIDE;
+use crate::words::lay_word;
+use crate::words::word_at;
+use message::Answer;
+use side::Side;
+ghost use mathlib.Core.Path.{_≡_};
+ghost use Prim.Native.Nat.{_≤_};
+ghost use lib.ListN.{length};
+ghost use Rattle.message.specs.Answers.{number};
+ghost use Rattle.writer.specs.Parts.{Put};
+ghost use Rattle.book.specs.Shown.{shows, Good};
+ghost use Rattle.replay.specs.Format.{askOf, scopeOf, sideOf, wordsLength, wordsOf};
+ghost use Rattle.replay.specs.Calls.{HasHeader, Answered, wordsIn, toldOf, countedOf, levelledOf, amountedOf};
+
+// The words of a reply, and the book after the call.
+pub struct Replied {
+    pub book: Book,
+    pub answer: u64,
+    pub first: u64,
+    pub second: u64,
+    pub third: u64,
+    pub fourth: u64,
+}
+
+// Makes the call that a header asks for.
+pub fn answer(book: Book, call: &[u8], buffer: &mut [u8]) -> Replied
+    requires { ⌜ (Good book) × (HasHeader (now call)) ⌝ }
+    ensures { λ r. ⌜ Answered (shows book) (askOf (now (call .entry))) (now (buffer .entry)) (now (buffer .exit)) r ⌝ }
+{
+    let opcode = word_at(call, OPCODE);
+    if opcode == 0 {
+        return told(book.take(&call[HEADER..]));
+    }
+    let scope = scope_of(word_at(call, SCOPE));
+    if opcode == 1 {
+        return counted(book.counts(scope));
+    }
+    if opcode == 2 {
+        let side = side_of(word_at(call, SIDE));
+        let i = word_at(call, INDEX) as usize;
+        return levelled(book.level(scope, side, i));
+    }
+    if opcode == 3 {
+        return amounted(book.number(scope));
+    }
+    if opcode == 4 {
+        return amounted(book.updates(scope));
+    }
+    amounted(book.write(buffer))
+}
+
+// Lays the words of a reply, and answers the position past them.
+pub fn lay_reply(reply: Replied, part: &mut [u8]) -> usize
+    requires { ⌜ wordsLength ≤ length (now part) ⌝ }
+    ensures { λ r. ⌜ Put (now (part .entry)) 0 (wordsOf (wordsIn reply)) (now (part .exit)) r ⌝ }
+{
+    let mut end = lay_word(reply.answer, part, 0);
+    end = lay_word(reply.first, part, end);
+    end = lay_word(reply.second, part, end);
+    end = lay_word(reply.third, part, end);
+    lay_word(reply.fourth, part, end)
+}
+
+fn scope_of(n: u64) -> Scope
+    ensures { λ r. ⌜ r ≡ scopeOf n ⌝ }
+{
+    if n == 0 {
+        return Scope::Current;
+    }
+    Scope::LastGood
+}
+
+fn side_of(n: u64) -> Side
+    ensures { λ r. ⌜ r ≡ sideOf n ⌝ }
+{
+    if n == 0 {
+        return Side::Bids;
+    }
+    Side::Asks
+}
+
+fn told(step: Step) -> Replied
+    ensures { λ r. ⌜ r ≡ toldOf step ⌝ }
+{
+    let book = step.book;
+    let answer = step.answer;
+    Replied {
+        book,
+        answer: number_of(answer),
+        first: 0,
+        second: 0,
+        third: 0,
+        fourth: 0,
+    }
+}
+
+fn counted(counts: Counted) -> Replied
+    ensures { λ r. ⌜ r ≡ countedOf counts ⌝ }
+{
+    let book = counts.book;
+    let answer = counts.answer;
+    Replied {
+        book,
+        answer: number_of(answer),
+        first: counts.bids as u64,
+        second: counts.asks as u64,
+        third: 0,
+        fourth: 0,
+    }
+}
+
+fn levelled(level: Levelled) -> Replied
+    ensures { λ r. ⌜ r ≡ levelledOf level ⌝ }
+{
+    let book = level.book;
+    let answer = level.answer;
+    let price = level.price;
+    let size = level.size;
+    Replied {
+        book,
+        answer: number_of(answer),
+        first: price.digits,
+        second: price.decimals,
+        third: size.digits,
+        fourth: size.decimals,
+    }
+}
+
+fn amounted(amount: Amounted) -> Replied
+    ensures { λ r. ⌜ r ≡ amountedOf amount ⌝ }
+{
+    let book = amount.book;
+    let answer = amount.answer;
+    Replied {
+        book,
+        answer: number_of(answer),
+        first: amount.amount,
+        second: 0,
+        third: 0,
+        fourth: 0,
+    }
+}
+
+// An answer's number.
+fn number_of(answer: Answer) -> u64
+    ensures { λ r. ⌜ r ≡ number answer ⌝ }
+{
+    match answer {
+        Answer::Taken => 0,
+        Answer::Shut => 1,
+        Answer::TooLong => 2,
+        Answer::NotJson => 3,
+        Answer::Escaped => 4,
+        Answer::NotOurs => 5,
+        Answer::BadLayout => 6,
+        Answer::TooManyEntries => 7,
+        Answer::BadDecimal => 8,
+        Answer::PriceTwice => 9,
+        Answer::NoSnapshot => 10,
+        Answer::OldNumber => 11,
+        Answer::TooManyLevels => 12,
+        Answer::WrongChecksum => 13,
+        Answer::NoLevel => 14,
+        Answer::NoRoom => 15,
+    }
+}

@@ -35,7 +35,8 @@ pub fn replay(dialect: Dialect, depth: usize, name: &[u8], script: &[u8], out: &
         let room = out.len() - done;
         let next = at + call_length(&script[at..], room);
         let end = done + reply_length(&script[at..], room);
-        let after = call(book, &script[at..next], &mut out[done..end]);
+        let before = book;
+        let after = call(before, &script[at..next], &mut out[done..end]);
         book = after;
         at = next;
         done = end;

@@ -275,9 +275,8 @@ pub every-script : Every-script
 unfolding scriptOf outOf All
 every-script [] h = (bytes-none, bytes-none)
 every-script (c ∷ cs) h =
-    let r = every-script cs (h .1) in
-    (
+    let r = every-script cs (h .1) in (
       bytes-append (wordsOf (headerWords c)) (messageIn (c .ask) ++ scriptOf cs) (bytes-words (headerWords c))
-      (bytes-append (messageIn (c .ask)) (scriptOf cs) (h .0 .message) (r .0)),
+          (bytes-append (messageIn (c .ask)) (scriptOf cs) (h .0 .message) (r .0)),
       bytes-append zeroWords (c .buffer ++ outOf cs) (bytes-words (0 ∷ 0 ∷ 0 ∷ 0 ∷ 0 ∷ [])) (bytes-append (c .buffer) (outOf cs) (h .0 .buffer) (r .1)),
     )

@@ -1,10 +1,4 @@
 // One call of a script: made on the book by its method, and its answer as the words of a reply.
-use book::Amounted;
-use book::Book;
-use book::Counted;
-use book::Levelled;
-use book::Scope;
-use book::Step;
 use crate::words::HEADER;
 use crate::words::INDEX;
 use crate::words::OPCODE;
@@ -12,6 +6,12 @@ use crate::words::SCOPE;
 use crate::words::SIDE;
 use crate::words::lay_word;
 use crate::words::word_at;
+use book::Amounted;
+use book::Book;
+use book::Counted;
+use book::Levelled;
+use book::Scope;
+use book::Step;
 use message::Answer;
 use side::Side;
 ghost use mathlib.Core.Path.{_≡_};

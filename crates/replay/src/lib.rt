@@ -57,7 +57,13 @@ fn call(book: Book, call: &[u8], part: &mut [u8]) -> Book
 
 // The same for C and Rust. The dialect is its letter, K or M.
 #[no_mangle]
-pub extern "C" fn huurqan_replay(dialect: u8, depth: usize, name: &[u8], script: &[u8], out: &mut [u8]) -> usize
+pub extern "C" fn huurqan_replay(
+    dialect: u8,
+    depth: usize,
+    name: &[u8],
+    script: &[u8],
+    out: &mut [u8],
+) -> usize
     ensures { λ r. ⌜ Replayed (record { dialect = dialectOf dialect; depth = depth; name = now (name .entry) }) (now (script .entry)) (now (out .entry)) (now (out .exit)) r ⌝ }
 {
     replay(dialect_of(dialect), depth, name, script, out)

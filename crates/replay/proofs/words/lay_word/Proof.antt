@@ -41,12 +41,11 @@ loop-less : tie.Need-loop-less Inv-loop μ-loop
 loop-less c = omega arith
 
 loop-again : tie.Need-loop-again Inv-loop μ-loop
-loop-again c =
-    (
-      owed-byte (rw (next-byte (c .before .loop .i) (c .before .loop .left) (omega arith)) at (c .before .loop .inv .0)),
-      omega arith,
-      length-set (c .before .loop .part) (c .before .loop .end) (c .before .loop .left % 256) ∙ c .before .loop .inv .2,
-    )
+loop-again c = (
+  owed-byte (rw (next-byte (c .before .loop .i) (c .before .loop .left) (omega arith)) at (c .before .loop .inv .0)),
+  omega arith,
+  length-set (c .before .loop .part) (c .before .loop .end) (c .before .loop .left % 256) ∙ c .before .loop .inv .2,
+)
 
 same-length : tie.Need-same-length Inv-loop μ-loop
 same-length c = c .before .loop .inv .2

@@ -3,7 +3,7 @@
 use second_opinion::book::{Book, Scope, State};
 use second_opinion::message::{first_bad, Side};
 use second_opinion::settings::{Dialect, Settings};
-use second_opinion::{line, lines};
+use second_opinion::lines::{line, lines};
 
 const EXAMPLE: &str = r#"M 100 BTC-VND
 {"channel":"book","product":"BTC-VND","type":"snapshot","data":{"bids":[["9","2"]],"asks":[["10","1"]]},"checksum":1226559413,"gsn":7}

@@ -1,0 +1,99 @@
+//! `second-opinion --seed N --calls N [--booklines PATH]`: hands generated
+//! sessions to both books. Exit status 1 if anything differs.
+
+use second_opinion::book::Book;
+use second_opinion::lines;
+use second_opinion::random::Random;
+use second_opinion::session::{session, Call, Purpose, Session};
+use second_opinion::settings::Settings;
+use second_opinion::tally::Tally;
+use std::path::PathBuf;
+use std::process::ExitCode;
+
+struct Options {
+    seed: u64,
+    calls: usize,
+    booklines: Option<PathBuf>,
+}
+
+const USAGE: &str = "usage: second-opinion [--seed N] [--calls N] [--booklines PATH]";
+
+fn options() -> Result<Options, String> {
+    let mut options = Options { seed: 1, calls: 100_000, booklines: None };
+    let mut words = std::env::args().skip(1);
+    while let Some(word) = words.next() {
+        let value = words.next().ok_or(USAGE)?;
+        let number = || value.parse::<u64>().map_err(|_| USAGE);
+        match word.as_str() {
+            "--seed" => options.seed = number()?,
+            "--calls" => options.calls = number()? as usize,
+            "--booklines" => options.booklines = Some(PathBuf::from(value)),
+            _ => return Err(USAGE.to_string()),
+        }
+    }
+    Ok(options)
+}
+
+/// The answer number of each call, counted.
+fn tally(session: &Session, tally: &mut Tally) {
+    let mut book = Book::open(Settings::of_line(&session.line));
+    for call in &session.calls {
+        tally.count(session.dialect, answer(&mut book, call));
+    }
+}
+
+fn answer(book: &mut Book, call: &Call) -> u8 {
+    match call {
+        Call::Message(message) => book.take(message),
+        Call::Levels(scope, side) => book.levels(*scope, *side).0,
+        Call::Level(scope, side, place) => book.level(*scope, *side, *place).0,
+        Call::Number(scope) => book.book_number(*scope).0,
+        Call::Updates(scope) => book.updates(*scope).0,
+        Call::Write(room) => book.write(&mut vec![0; *room]).0,
+    }
+}
+
+/// Sessions until there were enough calls; the first difference is reported.
+fn compare(options: &Options, counts: &mut Tally) -> Result<usize, String> {
+    let mut random = Random::new(options.seed);
+    let purpose = if options.booklines.is_some() { Purpose::Lines } else { Purpose::Calls };
+    let mut done = 0;
+    while done < options.calls {
+        let most = random.pick(&[5, 50, 300, 300, 600]);
+        let length = random.between(0, most);
+        let session = session(&mut random, purpose, length);
+        tally(&session, counts);
+        done += session.calls.len();
+        let Some(program) = &options.booklines else { continue };
+        let finished = random.percent(80);
+        match lines::compare(program, &session, finished) {
+            Ok(None) => {}
+            Ok(Some(report)) => return Err(format!("differs:\n{report}")),
+            Err(error) => return Err(format!("{}: {error}", program.display())),
+        }
+    }
+    Ok(done)
+}
+
+fn main() -> ExitCode {
+    let options = match options() {
+        Ok(options) => options,
+        Err(usage) => {
+            eprintln!("{usage}");
+            return ExitCode::from(2);
+        }
+    };
+    let mut counts = Tally::default();
+    let outcome = compare(&options, &mut counts);
+    print!("{}", counts.report());
+    match outcome {
+        Ok(done) => {
+            println!("seed {}, {done} calls, no difference", options.seed);
+            ExitCode::SUCCESS
+        }
+        Err(report) => {
+            println!("seed {}: {report}", options.seed);
+            ExitCode::FAILURE
+        }
+    }
+}

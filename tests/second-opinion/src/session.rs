@@ -1,0 +1,179 @@
+//! Sessions: an opening and the calls to one book, right ones and damaged ones.
+
+use crate::book::{Book, Scope, State};
+use crate::damage::{damage_bytes, damage_draft, damage_tree, pad};
+use crate::message::{Kind, Side};
+use crate::random::Random;
+use crate::settings::{Dialect, Settings};
+use crate::traffic::{snapshot, update, Market};
+use crate::value::Blanks;
+
+#[derive(Clone, Debug, PartialEq, Eq)]
+pub enum Call {
+    Message(Vec<u8>),
+    Levels(Scope, Side),
+    Level(Scope, Side, u64),
+    Number(Scope),
+    Updates(Scope),
+    /// Into room of this length.
+    Write(usize),
+}
+
+#[derive(Clone, Debug)]
+pub struct Session {
+    /// The dialect that the session is about, where it is counted.
+    pub dialect: Dialect,
+    /// The first line of the line program.
+    pub line: Vec<u8>,
+    pub calls: Vec<Call>,
+}
+
+/// What the sessions are for.
+#[derive(Clone, Copy, PartialEq, Eq)]
+pub enum Purpose {
+    /// Messages alone, without line ends.
+    Lines,
+    /// Every call, with any byte.
+    Calls,
+}
+
+const GOOD_NAMES: [&str; 8] = ["BTC-VND", "XBT/USD", "a", "0123456789abcdef", "it's", "~!", "{}[],:", "book"];
+
+const BAD_LINES: [&str; 24] = [
+    "", " ", "K", "K 10", "K 10 ", "K 9 a", "K 101 a", "M 99 a", "M 101 a", "M 10 a", "L 10 a", "k 10 a", "K  10 a",
+    "K 10  a", "K 10 a ", "K 010 a", "K +10 a", "K 10.0 a", "K\t10 a", "K 10 a\r", "K 18446744073709551626 a",
+    "M 100 0123456789abcdefg", "M 1e2 a", "M 0100 a",
+];
+
+/// A session of `length` calls.
+pub fn session(random: &mut Random, purpose: Purpose, length: usize) -> Session {
+    let dialect = if random.percent(50) { Dialect::K } else { Dialect::M };
+    let line = opening(random, dialect);
+    let mut book = Book::open(Settings::of_line(&line));
+    let mut source = Source { market: Market::new(random), purpose, damage: random.pick(&[3, 15, 15, 40]) };
+    let mut calls = Vec::new();
+    while calls.len() < length {
+        if purpose == Purpose::Calls && random.percent(50) {
+            calls.push(question(random, &book));
+            continue;
+        }
+        let message = source.message(random, &book, dialect);
+        book.take(&message);
+        calls.push(Call::Message(message));
+    }
+    Session { dialect, line, calls }
+}
+
+/// The first line: settings that are good, or now and then bad.
+fn opening(random: &mut Random, dialect: Dialect) -> Vec<u8> {
+    let depth = match dialect {
+        Dialect::K => random.pick(&[10, 10, 11, 25, 50, 99, 100]),
+        Dialect::M => 100,
+    };
+    let name = random.pick(&GOOD_NAMES).as_bytes();
+    let letter = dialect.letter();
+    if random.percent(95) {
+        return [format!("{letter} {depth} ").as_bytes(), name].concat();
+    }
+    match random.below(3) {
+        0 => {
+            let byte = (random.next() % 256) as u8;
+            let byte = if byte == b'\n' { 0 } else { byte };
+            [format!("{letter} {depth} ").as_bytes(), name, &[byte]].concat()
+        }
+        1 => format!("{letter} {} a", random.below(130)).into_bytes(),
+        _ => random.pick(&BAD_LINES).as_bytes().to_vec(),
+    }
+}
+
+struct Source {
+    market: Market,
+    purpose: Purpose,
+    /// How many messages in a hundred are damaged.
+    damage: usize,
+}
+
+impl Source {
+    fn message(&mut self, random: &mut Random, book: &Book, dialect: Dialect) -> Vec<u8> {
+        let stand_in = Settings { dialect, depth: 100, name: b"a".to_vec() };
+        let settings = book.settings.clone().unwrap_or(stand_in);
+        let kind = self.kind(random, book);
+        let filling = random.percent(6);
+        let mut draft = match kind {
+            Kind::Snapshot => snapshot(random, book, &self.market),
+            Kind::Update => update(random, book, &self.market, filling),
+        };
+        let damaged = random.percent(self.damage);
+        let place = if damaged { random.below(10) } else { 10 };
+        if place < 5 {
+            draft = damage_draft(random, book, &self.market, draft);
+        }
+        let mut tree = draft.value(random, &settings);
+        if (4..9).contains(&place) {
+            tree = damage_tree(random, &settings, tree);
+        }
+        let blanks = self.blanks(random);
+        let bytes = tree.written(random, blanks);
+        match place {
+            8 | 9 => damage_bytes(random, bytes),
+            _ if random.below(400) == 0 => pad(random, bytes),
+            _ => bytes,
+        }
+    }
+
+    /// A live book mostly gets updates, a waiting one mostly snapshots.
+    fn kind(&self, random: &mut Random, book: &Book) -> Kind {
+        let snapshots = if book.state == State::Live { 8 } else { 75 };
+        if random.percent(snapshots) {
+            Kind::Snapshot
+        } else {
+            Kind::Update
+        }
+    }
+
+    fn blanks(&self, random: &mut Random) -> Blanks {
+        match (random.below(3), self.purpose) {
+            (0, Purpose::Lines) => Blanks::Few,
+            (0, Purpose::Calls) => Blanks::Lines,
+            _ => Blanks::None,
+        }
+    }
+}
+
+/// A question or a writing-out.
+fn question(random: &mut Random, book: &Book) -> Call {
+    let scope = if random.percent(50) { Scope::Live } else { Scope::LastGood };
+    let side = if random.percent(50) { Side::Bid } else { Side::Ask };
+    match random.below(8) {
+        0 => Call::Levels(scope, side),
+        1 => Call::Number(scope),
+        2 => Call::Updates(scope),
+        3 | 4 => Call::Write(room(random, book)),
+        _ => Call::Level(scope, side, place(random, book.sides.side(side).len() as u64)),
+    }
+}
+
+/// A place on a side of `count` levels, or just past it, or far off.
+fn place(random: &mut Random, count: u64) -> u64 {
+    match random.below(10) {
+        0 => random.pick(&[0, 99, 100, 199, 200, 255, 256, u64::from(u32::MAX), u64::MAX]),
+        1 => count + 1,
+        2 => count,
+        3 => count.saturating_sub(1),
+        _ => random.next() % count.max(1),
+    }
+}
+
+/// Room about as long as the text.
+fn room(random: &mut Random, book: &Book) -> usize {
+    let mut all = vec![0; 2 * crate::message::MAX_MESSAGE];
+    let (_, length) = book.write(&mut all);
+    match random.below(6) {
+        0 => 0,
+        1 => length.saturating_sub(1),
+        2 => length,
+        3 => length + 1,
+        4 => random.below(length + 2),
+        _ => length + random.below(100),
+    }
+}

@@ -12,6 +12,7 @@ pub mod message;
 pub mod random;
 pub mod session;
 pub mod settings;
+pub mod sweep;
 pub mod tally;
 pub mod traffic;
 pub mod value;

@@ -1,11 +1,13 @@
-//! `second-opinion --seed N --calls N [--booklines PATH]`: hands generated
-//! sessions to both books. Exit status 1 if anything differs.
+//! `second-opinion --seed N --calls N [--sweep] [--booklines PATH]`: hands generated
+//! sessions to both books, and first, with `--sweep`, those that go through small
+//! ranges. Without a path only this book runs. Exit status 1 if anything differs.
 
 use second_opinion::book::Book;
 use second_opinion::lines;
 use second_opinion::random::Random;
 use second_opinion::session::{session, Call, Purpose, Session};
 use second_opinion::settings::Settings;
+use second_opinion::sweep;
 use second_opinion::tally::Tally;
 use std::path::PathBuf;
 use std::process::ExitCode;
@@ -13,15 +15,20 @@ use std::process::ExitCode;
 struct Options {
     seed: u64,
     calls: usize,
+    sweep: bool,
     booklines: Option<PathBuf>,
 }
 
-const USAGE: &str = "usage: second-opinion [--seed N] [--calls N] [--booklines PATH]";
+const USAGE: &str = "usage: second-opinion [--seed N] [--calls N] [--sweep] [--booklines PATH]";
 
 fn options() -> Result<Options, String> {
-    let mut options = Options { seed: 1, calls: 100_000, booklines: None };
+    let mut options = Options { seed: 1, calls: 100_000, sweep: false, booklines: None };
     let mut words = std::env::args().skip(1);
     while let Some(word) = words.next() {
+        if word == "--sweep" {
+            options.sweep = true;
+            continue;
+        }
         let value = words.next().ok_or(USAGE)?;
         let number = || value.parse::<u64>().map_err(|_| USAGE);
         match word.as_str() {
@@ -55,24 +62,34 @@ fn answer(book: &mut Book, call: &Call) -> u8 {
 
 /// Sessions until there were enough calls; the first difference is reported.
 fn compare(options: &Options, counts: &mut Tally) -> Result<usize, String> {
+    let mut done = 0;
+    let sweeps = if options.sweep { sweep::sessions() } else { vec![] };
+    for session in sweeps {
+        done += compare_one(options, counts, &session, true)?;
+    }
     let mut random = Random::new(options.seed);
     let purpose = if options.booklines.is_some() { Purpose::Lines } else { Purpose::Calls };
-    let mut done = 0;
-    while done < options.calls {
+    let enough = done + options.calls;
+    while done < enough {
         let most = random.pick(&[5, 50, 300, 300, 600]);
         let length = random.between(0, most);
         let session = session(&mut random, purpose, length);
-        tally(&session, counts);
-        done += session.calls.len();
-        let Some(program) = &options.booklines else { continue };
-        let finished = random.percent(80);
-        match lines::compare(program, &session, finished) {
+        done += compare_one(options, counts, &session, random.percent(80))?;
+    }
+    Ok(done)
+}
+
+/// How many calls the session has, if nothing differs.
+fn compare_one(options: &Options, counts: &mut Tally, session: &Session, finished: bool) -> Result<usize, String> {
+    tally(session, counts);
+    if let Some(program) = &options.booklines {
+        match lines::compare(program, session, finished) {
             Ok(None) => {}
             Ok(Some(report)) => return Err(format!("differs:\n{report}")),
             Err(error) => return Err(format!("{}: {error}", program.display())),
         }
     }
-    Ok(done)
+    Ok(session.calls.len())
 }
 
 fn main() -> ExitCode {

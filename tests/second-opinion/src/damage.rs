@@ -28,12 +28,12 @@ const MISNAMED: [&str; 18] = [
 
 /// One fault in the draft's texts.
 pub fn damage_draft(random: &mut Random, book: &Book, market: &Market, draft: Draft) -> Draft {
-    match random.below(10) {
+    match random.below(11) {
         0 | 1 => bad_decimal(random, book, market, draft),
         2 => zeros(random, book, market, draft),
         3 | 4 => doubled(random, book, market, draft),
-        5 => crowd(random, book, market, draft),
-        6 | 7 => old_gsn(random, book, draft),
+        5 | 6 => crowd(random, book, market, draft),
+        7 | 8 => old_gsn(random, book, draft),
         _ => wrong_checksum(random, draft),
     }
 }

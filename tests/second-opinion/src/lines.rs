@@ -95,6 +95,15 @@ pub fn shortest(program: &Path, session: &Session, finished: bool) -> std::io::R
     Ok(short)
 }
 
+/// The text with bytes that do not print as `\xNN`.
+pub fn shown(text: &[u8]) -> String {
+    let one = |&byte: &u8| match byte {
+        b'\n' | 32..=126 => char::from(byte).to_string(),
+        _ => format!("\\x{byte:02x}"),
+    };
+    text.iter().map(one).collect()
+}
+
 /// Compares one session; a difference is answered as a report.
 pub fn compare(program: &Path, session: &Session, finished: bool) -> std::io::Result<Option<String>> {
     if differs(program, session, finished)?.is_none() {
@@ -103,7 +112,7 @@ pub fn compare(program: &Path, session: &Session, finished: bool) -> std::io::Re
     let short = shortest(program, session, finished)?;
     let input = input(&short, finished);
     let (ours, theirs) = (lines(&input), run(program, &input)?);
-    let mut report = format!("input: {}\n", input.escape_ascii());
+    let mut report = format!("{}\n", shown(&input));
     for place in 0..ours.len().max(theirs.len()) {
         let line = |lines: &[String]| lines.get(place).cloned().unwrap_or("nothing".to_string());
         report += &format!("message {place}: here {}, there {}\n", line(&ours), line(&theirs));

@@ -2,11 +2,9 @@
 //! sessions to both books, and first, with `--sweep`, those that go through small
 //! ranges. Without a path only this book runs. Exit status 1 if anything differs.
 
-use second_opinion::book::Book;
 use second_opinion::lines;
 use second_opinion::random::Random;
-use second_opinion::session::{session, Call, Purpose, Session};
-use second_opinion::settings::Settings;
+use second_opinion::session::{count, session, Purpose, Session};
 use second_opinion::sweep;
 use second_opinion::tally::Tally;
 use std::path::PathBuf;
@@ -41,25 +39,6 @@ fn options() -> Result<Options, String> {
     Ok(options)
 }
 
-/// The answer number of each call, counted.
-fn tally(session: &Session, tally: &mut Tally) {
-    let mut book = Book::open(Settings::of_line(&session.line));
-    for call in &session.calls {
-        tally.count(session.dialect, answer(&mut book, call));
-    }
-}
-
-fn answer(book: &mut Book, call: &Call) -> u8 {
-    match call {
-        Call::Message(message) => book.take(message),
-        Call::Levels(scope, side) => book.levels(*scope, *side).0,
-        Call::Level(scope, side, place) => book.level(*scope, *side, *place).0,
-        Call::Number(scope) => book.book_number(*scope).0,
-        Call::Updates(scope) => book.updates(*scope).0,
-        Call::Write(room) => book.write(&mut vec![0; *room]).0,
-    }
-}
-
 /// Sessions until there were enough calls; the first difference is reported.
 fn compare(options: &Options, counts: &mut Tally) -> Result<usize, String> {
     let mut done = 0;
@@ -81,7 +60,7 @@ fn compare(options: &Options, counts: &mut Tally) -> Result<usize, String> {
 
 /// How many calls the session has, if nothing differs.
 fn compare_one(options: &Options, counts: &mut Tally, session: &Session, finished: bool) -> Result<usize, String> {
-    tally(session, counts);
+    count(session, counts);
     if let Some(program) = &options.booklines {
         match lines::compare(program, session, finished) {
             Ok(None) => {}

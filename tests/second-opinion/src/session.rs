@@ -5,6 +5,7 @@ use crate::damage::{damage_bytes, damage_draft, damage_tree, pad};
 use crate::message::{Kind, Side};
 use crate::random::Random;
 use crate::settings::{Dialect, Settings};
+use crate::tally::Tally;
 use crate::traffic::{snapshot, update, Market};
 use crate::value::Blanks;
 
@@ -35,6 +36,25 @@ pub enum Purpose {
     Lines,
     /// Every call, with any byte.
     Calls,
+}
+
+/// Counts the answer number of each call.
+pub fn count(session: &Session, tally: &mut Tally) {
+    let mut book = Book::open(Settings::of_line(&session.line));
+    for call in &session.calls {
+        tally.count(session.dialect, answer(&mut book, call));
+    }
+}
+
+fn answer(book: &mut Book, call: &Call) -> u8 {
+    match call {
+        Call::Message(message) => book.take(message),
+        Call::Levels(scope, side) => book.levels(*scope, *side).0,
+        Call::Level(scope, side, place) => book.level(*scope, *side, *place).0,
+        Call::Number(scope) => book.book_number(*scope).0,
+        Call::Updates(scope) => book.updates(*scope).0,
+        Call::Write(room) => book.write(&mut vec![0; *room]).0,
+    }
 }
 
 const GOOD_NAMES: [&str; 8] = ["BTC-VND", "XBT/USD", "a", "0123456789abcdef", "it's", "~!", "{}[],:", "book"];
@@ -98,7 +118,7 @@ impl Source {
         let stand_in = Settings { dialect, depth: 100, name: b"a".to_vec() };
         let settings = book.settings.clone().unwrap_or(stand_in);
         let kind = self.kind(random, book);
-        let filling = random.percent(6);
+        let filling = random.percent(if self.market.spread > 100 { 12 } else { 4 });
         let mut draft = match kind {
             Kind::Snapshot => snapshot(random, book, &self.market),
             Kind::Update => update(random, book, &self.market, filling),

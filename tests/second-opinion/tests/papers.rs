@@ -156,3 +156,67 @@ fn the_first_bad_decimal() {
     assert_eq!(first_bad(None, message), 0..0);
     assert_eq!(first_bad(settings.as_ref(), b"["), 0..0);
 }
+
+/// An M message of product `a`.
+fn m_text(kind: &str, bids: &str, checksum: u32, gsn: u64) -> Vec<u8> {
+    let data = format!(r#"{{"bids":[{bids}],"asks":[]}}"#);
+    format!(r#"{{"channel":"book","product":"a","type":"{kind}","data":{data},"checksum":{checksum},"gsn":{gsn}}}"#)
+        .into_bytes()
+}
+
+#[test]
+fn a_hundred_entries_and_one_more() {
+    let entries = |count: u32| (1..=count).map(|price| format!(r#"["{price}","1"]"#)).collect::<Vec<_>>().join(",");
+    let text: Vec<String> = (1..=100).rev().map(|price| format!("{price}:1")).collect();
+    let checksum = second_opinion::crc::crc32(text.join(":").as_bytes());
+    let mut book = open(Dialect::M, 100, "a");
+    assert_eq!(line(&mut book, &m_text("snapshot", &entries(101), 0, 1)), "7 - -");
+    assert_eq!(line(&mut book, &m_text("snapshot", &entries(100), checksum, 1)), "0 100 0");
+    assert_eq!(line(&mut book, &m_text("update", r#"["101","1"]"#, 0, 2)), "12 - -");
+    assert_eq!(line(&mut book, &m_text("snapshot", &entries(100), checksum, 1)), "0 100 0");
+    assert_eq!(line(&mut book, &m_text("update", r#"["101","1"],["101.0","0"]"#, checksum, 2)), "0 100 0");
+}
+
+#[test]
+fn an_equal_gsn_and_one_more() {
+    let mut book = open(Dialect::M, 100, "a");
+    assert_eq!(book.take(&m_text("snapshot", "", 0, 7)), 0);
+    assert_eq!(book.take(&m_text("update", "", 0, 8)), 0);
+    assert_eq!(book.book_number(Scope::Live), (0, 8));
+    assert_eq!(book.take(&m_text("update", "", 0, 8)), 11);
+    assert_eq!(book.book_number(Scope::LastGood), (0, 8));
+    assert_eq!(book.take(&m_text("snapshot", "", 0, 3)), 0);
+    assert_eq!((book.book_number(Scope::Live), book.updates(Scope::Live)), ((0, 3), (0, 0)));
+}
+
+#[test]
+fn one_price_twice() {
+    let mut book = open(Dialect::M, 100, "a");
+    let twice = r#"["0.5","1"],["0.50","2"]"#;
+    assert_eq!(book.take(&m_text("snapshot", twice, 0, 1)), 9);
+    assert_eq!(book.take(&m_text("snapshot", "", 0, 1)), 0);
+    let checksum = second_opinion::crc::crc32(b"0.50:2");
+    assert_eq!(line(&mut book, &m_text("update", twice, checksum, 2)), "0 1 0");
+}
+
+#[test]
+fn the_samples_of_the_venues() {
+    let mut book = open(Dialect::M, 100, "BTC-VND");
+    assert_eq!(book.take(EXAMPLE.lines().nth(1).unwrap().as_bytes()), 0);
+    let sample = br#"{
+"channel": "book",
+"product": "BTC-VND",
+"type": "update",
+"data": {
+"bids": [["2275689000", "2.249857"]],
+"asks": [],
+"timestamp": "1764643130040025000",
+"gsn": 2309207234
+},
+"checksum": 2734336218,
+"timestamp": "1764643130040025000",
+"gsn": 2309207234
+}"#;
+    assert_eq!(book.take(sample), 13);
+    assert_eq!(book.take(sample), 10);
+}

@@ -124,10 +124,17 @@ fn wrong_checksum(random: &mut Random, mut draft: Draft) -> Draft {
 
 // Trees.
 
-/// One fault in the tree, or a change that only seems to be one.
+/// A fault in the tree or some, or changes that only seem to be faults.
 pub fn damage_tree(random: &mut Random, settings: &Settings, tree: Value) -> Value {
-    let mut tree = tree;
-    match random.below(12) {
+    let mut tree = damage_part(random, settings, tree);
+    while random.percent(30) {
+        tree = damage_part(random, settings, tree);
+    }
+    tree
+}
+
+fn damage_part(random: &mut Random, settings: &Settings, mut tree: Value) -> Value {
+    match random.below(14) {
         0 => misname(random, settings, &mut tree),
         1 => escape_name(random, settings, &mut tree),
         2 => escape_some(random, &mut tree),
@@ -139,6 +146,8 @@ pub fn damage_tree(random: &mut Random, settings: &Settings, tree: Value) -> Val
         8 => bad_whole(random, settings, &mut tree),
         9 => nest(random, &mut tree),
         10 => add_named(random, &mut tree),
+        11 => regroup(random, &mut tree),
+        12 => duplicate_name(random, settings, &mut tree),
         _ => tree = whole_other(random, tree),
     }
     tree
@@ -243,6 +252,30 @@ fn add_named(random: &mut Random, tree: &mut Value) {
         let place = random.below(members.len() + 1);
         members.insert(place, (key(random.pick(&NAMES)), stray(random)));
     }
+}
+
+/// K: another object before or after the first, with some of its members.
+fn regroup(random: &mut Random, tree: &mut Value) {
+    let Value::Array(items) = tree else { return };
+    let Some(Value::Object(members)) = items.get_mut(1) else { return };
+    let kept = random.below(members.len() + 1);
+    let moved = members.split_off(kept);
+    let place = random.between(1, 2);
+    items.insert(place, Value::Object(moved));
+}
+
+/// M: `channel` or `product` once more, perhaps with an escape or another value.
+fn duplicate_name(random: &mut Random, settings: &Settings, tree: &mut Value) {
+    let Value::Object(members) = tree else { return };
+    let (name, value) = if random.percent(50) { ("channel", b"book".as_slice()) } else { ("product", &settings.name[..]) };
+    let mut value = quoted(value);
+    match random.below(3) {
+        0 => escape(random, &mut value),
+        1 => value = quoted(random.pick(&MISNAMED).as_bytes()),
+        _ => {}
+    }
+    let place = random.below(members.len() + 1);
+    members.insert(place, (key(name), Value::Raw(value)));
 }
 
 /// An element more, one less, or two that changed places.

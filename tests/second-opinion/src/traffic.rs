@@ -65,6 +65,7 @@ impl Market {
 /// The same value, with `chance` in a hundred with other decimals.
 fn respelled(random: &mut Random, decimal: Decimal, chance: usize) -> String {
     let mut spelled = decimal;
+    let chance = if random.percent(3) { 95 } else { chance };
     while spelled.decimals < 9 && random.percent(chance) {
         spelled = Decimal { digits: spelled.digits * 10, decimals: spelled.decimals + 1 };
     }

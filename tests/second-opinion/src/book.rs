@@ -179,9 +179,12 @@ impl Book {
         }
     }
 
-    /// Answer number and how many levels a side has.
-    pub fn levels(&self, scope: Scope, side: Side) -> (u8, usize) {
-        self.refusal(scope).map_or_else(|| (0, self.sides.side(side).len()), |number| (number, 0))
+    /// Answer number, how many bids and how many asks.
+    pub fn levels(&self, scope: Scope) -> (u8, usize, usize) {
+        match self.refusal(scope) {
+            Some(number) => (number, 0, 0),
+            None => (0, self.sides.bids.len(), self.sides.asks.len()),
+        }
     }
 
     /// Answer number and a level, counted from 0 as best.

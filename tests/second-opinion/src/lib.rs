@@ -10,6 +10,8 @@ pub mod json;
 pub mod lines;
 pub mod message;
 pub mod random;
+pub mod replay;
+pub mod script;
 pub mod session;
 pub mod settings;
 pub mod sweep;

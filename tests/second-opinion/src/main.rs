@@ -1,9 +1,12 @@
 //! `second-opinion --seed N --calls N [--sweep] [--booklines PATH]`: hands generated
 //! sessions to both books, and first, with `--sweep`, those that go through small
-//! ranges. Without a path only this book runs. Exit status 1 if anything differs.
+//! ranges. Without a path the calls go to `replay`, if it is linked (REPLAY_DIR at
+//! the build), else to this book alone. Exit status 1 if anything differs.
 
 use second_opinion::lines;
 use second_opinion::random::Random;
+use second_opinion::replay;
+use second_opinion::script::script;
 use second_opinion::session::{count, session, Purpose, Session};
 use second_opinion::sweep;
 use second_opinion::tally::Tally;
@@ -42,33 +45,44 @@ fn options() -> Result<Options, String> {
 /// Sessions until there were enough calls; the first difference is reported.
 fn compare(options: &Options, counts: &mut Tally) -> Result<usize, String> {
     let mut done = 0;
+    let mut random = Random::new(options.seed);
     let sweeps = if options.sweep { sweep::sessions() } else { vec![] };
     for session in sweeps {
-        done += compare_one(options, counts, &session, true)?;
+        done += compare_one(options, counts, &session, &mut random)?;
     }
-    let mut random = Random::new(options.seed);
     let purpose = if options.booklines.is_some() { Purpose::Lines } else { Purpose::Calls };
     let enough = done + options.calls;
     while done < enough {
         let most = random.pick(&[5, 50, 300, 300, 600]);
         let length = random.between(0, most);
         let session = session(&mut random, purpose, length);
-        done += compare_one(options, counts, &session, random.percent(80))?;
+        done += compare_one(options, counts, &session, &mut random)?;
     }
     Ok(done)
 }
 
 /// How many calls the session has, if nothing differs.
-fn compare_one(options: &Options, counts: &mut Tally, session: &Session, finished: bool) -> Result<usize, String> {
+fn compare_one(options: &Options, counts: &mut Tally, session: &Session, random: &mut Random) -> Result<usize, String> {
     count(session, counts);
-    if let Some(program) = &options.booklines {
-        match lines::compare(program, session, finished) {
-            Ok(None) => {}
-            Ok(Some(report)) => return Err(format!("differs:\n{report}")),
-            Err(error) => return Err(format!("{}: {error}", program.display())),
-        }
+    let report = match (&options.booklines, replay::linked()) {
+        (Some(program), _) => lines::compare(program, session, random.percent(80))
+            .map_err(|error| format!("{}: {error}", program.display()))?,
+        (None, Some(library)) => script(random, session).compare(library),
+        (None, None) => None,
+    };
+    match report {
+        None => Ok(session.calls.len()),
+        Some(report) => Err(format!("differs:\n{report}")),
     }
-    Ok(session.calls.len())
+}
+
+/// What this book was compared with.
+fn against(options: &Options) -> &'static str {
+    match (&options.booklines, replay::linked()) {
+        (Some(_), _) => "against booklines",
+        (None, Some(_)) => "against replay",
+        (None, None) => "on this book alone",
+    }
 }
 
 fn main() -> ExitCode {
@@ -84,7 +98,7 @@ fn main() -> ExitCode {
     print!("{}", counts.report());
     match outcome {
         Ok(done) => {
-            println!("seed {}, {done} calls, no difference", options.seed);
+            println!("seed {}, {done} calls {}, no difference", options.seed, against(&options));
             ExitCode::SUCCESS
         }
         Err(report) => {

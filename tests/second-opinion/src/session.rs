@@ -12,7 +12,7 @@ use crate::value::Blanks;
 #[derive(Clone, Debug, PartialEq, Eq)]
 pub enum Call {
     Message(Vec<u8>),
-    Levels(Scope, Side),
+    Levels(Scope),
     Level(Scope, Side, u64),
     Number(Scope),
     Updates(Scope),
@@ -20,12 +20,50 @@ pub enum Call {
     Write(usize),
 }
 
+/// What a book is opened with, good or bad.
+#[derive(Clone, Debug)]
+pub enum Opening {
+    /// The first line of the line program.
+    Line(Vec<u8>),
+    Words { dialect: u8, depth: u64, name: Vec<u8> },
+}
+
+impl Opening {
+    pub fn settings(&self) -> Option<Settings> {
+        match self {
+            Opening::Line(line) => Settings::of_line(line),
+            Opening::Words { dialect: b'K', depth, name } => Settings::good(Dialect::K, *depth, name),
+            Opening::Words { dialect: b'M', depth, name } => Settings::good(Dialect::M, *depth, name),
+            Opening::Words { .. } => None,
+        }
+    }
+
+    /// Dialect, depth and name; a bad line gives bad ones.
+    pub fn words(&self) -> (u8, u64, Vec<u8>) {
+        match self {
+            Opening::Words { dialect, depth, name } => (*dialect, *depth, name.clone()),
+            Opening::Line(line) => match Settings::of_line(line) {
+                Some(settings) => (settings.dialect.letter() as u8, settings.depth, settings.name),
+                None => (0, 0, vec![]),
+            },
+        }
+    }
+
+    pub fn line(&self) -> Vec<u8> {
+        match self {
+            Opening::Line(line) => line.clone(),
+            Opening::Words { dialect, depth, name } => {
+                [&[*dialect], format!(" {depth} ").as_bytes(), name].concat()
+            }
+        }
+    }
+}
+
 #[derive(Clone, Debug)]
 pub struct Session {
     /// The dialect that the session is about, where it is counted.
     pub dialect: Dialect,
-    /// The first line of the line program.
-    pub line: Vec<u8>,
+    pub opening: Opening,
     pub calls: Vec<Call>,
 }
 
@@ -40,7 +78,7 @@ pub enum Purpose {
 
 /// Counts the answer number of each call.
 pub fn count(session: &Session, tally: &mut Tally) {
-    let mut book = Book::open(Settings::of_line(&session.line));
+    let mut book = Book::open(session.opening.settings());
     for call in &session.calls {
         tally.count(session.dialect, answer(&mut book, call));
     }
@@ -49,7 +87,7 @@ pub fn count(session: &Session, tally: &mut Tally) {
 fn answer(book: &mut Book, call: &Call) -> u8 {
     match call {
         Call::Message(message) => book.take(message),
-        Call::Levels(scope, side) => book.levels(*scope, *side).0,
+        Call::Levels(scope) => book.levels(*scope).0,
         Call::Level(scope, side, place) => book.level(*scope, *side, *place).0,
         Call::Number(scope) => book.book_number(*scope).0,
         Call::Updates(scope) => book.updates(*scope).0,
@@ -68,8 +106,11 @@ const BAD_LINES: [&str; 24] = [
 /// A session of `length` calls.
 pub fn session(random: &mut Random, purpose: Purpose, length: usize) -> Session {
     let dialect = if random.percent(50) { Dialect::K } else { Dialect::M };
-    let line = opening(random, dialect);
-    let mut book = Book::open(Settings::of_line(&line));
+    let opening = match purpose {
+        Purpose::Lines => Opening::Line(first_line(random, dialect)),
+        Purpose::Calls => words(random, dialect),
+    };
+    let mut book = Book::open(opening.settings());
     let mut source = Source { market: Market::new(random), purpose, damage: random.pick(&[3, 15, 15, 40]) };
     let mut calls = Vec::new();
     while calls.len() < length {
@@ -81,15 +122,38 @@ pub fn session(random: &mut Random, purpose: Purpose, length: usize) -> Session 
         book.take(&message);
         calls.push(Call::Message(message));
     }
-    Session { dialect, line, calls }
+    Session { dialect, opening, calls }
+}
+
+fn good_depth(random: &mut Random, dialect: Dialect) -> u64 {
+    match dialect {
+        Dialect::K => random.pick(&[10, 10, 11, 25, 50, 99, 100]),
+        Dialect::M => 100,
+    }
+}
+
+/// Settings that are good, or now and then bad.
+fn words(random: &mut Random, dialect: Dialect) -> Opening {
+    let mut letter = dialect.letter() as u8;
+    let mut depth = good_depth(random, dialect);
+    let mut name = random.pick(&GOOD_NAMES).as_bytes().to_vec();
+    if random.percent(10) {
+        match random.below(4) {
+            0 => letter = (random.next() % 256) as u8,
+            1 => depth = random.pick(&[0, 9, 10, 99, 100, 101, 256 + 100, (1 << 32) + 100, u64::MAX]),
+            2 => name = vec![b'n'; random.pick(&[0, 1, 15, 16, 17, 255, 256, 257, 272, 40_000])],
+            _ => {
+                let place = random.below(name.len());
+                name[place] = (random.next() % 256) as u8;
+            }
+        }
+    }
+    Opening::Words { dialect: letter, depth, name }
 }
 
 /// The first line: settings that are good, or now and then bad.
-fn opening(random: &mut Random, dialect: Dialect) -> Vec<u8> {
-    let depth = match dialect {
-        Dialect::K => random.pick(&[10, 10, 11, 25, 50, 99, 100]),
-        Dialect::M => 100,
-    };
+fn first_line(random: &mut Random, dialect: Dialect) -> Vec<u8> {
+    let depth = good_depth(random, dialect);
     let name = random.pick(&GOOD_NAMES).as_bytes();
     let letter = dialect.letter();
     if random.percent(95) {
@@ -165,7 +229,7 @@ fn question(random: &mut Random, book: &Book) -> Call {
     let scope = if random.percent(50) { Scope::Live } else { Scope::LastGood };
     let side = if random.percent(50) { Side::Bid } else { Side::Ask };
     match random.below(8) {
-        0 => Call::Levels(scope, side),
+        0 => Call::Levels(scope),
         1 => Call::Number(scope),
         2 => Call::Updates(scope),
         3 | 4 => Call::Write(room(random, book)),

@@ -1,7 +1,7 @@
 //! Sessions that go through every case of a small range, in place of drawing them.
 
 use crate::message::MAX_MESSAGE;
-use crate::session::{Call, Session};
+use crate::session::{Call, Opening, Session};
 use crate::settings::Dialect;
 
 const K_LINE: &str = "K 10 a";
@@ -37,7 +37,7 @@ fn chunks(line: &str, messages: Vec<Vec<u8>>) -> Vec<Session> {
     let dialect = if line.starts_with('K') { Dialect::K } else { Dialect::M };
     let session = |messages: &[Vec<u8>]| Session {
         dialect,
-        line: line.into(),
+        opening: Opening::Line(line.into()),
         calls: messages.iter().cloned().map(Call::Message).collect(),
     };
     messages.chunks(1000).map(session).collect()
@@ -271,5 +271,5 @@ fn opening(line: Vec<u8>) -> Session {
         b"\",\"type\":\"snapshot\",\"data\":{\"bids\":[],\"asks\":[]},\"checksum\":0,\"gsn\":1}",
     ]
     .concat();
-    Session { dialect, line, calls: [k, m].into_iter().map(Call::Message).collect() }
+    Session { dialect, opening: Opening::Line(line), calls: [k, m].into_iter().map(Call::Message).collect() }
 }

@@ -3,9 +3,8 @@
 
 use second_opinion::book::{Book, State};
 use second_opinion::random::Random;
-use second_opinion::session::{session, Purpose};
-use second_opinion::settings::{Dialect, Settings};
-use second_opinion::session::Call;
+use second_opinion::session::{count, session, Call, Purpose};
+use second_opinion::settings::Dialect;
 use second_opinion::tally::Tally;
 
 #[test]
@@ -13,7 +12,7 @@ fn every_answer_comes_up() {
     let mut random = Random::new(5);
     let mut tally = Tally::default();
     for _ in 0..150 {
-        second_opinion::session::count(&session(&mut random, Purpose::Calls, 200), &mut tally);
+        count(&session(&mut random, Purpose::Calls, 200), &mut tally);
     }
     for answer in 0..16 {
         assert!(tally.times(Dialect::M, answer) >= 10, "M {answer}");
@@ -28,7 +27,7 @@ fn a_new_book_takes_what_the_writer_gives() {
     let mut written = 0;
     for _ in 0..40 {
         let session = session(&mut random, Purpose::Lines, 60);
-        let mut book = Book::open(Settings::of_line(&session.line));
+        let mut book = Book::open(session.opening.settings());
         for call in &session.calls {
             let Call::Message(message) = call else { continue };
             book.take(message);

@@ -134,17 +134,17 @@ fn escapes_and_names() {
 #[test]
 fn questions_in_their_order() {
     let shut = Book::open(None);
-    assert_eq!(shut.levels(Scope::LastGood, Side::Bid), (1, 0));
+    assert_eq!(shut.levels(Scope::LastGood), (1, 0, 0));
     assert_eq!(shut.write(&mut []), (1, 0));
     let mut book = k_book();
-    assert_eq!(book.levels(Scope::LastGood, Side::Bid), (10, 0));
+    assert_eq!(book.levels(Scope::LastGood), (10, 0, 0));
     assert_eq!(book.level(Scope::Live, Side::Bid, 0).0, 10);
     assert_eq!(book.take(BOOK_001.as_bytes()), 0);
     assert_eq!(book.level(Scope::Live, Side::Bid, 9).1.price.text(), "0.04950");
     assert_eq!(book.level(Scope::Live, Side::Bid, 10).0, 14);
     assert_eq!(book.take(b""), 3);
-    assert_eq!(book.levels(Scope::Live, Side::Bid), (10, 0));
-    assert_eq!(book.levels(Scope::LastGood, Side::Bid), (0, 10));
+    assert_eq!(book.levels(Scope::Live), (10, 0, 0));
+    assert_eq!(book.levels(Scope::LastGood), (0, 10, 10));
 }
 
 #[test]

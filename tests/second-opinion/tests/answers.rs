@@ -3,7 +3,8 @@
 
 use second_opinion::book::{Book, State};
 use second_opinion::random::Random;
-use second_opinion::session::{count, session, Call, Purpose};
+use second_opinion::script::{here, script};
+use second_opinion::session::{count, session, Call, Opening, Purpose};
 use second_opinion::settings::Dialect;
 use second_opinion::tally::Tally;
 
@@ -47,4 +48,28 @@ fn round_trip(book: &Book) {
     let mut other = Book::open(book.settings.clone());
     assert_eq!(other.take(&room[..length]), 0);
     assert_eq!((other.sides, other.number, other.count), (book.sides.clone(), book.number, 0));
+}
+
+/// As this book, but a level is never found far down.
+fn wrong(opening: &Opening, script: &[u8], out: &mut [u8]) -> usize {
+    let made = here(opening, script, out);
+    for place in (0..out.len().saturating_sub(8)).step_by(8) {
+        if out[place..place + 8] == 14u64.to_le_bytes() {
+            out[place] = 10;
+        }
+    }
+    made
+}
+
+#[test]
+fn a_difference_is_reported() {
+    let mut random = Random::new(7);
+    let found = (0..50).find_map(|_| {
+        let session = session(&mut random, Purpose::Calls, 100);
+        let script = script(&mut random, &session);
+        assert!(script.compare(here).is_none());
+        script.compare(wrong)
+    });
+    let report = found.expect("a session with a level that is not there");
+    assert!(report.contains("here [14,") && report.contains("there [10,"), "{report}");
 }

@@ -1,0 +1,20 @@
+//! A second opinion: the order book of document 01, written again from the
+//! papers alone, plain and slow. The drivers hand both books the same calls
+//! and compare what they answer.
+
+pub mod book;
+pub mod crc;
+pub mod damage;
+pub mod decimal;
+pub mod json;
+pub mod lines;
+pub mod message;
+pub mod random;
+pub mod replay;
+pub mod script;
+pub mod session;
+pub mod settings;
+pub mod sweep;
+pub mod tally;
+pub mod traffic;
+pub mod value;

@@ -1,0 +1,263 @@
+//! Sessions: an opening and the calls to one book, right ones and damaged ones.
+
+use crate::book::{Book, Scope, State};
+use crate::damage::{damage_bytes, damage_draft, damage_tree, pad};
+use crate::message::{Kind, Side};
+use crate::random::Random;
+use crate::settings::{Dialect, Settings};
+use crate::tally::Tally;
+use crate::traffic::{snapshot, update, Market};
+use crate::value::Blanks;
+
+#[derive(Clone, Debug, PartialEq, Eq)]
+pub enum Call {
+    Message(Vec<u8>),
+    Levels(Scope),
+    Level(Scope, Side, u64),
+    Number(Scope),
+    Updates(Scope),
+    /// Into room of this length.
+    Write(usize),
+}
+
+/// What a book is opened with, good or bad.
+#[derive(Clone, Debug)]
+pub enum Opening {
+    /// The first line of the line program.
+    Line(Vec<u8>),
+    Words { dialect: u8, depth: u64, name: Vec<u8> },
+}
+
+impl Opening {
+    pub fn settings(&self) -> Option<Settings> {
+        match self {
+            Opening::Line(line) => Settings::of_line(line),
+            Opening::Words { dialect: b'K', depth, name } => Settings::good(Dialect::K, *depth, name),
+            Opening::Words { dialect: b'M', depth, name } => Settings::good(Dialect::M, *depth, name),
+            Opening::Words { .. } => None,
+        }
+    }
+
+    /// Dialect, depth and name; a bad line gives bad ones.
+    pub fn words(&self) -> (u8, u64, Vec<u8>) {
+        match self {
+            Opening::Words { dialect, depth, name } => (*dialect, *depth, name.clone()),
+            Opening::Line(line) => match Settings::of_line(line) {
+                Some(settings) => (settings.dialect.letter() as u8, settings.depth, settings.name),
+                None => (0, 0, vec![]),
+            },
+        }
+    }
+
+    pub fn line(&self) -> Vec<u8> {
+        match self {
+            Opening::Line(line) => line.clone(),
+            Opening::Words { dialect, depth, name } => {
+                [&[*dialect], format!(" {depth} ").as_bytes(), name].concat()
+            }
+        }
+    }
+}
+
+#[derive(Clone, Debug)]
+pub struct Session {
+    /// The dialect that the session is about, where it is counted.
+    pub dialect: Dialect,
+    pub opening: Opening,
+    pub calls: Vec<Call>,
+}
+
+/// What the sessions are for.
+#[derive(Clone, Copy, PartialEq, Eq)]
+pub enum Purpose {
+    /// Messages alone, without line ends.
+    Lines,
+    /// Every call, with any byte.
+    Calls,
+}
+
+/// Counts the answer number of each call.
+pub fn count(session: &Session, tally: &mut Tally) {
+    let mut book = Book::open(session.opening.settings());
+    for call in &session.calls {
+        tally.count(session.dialect, answer(&mut book, call));
+    }
+}
+
+fn answer(book: &mut Book, call: &Call) -> u8 {
+    match call {
+        Call::Message(message) => book.take(message),
+        Call::Levels(scope) => book.levels(*scope).0,
+        Call::Level(scope, side, place) => book.level(*scope, *side, *place).0,
+        Call::Number(scope) => book.book_number(*scope).0,
+        Call::Updates(scope) => book.updates(*scope).0,
+        Call::Write(room) => book.write(&mut vec![0; *room]).0,
+    }
+}
+
+const GOOD_NAMES: [&str; 8] = ["BTC-VND", "XBT/USD", "a", "0123456789abcdef", "it's", "~!", "{}[],:", "book"];
+
+const BAD_LINES: [&str; 24] = [
+    "", " ", "K", "K 10", "K 10 ", "K 9 a", "K 101 a", "M 99 a", "M 101 a", "M 10 a", "L 10 a", "k 10 a", "K  10 a",
+    "K 10  a", "K 10 a ", "K 010 a", "K +10 a", "K 10.0 a", "K\t10 a", "K 10 a\r", "K 18446744073709551626 a",
+    "M 100 0123456789abcdefg", "M 1e2 a", "M 0100 a",
+];
+
+/// A session of `length` calls.
+pub fn session(random: &mut Random, purpose: Purpose, length: usize) -> Session {
+    let dialect = if random.percent(50) { Dialect::K } else { Dialect::M };
+    let opening = match purpose {
+        Purpose::Lines => Opening::Line(first_line(random, dialect)),
+        Purpose::Calls => words(random, dialect),
+    };
+    let mut book = Book::open(opening.settings());
+    let mut source = Source { market: Market::new(random), purpose, damage: random.pick(&[3, 15, 15, 40]) };
+    let mut calls = Vec::new();
+    while calls.len() < length {
+        if purpose == Purpose::Calls && random.percent(50) {
+            calls.push(question(random, &book));
+            continue;
+        }
+        let message = source.message(random, &book, dialect);
+        book.take(&message);
+        calls.push(Call::Message(message));
+    }
+    Session { dialect, opening, calls }
+}
+
+fn good_depth(random: &mut Random, dialect: Dialect) -> u64 {
+    match dialect {
+        Dialect::K => random.pick(&[10, 10, 11, 25, 50, 99, 100]),
+        Dialect::M => 100,
+    }
+}
+
+/// Settings that are good, or now and then bad.
+fn words(random: &mut Random, dialect: Dialect) -> Opening {
+    let mut letter = dialect.letter() as u8;
+    let mut depth = good_depth(random, dialect);
+    let mut name = random.pick(&GOOD_NAMES).as_bytes().to_vec();
+    if random.percent(10) {
+        match random.below(4) {
+            0 => letter = (random.next() % 256) as u8,
+            1 => depth = random.pick(&[0, 9, 10, 99, 100, 101, 256 + 100, (1 << 32) + 100, u64::MAX]),
+            2 => name = vec![b'n'; random.pick(&[0, 1, 15, 16, 17, 255, 256, 257, 272, 40_000])],
+            _ => {
+                let place = random.below(name.len());
+                name[place] = (random.next() % 256) as u8;
+            }
+        }
+    }
+    Opening::Words { dialect: letter, depth, name }
+}
+
+/// The first line: settings that are good, or now and then bad.
+fn first_line(random: &mut Random, dialect: Dialect) -> Vec<u8> {
+    let depth = good_depth(random, dialect);
+    let name = random.pick(&GOOD_NAMES).as_bytes();
+    let letter = dialect.letter();
+    if random.percent(95) {
+        return [format!("{letter} {depth} ").as_bytes(), name].concat();
+    }
+    match random.below(3) {
+        0 => {
+            let byte = (random.next() % 256) as u8;
+            let byte = if byte == b'\n' { 0 } else { byte };
+            [format!("{letter} {depth} ").as_bytes(), name, &[byte]].concat()
+        }
+        1 => format!("{letter} {} a", random.below(130)).into_bytes(),
+        _ => random.pick(&BAD_LINES).as_bytes().to_vec(),
+    }
+}
+
+struct Source {
+    market: Market,
+    purpose: Purpose,
+    /// How many messages in a hundred are damaged.
+    damage: usize,
+}
+
+impl Source {
+    fn message(&mut self, random: &mut Random, book: &Book, dialect: Dialect) -> Vec<u8> {
+        let stand_in = Settings { dialect, depth: 100, name: b"a".to_vec() };
+        let settings = book.settings.clone().unwrap_or(stand_in);
+        let kind = self.kind(random, book);
+        let filling = random.percent(if self.market.spread > 100 { 12 } else { 4 });
+        let mut draft = match kind {
+            Kind::Snapshot => snapshot(random, book, &self.market),
+            Kind::Update => update(random, book, &self.market, filling),
+        };
+        let damaged = random.percent(self.damage);
+        let place = if damaged { random.below(10) } else { 10 };
+        if place < 5 {
+            draft = damage_draft(random, book, &self.market, draft);
+        }
+        let mut tree = draft.value(random, &settings);
+        if (4..9).contains(&place) {
+            tree = damage_tree(random, &settings, tree);
+        }
+        let blanks = self.blanks(random);
+        let bytes = tree.written(random, blanks);
+        match place {
+            8 | 9 => damage_bytes(random, bytes),
+            _ if random.below(400) == 0 => pad(random, bytes),
+            _ => bytes,
+        }
+    }
+
+    /// A live book mostly gets updates, a waiting one mostly snapshots.
+    fn kind(&self, random: &mut Random, book: &Book) -> Kind {
+        let snapshots = if book.state == State::Live { 8 } else { 75 };
+        if random.percent(snapshots) {
+            Kind::Snapshot
+        } else {
+            Kind::Update
+        }
+    }
+
+    fn blanks(&self, random: &mut Random) -> Blanks {
+        match (random.below(3), self.purpose) {
+            (0, Purpose::Lines) => Blanks::Few,
+            (0, Purpose::Calls) => Blanks::Lines,
+            _ => Blanks::None,
+        }
+    }
+}
+
+/// A question or a writing-out.
+fn question(random: &mut Random, book: &Book) -> Call {
+    let scope = if random.percent(50) { Scope::Live } else { Scope::LastGood };
+    let side = if random.percent(50) { Side::Bid } else { Side::Ask };
+    match random.below(8) {
+        0 => Call::Levels(scope),
+        1 => Call::Number(scope),
+        2 => Call::Updates(scope),
+        3 | 4 => Call::Write(room(random, book)),
+        _ => Call::Level(scope, side, place(random, book.sides.side(side).len() as u64)),
+    }
+}
+
+/// A place on a side of `count` levels, or just past it, or far off.
+fn place(random: &mut Random, count: u64) -> u64 {
+    match random.below(10) {
+        0 => random.pick(&[0, 99, 100, 199, 200, 255, 256, u64::from(u32::MAX), u64::MAX]),
+        1 => count + 1,
+        2 => count,
+        3 => count.saturating_sub(1),
+        _ => random.next() % count.max(1),
+    }
+}
+
+/// Room about as long as the text.
+fn room(random: &mut Random, book: &Book) -> usize {
+    let mut all = vec![0; 2 * crate::message::MAX_MESSAGE];
+    let (_, length) = book.write(&mut all);
+    match random.below(6) {
+        0 => 0,
+        1 => length.saturating_sub(1),
+        2 => length,
+        3 => length + 1,
+        4 => random.below(length + 2),
+        _ => length + random.below(100),
+    }
+}

@@ -1,0 +1,284 @@
+//! Drafts of right messages, from the book as it stands.
+
+use crate::book::Book;
+use crate::decimal::Decimal;
+use crate::message::{Entry, Kind, Level, Message, Side, MAX_ENTRIES};
+use crate::random::Random;
+use crate::settings::{Dialect, Settings};
+use crate::value::{key, nested, quoted, raw, stray, text, Value};
+use std::collections::HashSet;
+
+/// The prices of a session: `spread` ticks around `middle`, each of 10^-`decimals`.
+pub struct Market {
+    pub decimals: u32,
+    pub middle: u64,
+    pub spread: u64,
+    /// Bids and asks share their prices.
+    pub crossed: bool,
+}
+
+/// An entry as it is to be written.
+#[derive(Clone, Debug)]
+pub struct Line {
+    pub side: Side,
+    pub price: String,
+    pub size: String,
+}
+
+/// A message before it is written: its texts may be damaged.
+#[derive(Clone, Debug)]
+pub struct Draft {
+    pub kind: Kind,
+    pub lines: Vec<Line>,
+    pub checksum: String,
+    pub gsn: String,
+}
+
+impl Market {
+    pub fn new(random: &mut Random) -> Market {
+        let decimals = random.below(10) as u32;
+        let spread = random.pick(&[3, 12, 60, 130, 400]);
+        let middle = spread + 1 + random.next() % random.pick(&[1, 50, 100_000, 900_000_000]);
+        Market { decimals, middle, spread, crossed: random.percent(25) }
+    }
+
+    fn tick(&self, random: &mut Random, side: Side) -> u64 {
+        let step = random.next() % self.spread;
+        match side {
+            _ if self.crossed => self.middle + step,
+            Side::Bid => self.middle - 1 - step,
+            Side::Ask => self.middle + step,
+        }
+    }
+
+    /// A price above zero, now and then at the ends of what is allowed.
+    pub fn price(&self, random: &mut Random, side: Side) -> String {
+        if random.percent(1) {
+            let ends = ["9999999999.999999999", "0.000000001", "9999999999", "9999999999.0", "1", "0.1"];
+            return random.pick(&ends).to_string();
+        }
+        let tick = Decimal { digits: self.tick(random, side), decimals: self.decimals };
+        respelled(random, tick, 15)
+    }
+}
+
+/// The same value, with `chance` in a hundred with other decimals.
+fn respelled(random: &mut Random, decimal: Decimal, chance: usize) -> String {
+    let mut spelled = decimal;
+    let chance = if random.percent(3) { 95 } else { chance };
+    while spelled.decimals < 9 && random.percent(chance) {
+        spelled = Decimal { digits: spelled.digits * 10, decimals: spelled.decimals + 1 };
+    }
+    while spelled.decimals > 0 && spelled.digits % 10 == 0 && random.percent(chance) {
+        spelled = Decimal { digits: spelled.digits / 10, decimals: spelled.decimals - 1 };
+    }
+    spelled.text()
+}
+
+/// A size above zero.
+pub fn size(random: &mut Random) -> String {
+    match random.below(30) {
+        0 => "9999999999.999999999".to_string(),
+        1 => "0.000000001".to_string(),
+        2 => "0.00000500".to_string(),
+        _ => {
+            let decimals = random.below(10);
+            let most = random.between(1, 9 + decimals) as u32;
+            let digits = 1 + random.next() % 10u64.pow(most);
+            Decimal { digits, decimals: decimals as u32 }.text()
+        }
+    }
+}
+
+pub fn zero(random: &mut Random) -> String {
+    Decimal { digits: 0, decimals: random.below(10) as u32 }.text()
+}
+
+/// A right snapshot with different prices.
+pub fn snapshot(random: &mut Random, book: &Book, market: &Market) -> Draft {
+    let mut lines = Vec::new();
+    for side in [Side::Bid, Side::Ask] {
+        let most = random.pick(&[0, 3, 12, 40, 100, 100]);
+        let wanted = if most == 100 { random.between(85, 100) } else { random.between(0, most) };
+        let mut seen = HashSet::new();
+        for _ in 0..wanted {
+            let price = market.price(random, side);
+            let value = Decimal::read(price.as_bytes()).map(Decimal::value);
+            if seen.insert(value) {
+                lines.push(Line { side, price, size: size(random) });
+            }
+        }
+    }
+    let gsn = match random.below(20) {
+        0 => "9999999999999999999".to_string(),
+        1 => "0".to_string(),
+        2 => book.number.to_string(),
+        _ => (random.next() % 1_000_000_000_000).to_string(),
+    };
+    finished(book, Draft { kind: Kind::Snapshot, lines, checksum: String::new(), gsn })
+}
+
+/// A right update; with `filling` it mostly adds levels.
+pub fn update(random: &mut Random, book: &Book, market: &Market, filling: bool) -> Draft {
+    let most = random.pick(&[0, 2, 2, 4, 4, 8, 30, MAX_ENTRIES]);
+    let wanted = if filling { random.between(10, MAX_ENTRIES) } else { random.between(0, most) };
+    let mut lines = Vec::new();
+    for _ in 0..wanted {
+        let side = if random.percent(50) { Side::Bid } else { Side::Ask };
+        let crowded = !filling && book.sides.side(side).len() + wanted / 2 > 95;
+        let removing = if filling { 3 } else { 30 };
+        lines.push(change(random, book, market, side, crowded, removing));
+    }
+    let step = random.pick(&[1, 1, 1, 2, 1000]);
+    let gsn = book.number.saturating_add(step).min(9_999_999_999_999_999_999).to_string();
+    finished(book, Draft { kind: Kind::Update, lines, checksum: String::new(), gsn })
+}
+
+/// A level set or, with `removing` in a hundred, removed. In a crowded book no new price comes.
+fn change(
+    random: &mut Random,
+    book: &Book,
+    market: &Market,
+    side: Side,
+    crowded: bool,
+    removing: usize,
+) -> Line {
+    let levels = book.sides.side(side);
+    let standing = !levels.is_empty() && (crowded || random.percent(40));
+    let price = if standing {
+        let level = random.pick(levels);
+        respelled(random, level.price, 20)
+    } else {
+        market.price(random, side)
+    };
+    let removed = random.percent(removing);
+    let size = if removed { zero(random) } else { size(random) };
+    Line { side, price, size }
+}
+
+/// The draft with the checksum of the book after it.
+pub fn finished(book: &Book, mut draft: Draft) -> Draft {
+    draft.checksum = right_checksum(book, &draft).unwrap_or(0).to_string();
+    draft
+}
+
+/// Nothing if a text of the draft is no decimal, or the book is shut.
+pub fn right_checksum(book: &Book, draft: &Draft) -> Option<u32> {
+    let settings = book.settings.as_ref()?;
+    let entry = |line: &Line| {
+        let price = Decimal::read(line.price.as_bytes())?;
+        let size = Decimal::read(line.size.as_bytes())?;
+        Some(Entry { side: line.side, level: Level { price, size } })
+    };
+    let entries = draft.lines.iter().map(entry).collect::<Option<Vec<Entry>>>()?;
+    let message = Message { kind: draft.kind, entries, checksum: None, gsn: 0 };
+    Some(book.after(settings, &message).checksum(settings.dialect))
+}
+
+impl Draft {
+    /// The draft as JSON, in one of the layouts that the dialect allows.
+    pub fn value(&self, random: &mut Random, settings: &Settings) -> Value {
+        match settings.dialect {
+            Dialect::K => self.value_k(random, settings),
+            Dialect::M => self.value_m(random, settings),
+        }
+    }
+
+    /// The entries of a side as an array; `rest` gives what follows the size.
+    fn entries(&self, random: &mut Random, side: Side, rest: fn(&mut Random) -> Vec<Value>) -> Value {
+        let lines = self.lines.iter().filter(|line| line.side == side);
+        let entry = |line: &Line| Value::Array([vec![text(&line.price), text(&line.size)], rest(random)].concat());
+        Value::Array(lines.map(entry).collect())
+    }
+
+    fn value_k(&self, random: &mut Random, settings: &Settings) -> Value {
+        let asks = self.entries(random, Side::Ask, timestamp);
+        let bids = self.entries(random, Side::Bid, timestamp);
+        let mut objects = match self.kind {
+            Kind::Snapshot => vec![vec![(key("as"), asks), (key("bs"), bids)]],
+            Kind::Update => self.objects_k(random, asks, bids),
+        };
+        for members in &mut objects {
+            pass_over(random, members);
+            random.shuffle(members);
+        }
+        let number = random.pick(&["0", "0", "1", "336", "9999999999999999999"]).to_string();
+        let mut items = vec![raw(&number)];
+        items.extend(objects.into_iter().map(Value::Object));
+        items.push(Value::Raw(quoted(&settings.channel())));
+        items.push(Value::Raw(quoted(&settings.name)));
+        Value::Array(items)
+    }
+
+    /// One object or two; a side without entries may be left out.
+    fn objects_k(&self, random: &mut Random, asks: Value, bids: Value) -> Vec<Vec<(Vec<u8>, Value)>> {
+        let has = |side| self.lines.iter().any(|line| line.side == side);
+        let mut sides = vec![(key("a"), asks), (key("b"), bids)];
+        if !has(Side::Bid) && random.percent(70) {
+            sides.remove(1);
+        } else if !has(Side::Ask) && random.percent(70) {
+            sides.remove(0);
+        }
+        random.shuffle(&mut sides);
+        let mut objects = if sides.len() == 2 && random.percent(50) {
+            sides.into_iter().map(|side| vec![side]).collect()
+        } else {
+            vec![sides]
+        };
+        if let Some(last) = objects.last_mut() {
+            last.push((key("c"), text(&self.checksum)));
+        }
+        objects
+    }
+
+    fn value_m(&self, random: &mut Random, settings: &Settings) -> Value {
+        let kind = if self.kind == Kind::Snapshot { "snapshot" } else { "update" };
+        let mut data = vec![
+            (key("bids"), self.entries(random, Side::Bid, |_| vec![])),
+            (key("asks"), self.entries(random, Side::Ask, |_| vec![])),
+        ];
+        if random.percent(30) {
+            data.push((key("gsn"), stray(random)));
+        }
+        pass_over(random, &mut data);
+        random.shuffle(&mut data);
+        let mut members = vec![
+            (key("channel"), text("book")),
+            (key("product"), Value::Raw(quoted(&settings.name))),
+            (key("type"), text(kind)),
+            (key("data"), Value::Object(data)),
+            (key("checksum"), raw(&self.checksum)),
+            (key("gsn"), raw(&self.gsn)),
+        ];
+        pass_over(random, &mut members);
+        if random.percent(50) {
+            random.shuffle(&mut members);
+        }
+        Value::Object(members)
+    }
+}
+
+/// A K entry's timestamp and whatever follows it.
+fn timestamp(random: &mut Random) -> Vec<Value> {
+    let mut rest = vec![text(random.pick(&["1582905487.439814", "0.000000", "t", "", "\\n", "\u{e9}"]))];
+    while random.percent(4) {
+        rest.push(if random.percent(50) { text("r") } else { stray(random) });
+    }
+    rest
+}
+
+/// Members that are not named, with anything in them.
+fn pass_over(random: &mut Random, members: &mut Vec<(Vec<u8>, Value)>) {
+    while random.percent(15) {
+        let name = random.pick(&["timestamp", "x", "", "prev_gsn", "\u{e9}", "A", "bs ", "version"]);
+        let value = match random.below(3) {
+            0 => stray(random),
+            1 => text("1764643130040025000"),
+            _ => {
+                let depth = random.between(1, 6);
+                nested(random, depth)
+            }
+        };
+        members.push((key(name), value));
+    }
+}

@@ -1,0 +1,222 @@
+//! The papers' own examples.
+
+use second_opinion::book::{Book, Scope, State};
+use second_opinion::message::{first_bad, Side};
+use second_opinion::settings::{Dialect, Settings};
+use second_opinion::lines::{line, lines};
+
+const EXAMPLE: &str = r#"M 100 BTC-VND
+{"channel":"book","product":"BTC-VND","type":"snapshot","data":{"bids":[["9","2"]],"asks":[["10","1"]]},"checksum":1226559413,"gsn":7}
+{"channel":"trades"}
+{"channel":"book"
+{"channel":"book","product":"BTC-VND","type":"update","data":{"bids":[],"asks":[]},"checksum":1226559413,"gsn":8}
+"#;
+
+const BOOK_001: &str = r#"[0,{
+"as": [
+[ "0.05005", "0.00000500", "1582905487.684110" ],
+[ "0.05010", "0.00000500", "1582905486.187983" ],
+[ "0.05015", "0.00000500", "1582905484.480241" ],
+[ "0.05020", "0.00000500", "1582905486.645658" ],
+[ "0.05025", "0.00000500", "1582905486.859009" ],
+[ "0.05030", "0.00000500", "1582905488.601486" ],
+[ "0.05035", "0.00000500", "1582905488.357312" ],
+[ "0.05040", "0.00000500", "1582905488.785484" ],
+[ "0.05045", "0.00000500", "1582905485.302661" ],
+[ "0.05050", "0.00000500", "1582905486.157467" ] ],
+"bs": [
+[ "0.05000", "0.00000500", "1582905487.439814" ],
+[ "0.04995", "0.00000500", "1582905485.119396" ],
+[ "0.04990", "0.00000500", "1582905486.432052" ],
+[ "0.04980", "0.00000500", "1582905480.609351" ],
+[ "0.04975", "0.00000500", "1582905476.793880" ],
+[ "0.04970", "0.00000500", "1582905486.767461" ],
+[ "0.04965", "0.00000500", "1582905481.767528" ],
+[ "0.04960", "0.00000500", "1582905487.378907" ],
+[ "0.04955", "0.00000500", "1582905483.626664" ],
+[ "0.04950", "0.00000500", "1582905488.509872" ] ]
+},"book-10","XBT/USD"]"#;
+
+fn open(dialect: Dialect, depth: u64, name: &str) -> Book {
+    Book::open(Settings::good(dialect, depth, name.as_bytes()))
+}
+
+fn k_book() -> Book {
+    open(Dialect::K, 10, "XBT/USD")
+}
+
+#[test]
+fn the_example_of_the_line_program() {
+    assert_eq!(lines(EXAMPLE.as_bytes()), ["0 1 1", "5 1 1", "3 - -", "10 - -"]);
+    assert!(lines(b"").is_empty());
+    assert_eq!(lines(b"\n\n"), ["1 - -"]);
+    assert_eq!(lines(b"M 100 a\n\n7"), ["3 - -", "5 - -"]);
+}
+
+#[test]
+fn the_book_of_001() {
+    let mut book = k_book();
+    assert_eq!(line(&mut book, BOOK_001.as_bytes()), "0 10 10");
+    assert_eq!(book.sides.checksum(Dialect::K), 974947235);
+    let update = |sum: &str| format!(r#"[0,{{"a":[],"c":"{sum}"}},"book-10","XBT/USD"]"#);
+    assert_eq!(line(&mut book, update("974947235").as_bytes()), "0 10 10");
+    assert_eq!(book.updates(Scope::Live), (0, 1));
+    assert_eq!(line(&mut book, update("974947236").as_bytes()), "13 - -");
+    assert_eq!(book.updates(Scope::LastGood), (0, 1));
+}
+
+#[test]
+fn the_text_of_three_levels() {
+    let mut book = open(Dialect::M, 100, "a");
+    let data = r#"{"bids":[["8","3"],["9","2"]],"asks":[["10","1"]]}"#;
+    let sum = second_opinion::crc::crc32(b"9:2:10:1:8:3");
+    let text = format!(r#"{{"channel":"book","product":"a","type":"snapshot","data":{data},"checksum":{sum},"gsn":0}}"#);
+    assert_eq!(line(&mut book, text.as_bytes()), "0 2 1");
+    assert_eq!(book.sides.checksum_text(Dialect::M), "9:2:10:1:8:3");
+}
+
+#[test]
+fn the_text_of_the_writer() {
+    let text = br#"[0,{"as":[["0.05005","0.00000500","0.000000"]],"bs":[]},"book-10","XBT/USD"]"#;
+    let mut book = k_book();
+    assert_eq!(book.take(text), 0);
+    let mut room = vec![7; text.len() + 1];
+    assert_eq!(book.write(&mut room), (0, text.len()));
+    assert_eq!(&room[..text.len()], text);
+    assert_eq!(room[text.len()], 7);
+    let mut room = vec![7; text.len() - 1];
+    assert_eq!(book.write(&mut room), (15, 0));
+    assert!(room.iter().all(|&byte| byte == 7));
+}
+
+#[test]
+fn the_writer_gives_back_the_example() {
+    let snapshot = EXAMPLE.lines().nth(1).unwrap().as_bytes();
+    let mut book = open(Dialect::M, 100, "BTC-VND");
+    assert_eq!(book.take(snapshot), 0);
+    let mut room = vec![0; snapshot.len()];
+    assert_eq!(book.write(&mut room), (0, snapshot.len()));
+    assert_eq!(room, snapshot);
+}
+
+#[test]
+fn a_cut_comes_after_the_whole_message() {
+    let mut book = k_book();
+    assert_eq!(book.take(BOOK_001.as_bytes()), 0);
+    let mut after = book.sides.clone();
+    after.asks.remove(0);
+    let better = second_opinion::message::Level {
+        price: second_opinion::decimal::Decimal::read(b"0.05001").unwrap(),
+        size: second_opinion::decimal::Decimal::read(b"1").unwrap(),
+    };
+    after.asks.insert(0, better);
+    let sum = after.checksum(Dialect::K);
+    let text = format!(
+        r#"[0,{{"a":[["0.05001","1","t"],["0.05005","0.0","t"]]}},{{"b":[],"c":"{sum}"}},"book-10","XBT/USD"]"#
+    );
+    assert_eq!(line(&mut book, text.as_bytes()), "0 10 10");
+    assert_eq!(book.sides, after);
+}
+
+#[test]
+fn escapes_and_names() {
+    let mut book = k_book();
+    assert_eq!(book.take(br#"[0,{"as":[],"bs":[]},"book-10","XBT\/USD"]"#), 4);
+    assert_eq!(book.take(br#"[1,2,"\n","trade"]"#), 4);
+    assert_eq!(book.take(br#"[1,"\n",3,"trade"]"#), 5);
+    assert_eq!(book.take(br#"[1,2,["\n"],"trade"]"#), 5);
+    assert_eq!(book.take(br#"["\n","\n","\n"]"#), 5);
+    assert_eq!(book.take(br#"[0,{"as":[],"bs":[],"\u0061s":[]},"book-10","XBT/USD"]"#), 0);
+    assert_eq!(book.take(br#"[0,{"as":[],"bs":[],"as":[]},"book-10","XBT/USD"]"#), 6);
+    assert_eq!(book.state, State::Waiting);
+}
+
+#[test]
+fn questions_in_their_order() {
+    let shut = Book::open(None);
+    assert_eq!(shut.levels(Scope::LastGood), (1, 0, 0));
+    assert_eq!(shut.write(&mut []), (1, 0));
+    let mut book = k_book();
+    assert_eq!(book.levels(Scope::LastGood), (10, 0, 0));
+    assert_eq!(book.level(Scope::Live, Side::Bid, 0).0, 10);
+    assert_eq!(book.take(BOOK_001.as_bytes()), 0);
+    assert_eq!(book.level(Scope::Live, Side::Bid, 9).1.price.text(), "0.04950");
+    assert_eq!(book.level(Scope::Live, Side::Bid, 10).0, 14);
+    assert_eq!(book.take(b""), 3);
+    assert_eq!(book.levels(Scope::Live), (10, 0, 0));
+    assert_eq!(book.levels(Scope::LastGood), (0, 10, 10));
+}
+
+#[test]
+fn the_first_bad_decimal() {
+    let settings = Settings::good(Dialect::K, 10, b"XBT/USD");
+    let message = br#" [0,{"b":[["1","0","t"]],"a":[["2","05","t"],["0","x","t"]],"c":"0"},"book-10","XBT/USD"]"#;
+    let found = first_bad(settings.as_ref(), message);
+    assert_eq!(&message[found], b"\"05\"");
+    assert_eq!(first_bad(None, message), 0..0);
+    assert_eq!(first_bad(settings.as_ref(), b"["), 0..0);
+}
+
+/// An M message of product `a`.
+fn m_text(kind: &str, bids: &str, checksum: u32, gsn: u64) -> Vec<u8> {
+    let data = format!(r#"{{"bids":[{bids}],"asks":[]}}"#);
+    format!(r#"{{"channel":"book","product":"a","type":"{kind}","data":{data},"checksum":{checksum},"gsn":{gsn}}}"#)
+        .into_bytes()
+}
+
+#[test]
+fn a_hundred_entries_and_one_more() {
+    let entries = |count: u32| (1..=count).map(|price| format!(r#"["{price}","1"]"#)).collect::<Vec<_>>().join(",");
+    let text: Vec<String> = (1..=100).rev().map(|price| format!("{price}:1")).collect();
+    let checksum = second_opinion::crc::crc32(text.join(":").as_bytes());
+    let mut book = open(Dialect::M, 100, "a");
+    assert_eq!(line(&mut book, &m_text("snapshot", &entries(101), 0, 1)), "7 - -");
+    assert_eq!(line(&mut book, &m_text("snapshot", &entries(100), checksum, 1)), "0 100 0");
+    assert_eq!(line(&mut book, &m_text("update", r#"["101","1"]"#, 0, 2)), "12 - -");
+    assert_eq!(line(&mut book, &m_text("snapshot", &entries(100), checksum, 1)), "0 100 0");
+    assert_eq!(line(&mut book, &m_text("update", r#"["101","1"],["101.0","0"]"#, checksum, 2)), "0 100 0");
+}
+
+#[test]
+fn an_equal_gsn_and_one_more() {
+    let mut book = open(Dialect::M, 100, "a");
+    assert_eq!(book.take(&m_text("snapshot", "", 0, 7)), 0);
+    assert_eq!(book.take(&m_text("update", "", 0, 8)), 0);
+    assert_eq!(book.book_number(Scope::Live), (0, 8));
+    assert_eq!(book.take(&m_text("update", "", 0, 8)), 11);
+    assert_eq!(book.book_number(Scope::LastGood), (0, 8));
+    assert_eq!(book.take(&m_text("snapshot", "", 0, 3)), 0);
+    assert_eq!((book.book_number(Scope::Live), book.updates(Scope::Live)), ((0, 3), (0, 0)));
+}
+
+#[test]
+fn one_price_twice() {
+    let mut book = open(Dialect::M, 100, "a");
+    let twice = r#"["0.5","1"],["0.50","2"]"#;
+    assert_eq!(book.take(&m_text("snapshot", twice, 0, 1)), 9);
+    assert_eq!(book.take(&m_text("snapshot", "", 0, 1)), 0);
+    let checksum = second_opinion::crc::crc32(b"0.50:2");
+    assert_eq!(line(&mut book, &m_text("update", twice, checksum, 2)), "0 1 0");
+}
+
+#[test]
+fn the_samples_of_the_venues() {
+    let mut book = open(Dialect::M, 100, "BTC-VND");
+    assert_eq!(book.take(EXAMPLE.lines().nth(1).unwrap().as_bytes()), 0);
+    let sample = br#"{
+"channel": "book",
+"product": "BTC-VND",
+"type": "update",
+"data": {
+"bids": [["2275689000", "2.249857"]],
+"asks": [],
+"timestamp": "1764643130040025000",
+"gsn": 2309207234
+},
+"checksum": 2734336218,
+"timestamp": "1764643130040025000",
+"gsn": 2309207234
+}"#;
+    assert_eq!(book.take(sample), 13);
+    assert_eq!(book.take(sample), 10);
+}

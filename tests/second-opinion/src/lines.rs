@@ -70,7 +70,7 @@ pub fn first_difference(ours: &[String], theirs: &[String]) -> Option<usize> {
     (0..ours.len().max(theirs.len())).find(|&place| ours.get(place) != theirs.get(place))
 }
 
-/// Where `program` prints another line for this session.
+/// Where `program` prints another line for the same calls.
 fn differs(program: &Path, session: &Session, finished: bool) -> std::io::Result<Option<usize>> {
     let input = input(session, finished);
     Ok(first_difference(&lines(&input), &run(program, &input)?))

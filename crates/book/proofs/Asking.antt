@@ -93,7 +93,7 @@ module _ (b : Book) (scope : Scope) where
   p = shows b
 
   abbrev yes : Bool
-  yes = answers (statusOf (b .state)) (b .ever) scope
+  yes = answers (statusOf (b .standing .state)) (b .standing .ever) scope
 
   pub counts-yes : Good b → yes ≡ true → AnswersCounts b scope (record { book = b; answer = Taken; bids = b .bids .count; asks = b .asks .count })
   unfolding does shows
@@ -105,11 +105,11 @@ module _ (b : Book) (scope : Scope) where
         value = λ x. ap₂ counts (held-count (b .bids) Bids (g .bids .good)) (held-count (b .asks) Asks (g .asks .good)) ∙ sym (if-yes (asked scope p) _ _ a);
       }
 
-  pub counts-no : yes ≡ false → (a : Answer) → a ≡ refusalOf (statusOf (b .state)) → AnswersCounts b scope (record { book = b; answer = a; bids = 0; asks = 0 })
+  pub counts-no : yes ≡ false → (a : Answer) → a ≡ refusalOf (statusOf (b .standing .state)) → AnswersCounts b scope (record { book = b; answer = a; bids = 0; asks = 0 })
   unfolding does shows
   counts-no h a e =
       let n = asked-no p scope h in
-      record { book = refl; answer = λ x. e ∙ sym n; value = λ x. sym (if-no (asked scope p) (statusOf (b .state)) _ _ n) }
+      record { book = refl; answer = λ x. e ∙ sym n; value = λ x. sym (if-no (asked scope p) (statusOf (b .standing .state)) _ _ n) }
 
   -- ---- the sequence number and the count of updates
 
@@ -117,21 +117,21 @@ module _ (b : Book) (scope : Scope) where
   unfolding does shows
   number-yes h = let a = asked-yes p scope h in record { book = refl; answer = λ x. sym a; value = λ x. ap amount (sym (if-yes (asked scope p) _ _ a)) }
 
-  pub number-no : yes ≡ false → (a : Answer) → a ≡ refusalOf (statusOf (b .state)) → AnswersAmount b (whichNumber scope) (record { book = b; answer = a; amount = 0 })
+  pub number-no : yes ≡ false → (a : Answer) → a ≡ refusalOf (statusOf (b .standing .state)) → AnswersAmount b (whichNumber scope) (record { book = b; answer = a; amount = 0 })
   unfolding does shows
   number-no h a e =
       let n = asked-no p scope h in
-      record { book = refl; answer = λ x. e ∙ sym n; value = λ x. ap amount (sym (if-no (asked scope p) (statusOf (b .state)) _ _ n)) }
+      record { book = refl; answer = λ x. e ∙ sym n; value = λ x. ap amount (sym (if-no (asked scope p) (statusOf (b .standing .state)) _ _ n)) }
 
   pub updates-yes : yes ≡ true → AnswersAmount b (howManyUpdates scope) (record { book = b; answer = Taken; amount = b .updates })
   unfolding does shows
   updates-yes h = let a = asked-yes p scope h in record { book = refl; answer = λ x. sym a; value = λ x. ap amount (sym (if-yes (asked scope p) _ _ a)) }
 
-  pub updates-no : yes ≡ false → (a : Answer) → a ≡ refusalOf (statusOf (b .state)) → AnswersAmount b (howManyUpdates scope) (record { book = b; answer = a; amount = 0 })
+  pub updates-no : yes ≡ false → (a : Answer) → a ≡ refusalOf (statusOf (b .standing .state)) → AnswersAmount b (howManyUpdates scope) (record { book = b; answer = a; amount = 0 })
   unfolding does shows
   updates-no h a e =
       let n = asked-no p scope h in
-      record { book = refl; answer = λ x. e ∙ sym n; value = λ x. ap amount (sym (if-no (asked scope p) (statusOf (b .state)) _ _ n)) }
+      record { book = refl; answer = λ x. e ∙ sym n; value = λ x. ap amount (sym (if-no (asked scope p) (statusOf (b .standing .state)) _ _ n)) }
 
 -- ---- a level
 
@@ -152,7 +152,7 @@ module _ (b : Book) (scope : Scope) (side : Side) (i : ℕ) where
   q = shows b
 
   abbrev open′ : Bool
-  open′ = answers (statusOf (b .state)) (b .ever) scope
+  open′ = answers (statusOf (b .standing .state)) (b .standing .ever) scope
 
   in-here : (s : Side) (l : Level) → levelIn b s i ≡ At l → placeAt i (sideOf s q) ≡ standing (shown l)
   unfolding levelIn sideOf shows
@@ -188,15 +188,15 @@ module _ (b : Book) (scope : Scope) (side : Side) (i : ℕ) where
         value = λ y. ap level (sym (if-yes (asked scope q) _ _ a ∙ ap placeLevel w));
       }
 
-  pub level-no : open′ ≡ false → (a : Answer) → a ≡ refusalOf (statusOf (b .state))
+  pub level-no : open′ ≡ false → (a : Answer) → a ≡ refusalOf (statusOf (b .standing .state))
       → AnswersLevel b scope side i (record { book = b; answer = a; price = record { digits = 0; decimals = 0 }; size = record { digits = 0; decimals = 0 } })
   unfolding does askedLevel levelAsked number shows
   level-no h a e =
       let n = asked-no q scope h in
       record {
         book = refl;
-        answer = λ y. e ∙ sym (if-no (asked scope q) (statusOf (b .state)) _ _ n ∙ n);
-        value = λ y. ap level (sym (if-no (asked scope q) (statusOf (b .state)) _ _ n));
+        answer = λ y. e ∙ sym (if-no (asked scope q) (statusOf (b .standing .state)) _ _ n ∙ n);
+        value = λ y. ap level (sym (if-no (asked scope q) (statusOf (b .standing .state)) _ _ n));
       }
 
 -- ---- opening
@@ -234,7 +234,7 @@ kept-good t h = at (good t) refl h
 
 module _ (t : Terms) (c : Settings) (h : Chosen t c) (none : Levels) (e : Empty none) (state : State) (f : state ≡ firstState (c .dialect)) where
   abbrev b : Book
-  b = record { settings = c; state = state; ever = false; bids = none; asks = none; number = 0; updates = 0 }
+  b = record { bids = none; asks = none; settings = c; number = 0; updates = 0; standing = record { state = state; ever = false } }
 
   dialect-kept : c .dialect ≡ kept t .dialect
   unfolding termsOf

@@ -6,11 +6,11 @@ use mathlib.Core.Bool.{Bool, true, false, true≢false, _&&_, _||_, not, cond}
 use Prim.Native.Nat.{ℕ}
 use native.Mathlib.Omega.{arith}
 use lib.Dec.{eqb, leb}
-use Rattle.settings.specs.Settings.{termsOf}
+use Rattle.settings.specs.declared.Dialect.{Dialect}
 use Rattle.layout.specs.Layout.{Printed, printed, unprinted, Layout}
 use Rattle.layout.specs.Told.{isPrinted, sumOf}
 use Rattle.message.specs.Answers.{number}
-use Rattle.message.specs.Meaning.{Checked, fails, passes, checked, Message, messageOf, refuses, says, saidOf, said}
+use Rattle.message.specs.Meaning.{Checked, fails, passes, checked, Message, messageOf, saidOf, said}
 use Rattle.message.specs.Verdict.{verdictOf}
 use Rattle.message.specs.declared.Answer.{Answer}
 use Rattle.message.specs.declared.Answer.the-variants.{Taken, Shut, PriceTwice, NoSnapshot, OldNumber, TooManyLevels, WrongChecksum}
@@ -19,42 +19,48 @@ use Rattle.message.specs.declared.Verdict.the-variants.{Fails, Passes}
 use Rattle.layout.specs.declared.Outline.{Outline}
 use Rattle.layout.specs.Told.{outlineOf}
 use Rattle.decimal.specs.Digits.{reads}
-use Rattle.book.specs.Reference.{Status, isShut, isLive, Reference, checksumOf, namesPriceTwice, lacksSnapshot, isOld, hasTooMany, differs, hasWrongChecksum, bidsAfter, asksAfter, verdict, After, taken, leavesStatus, setWaiting, refusedBy, isTaken, answered, hearing, hear}
+use Rattle.book.specs.Reference.{isShut, isLive, Reference, checksumOf, namesPriceTwice, lacksSnapshot, isOld, hasTooMany, differs, hasWrongChecksum, verdict, After, taken, leavesStatus, setWaiting, refusedBy, isTaken, answered, hearing, hear}
 use Rattle.settings.specs.Settings.{isM}
 use Rattle.book.specs.Shown.{statusOf, shows, Good, Told}
-use Rattle.book.specs.Taking.{waitingBook, refusedStep, keptStep, settledStep}
+use Rattle.book.specs.Taking.{refusedStanding, refusedStep, judgedUpdate, weighed}
+use Rattle.book.specs.declared.State.{State}
 use Rattle.book.specs.declared.State.the-variants.{Waiting}
 use Rattle.side.specs.Level.{shown}
 use Rattle.side.specs.Kept.{held}
 use Rattle.side.specs.declared.Levels.{Levels}
 use borrow.Author.Tests.{eq-eqb, ne-eqb}
 use Rattle.book.specs.declared.Book.{Book}
+use Rattle.book.specs.declared.Standing.{Standing}
 use Rattle.book.specs.declared.Step.{Step}
 
 -- ---- a refusal
 
-module _ (b : Book) (g : Good b) (u : isShut (statusOf (b .state)) ≡ false) where
-  waiting-good : Good (waitingBook b)
-  unfolding waitingBook
-  waiting-good =
-      record {
-        room = g .room;
-        short = g .short;
-        terms = λ h. g .terms u;
-        bids = g .bids;
-        asks = g .asks;
-        few-bids = g .few-bids;
-        few-asks = g .few-asks;
-        small = g .small;
-      }
-
+module _ (b : Book) (g : Good b) (u : isShut (statusOf (b .standing .state)) ≡ false) where
   pub refused-told : (a : Answer) → Told (refusedBy (shows b) a) (refusedStep b a)
-  unfolding refusedBy refusedStep setWaiting waitingBook shows statusOf
+  unfolding refusedBy refusedStep refusedStanding setWaiting shows statusOf
   refused-told a = at (leavesStatus a)
     where
-      at : (t : Bool) → Told (record { book = cond t (shows b) (setWaiting (shows b)); answer = a }) (record { book = cond t b (waitingBook b); answer = a })
+      at : (t : Bool) → Told (record { book = cond t (shows b) (setWaiting (shows b)); answer = a })
+          (record {
+            book = record { bids = b .bids; asks = b .asks; settings = b .settings; number = b .number; updates = b .updates; standing = record { state = cond t (b .standing .state) Waiting; ever = b .standing .ever } };
+            answer = a;
+          })
       at true = record { good = g; same = refl; answer = refl }
-      at false = record { good = waiting-good; same = refl; answer = refl }
+      at false =
+          record {
+            good = record { room = g .room; short = g .short; terms = λ h. g .terms u; bids = g .bids; asks = g .asks; few-bids = g .few-bids; few-asks = g .few-asks; small = g .small };
+            same = refl;
+            answer = refl;
+          }
+
+-- how a book stands after it
+pub refused-left : (x : Standing) (a : Answer) → leavesStatus a ≡ true → x ≡ refusedStanding x a
+unfolding refusedStanding
+refused-left x a h = sym (rw (h, refusedStanding))
+
+pub refused-waits : (x : Standing) (a : Answer) → leavesStatus a ≡ false → record { state = Waiting; ever = x .ever } ≡ refusedStanding x a
+unfolding refusedStanding
+refused-waits x a h = sym (rw (h, refusedStanding))
 
 -- a book that shows the same answers the same
 pub told-as : {x y : After} (r : Step) → x ≡ y → Told y r → Told x r
@@ -65,6 +71,11 @@ told-as r h t = subst (λ (z : After). Told z r) (sym h) t
 pub hear-shut : (p : Reference) (s : List ℕ) → isShut (p .status) ≡ true → hear p s ≡ record { book = p; answer = Shut }
 unfolding hear
 hear-shut p s u = rw (u, hear)
+
+-- a shut book answers so, and stays as it is
+pub shut-told : (b : Book) (s : List ℕ) → Good b → isShut (statusOf (b .standing .state)) ≡ true → Told (hear (shows b) s) (refusedStep b Shut)
+unfolding shows refusedStep refusedStanding leavesStatus
+shut-told b s g u = told-as (refusedStep b Shut) (hear-shut (shows b) s u) (record { good = g; same = refl; answer = refl })
 
 module _ (p : Reference) (s : List ℕ) (u : isShut (p .status) ≡ false) where
   pub hear-fails : (a : Answer) → checked (p .terms) s ≡ fails a → hear p s ≡ refusedBy p a
@@ -161,30 +172,66 @@ unfolding differs isPrinted sumOf
 differs-is (printed n) sum = refl
 differs-is unprinted sum = refl
 
--- ---- the steps of the code, one test at a time
+-- ---- checks 10 and 11 in numbers, one test at a time
 
-module _ (b : Book) (a : Answer) where
-  pub step-left : leavesStatus a ≡ true → record { book = b; answer = a } ≡ refusedStep b a
-  unfolding refusedStep
-  step-left h = sym (rw (h, refusedStep))
+module _ (state : State) (m : Bool) (n : ℕ) (o : Outline) where
+  pub judged-snapshot : o .snapshot ≡ true → Passes o ≡ judgedUpdate state m n o
+  unfolding judgedUpdate
+  judged-snapshot h = sym (pick (o .snapshot) h)
+    where
+      pick : (t : Bool) → t ≡ true → cond t (Passes o) (cond (isLive (statusOf state)) (cond (m && leb (o .number) n) (Fails OldNumber) (Passes o)) (Fails NoSnapshot)) ≡ Passes o
+      pick true e = refl
+      pick false e = absurd (true≢false (sym e))
 
-  pub step-waiting : leavesStatus a ≡ false
-      → record { book = record { settings = b .settings; state = Waiting; ever = b .ever; bids = b .bids; asks = b .asks; number = b .number; updates = b .updates }; answer = a } ≡ refusedStep b a
-  unfolding refusedStep waitingBook
-  step-waiting h = sym (rw (h, refusedStep))
+  module _ (h : o .snapshot ≡ false) where
+    pub judged-idle : isLive (statusOf state) ≡ false → Fails NoSnapshot ≡ judgedUpdate state m n o
+    unfolding judgedUpdate
+    judged-idle l = sym (pick (o .snapshot) (isLive (statusOf state)) h l)
+      where
+        pick : (t x : Bool) → t ≡ false → x ≡ false → cond t (Passes o) (cond x (cond (m && leb (o .number) n) (Fails OldNumber) (Passes o)) (Fails NoSnapshot)) ≡ Fails NoSnapshot
+        pick true x e f = absurd (true≢false e)
+        pick false true e f = absurd (true≢false f)
+        pick false false e f = refl
 
-module _ (b : Book) (o : Outline) (bids asks : Levels) (updates : ℕ) (ever : Bool) where
+    pub judged-live : isLive (statusOf state) ≡ true → cond (m && leb (o .number) n) (Fails OldNumber) (Passes o) ≡ judgedUpdate state m n o
+    unfolding judgedUpdate
+    judged-live l = sym (pick (o .snapshot) (isLive (statusOf state)) h l)
+      where
+        pick : (t x : Bool) → t ≡ false → x ≡ true → cond t (Passes o) (cond x (cond (m && leb (o .number) n) (Fails OldNumber) (Passes o)) (Fails NoSnapshot)) ≡ cond (m && leb (o .number) n) (Fails OldNumber) (Passes o)
+        pick true x e f = absurd (true≢false e)
+        pick false true e f = refl
+        pick false false e f = absurd (true≢false (sym f))
+
+    pub judged-old : isLive (statusOf state) ≡ true → (m && leb (o .number) n) ≡ true → Fails OldNumber ≡ judgedUpdate state m n o
+    judged-old l e = sym (ap (λ (t : Bool). cond t (Fails OldNumber) (Passes o)) e) ∙ judged-live l
+
+    pub judged-new : isLive (statusOf state) ≡ true → (m && leb (o .number) n) ≡ false → Passes o ≡ judgedUpdate state m n o
+    judged-new l e = sym (ap (λ (t : Bool). cond t (Fails OldNumber) (Passes o)) e) ∙ judged-live l
+
+-- ---- checks 9, 12 and 13 in numbers, one test at a time
+
+module _ (o : Outline) (d : Dialect) (met over : Bool) (bids asks : Levels) where
   abbrev sum : ℕ
-  sum = checksumOf (b .settings .dialect) (map shown (held bids)) (map shown (held asks))
+  sum = checksumOf d (map shown (held bids)) (map shown (held asks))
 
-  pub settle-unprinted : o .printed ≡ false → keptStep b (o .number) bids asks updates ever ≡ settledStep b o bids asks updates ever
-  unfolding settledStep
-  settle-unprinted h = sym (rw (h, settledStep))
+  pub weighed-twice : (o .snapshot && met) ≡ true → PriceTwice ≡ weighed o d met over bids asks
+  unfolding weighed
+  weighed-twice h = sym (rw (h, weighed))
 
-  pub settle-right : o .printed ≡ true → o .checksum ≡ sum → keptStep b (o .number) bids asks updates ever ≡ settledStep b o bids asks updates ever
-  unfolding settledStep
-  settle-right h g = let e = eq-eqb (o .checksum) sum g in sym (rw (h, e, settledStep))
+  module _ (a : (o .snapshot && met) ≡ false) where
+    pub weighed-over : (not (o .snapshot) && (isM d && over)) ≡ true → TooManyLevels ≡ weighed o d met over bids asks
+    unfolding weighed
+    weighed-over h = sym (rw (a, h, weighed))
 
-  pub settle-wrong : o .printed ≡ true → (o .checksum ≡ sum → ⊥) → refusedStep b WrongChecksum ≡ settledStep b o bids asks updates ever
-  unfolding settledStep
-  settle-wrong h g = let e = ne-eqb (o .checksum) sum g in sym (rw (h, e, settledStep))
+    module _ (b : (not (o .snapshot) && (isM d && over)) ≡ false) where
+      pub weighed-unprinted : o .printed ≡ false → Taken ≡ weighed o d met over bids asks
+      unfolding weighed
+      weighed-unprinted h = sym (rw (a, b, h, weighed))
+
+      pub weighed-right : o .printed ≡ true → o .checksum ≡ sum → Taken ≡ weighed o d met over bids asks
+      unfolding weighed
+      weighed-right h g = let e = eq-eqb (o .checksum) sum g in sym (rw (a, b, h, e, weighed))
+
+      pub weighed-wrong : o .printed ≡ true → (o .checksum ≡ sum → ⊥) → WrongChecksum ≡ weighed o d met over bids asks
+      unfolding weighed
+      weighed-wrong h g = let e = ne-eqb (o .checksum) sum g in sym (rw (a, b, h, e, weighed))

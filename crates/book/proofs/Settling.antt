@@ -19,8 +19,8 @@ use Rattle.entries.specs.Rows.{Row, numberAt, badPrice, badSize, badTexts}
 use Rattle.entries.specs.Summary.{zeroSize, anyBroken, anyZero}
 use Rattle.entries.proofs.Claims.{zero-none}
 use Rattle.side.specs.Level.{PriceLevel, shown, shownPrice}
-use Rattle.side.specs.Side.{Edit, sets, removes, All, IsSet, named, namesTwice, applyAll, ranked, afterMessage, met}
-use Rattle.side.specs.Kept.{held, Empty}
+use Rattle.side.specs.Side.{Edit, sets, removes, All, IsSet, named, namesTwice, Sorted, applyAll, ranked, afterMessage, met}
+use Rattle.side.specs.Kept.{held}
 use Rattle.side.specs.Kept as kept·
 use Rattle.piece.specs.Piece.{kPiece, mPiece}
 use Rattle.checksum.specs.Carried.{Carries}
@@ -31,24 +31,29 @@ use Rattle.side.specs.declared.Applied.{Applied}
 use Rattle.side.proofs.Lengths.{length-ranked, length-applyAll, afterMessage-whole}
 use Rattle.side.proofs.Meeting.{met-snapshot}
 use Rattle.sides.specs.Worked.{Sound, editsAt, Worked}
+use Rattle.sides.proofs.Working.{none-worked}
 use Rattle.loader.specs.Reading.{Ready}
-use Rattle.layout.specs.Layout.{Layout, Listed}
+use Rattle.layout.specs.Layout.{Layout}
 use Rattle.layout.specs.Told.{isPrinted, sumOf, outlineOf}
 use Rattle.layout.specs.declared.Outline.{Outline}
-use Rattle.message.specs.Meaning.{Quote, Message, quoteAt, quotesOf, messageOf, bad, passes, checked}
+use Rattle.message.specs.Meaning.{Quote, Message, quoteAt, messageOf, bad, passes}
+use Rattle.message.specs.Answers.{number}
+use Rattle.message.specs.declared.Answer.{Answer}
+use Rattle.message.specs.declared.Verdict.{Verdict}
+use Rattle.message.specs.declared.Verdict.the-variants.{Fails, Passes}
 use Rattle.message.specs.declared.Answer.the-variants.{Taken, PriceTwice, NoSnapshot, OldNumber, TooManyLevels, WrongChecksum}
 use Rattle.message.proofs.Where.{entryIn, LieIn, framed-lies}
-use Rattle.book.specs.Reference.{Status, isShut, isLive, Reference, editOf, cut, afterQuotes, bidsAfter, asksAfter, pricesOf, checksumOf, namesPriceTwice, lacksSnapshot, isOld, hasTooMany, hasWrongChecksum, verdict, oneMore, After, taken, refusedBy, answered, hear}
+use Rattle.book.specs.Reference.{isLive, Reference, editOf, cut, afterQuotes, bidsAfter, asksAfter, pricesOf, checksumOf, namesPriceTwice, lacksSnapshot, isOld, hasTooMany, hasWrongChecksum, verdict, taken, refusedBy, isTaken, answered, hear}
 use Rattle.settings.specs.Settings.{isM}
 use Rattle.book.specs.Shown.{statusOf, shows, Good, Told}
-use Rattle.book.specs.Taking.{Passed, refusedStep, keptStep, settledStep}
+use Rattle.book.specs.Taking.{Passed, liveStanding, refusedStep, keptStep, judgedUpdate, Judged, weighed}
 use Rattle.book.specs.declared.Book.{Book}
 use Rattle.book.specs.declared.State.{State}
-use Rattle.book.specs.declared.State.the-variants.{Live}
 use Rattle.book.specs.declared.Step.{Step}
-use Rattle.book.proofs.Refusing.{refused-told, told-as, hear-passes, nine, ten, eleven, twelve, thirteen, none-fits, snapshot-not-old, snapshot-lacks-none, update-names-once, update-lacks, update-old, differs-is}
+use Rattle.book.proofs.Refusing.{refused-told, told-as, hear-passes, nine, ten, eleven, twelve, thirteen, none-fits, snapshot-not-old, snapshot-lacks-none, update-names-once, update-lacks, update-old, differs-is, judged-snapshot, judged-new}
 use Rattle.message.proofs.Entering.{Readable, is-k, is-m, good-readable, or-none, also-framed, framed-few, listed-ready}
 use Rattle.book.proofs.Entering.{listed-edits}
+use Rattle.book.proofs.Outcome.{taken-answer}
 
 -- ---- settings
 
@@ -143,6 +148,26 @@ pub over-is : (t : Bool) (x y u v : ℕ) → (t ≡ true → x ≡ u) → (t ≡
 over-is true x y u v f g = rw (f refl, g refl)
 over-is false x y u v f g = refl
 
+-- an update that passes checks 10 and 11 comes to a live book, and is not old
+update-passed : (state : State) (m : Bool) (n : ℕ) (o : Outline) → o .snapshot ≡ false → judgedUpdate state m n o ≡ Passes o
+    → (isLive (statusOf state) ≡ true) × ((m && leb (o .number) n) ≡ false)
+unfolding judgedUpdate
+update-passed state m n o h j = at (o .snapshot) (isLive (statusOf state)) (m && leb (o .number) n) h j
+  where
+    at : (t x y : Bool) → t ≡ false → cond t (Passes o) (cond x (cond y (Fails OldNumber) (Passes o)) (Fails NoSnapshot)) ≡ Passes o → (x ≡ true) × (y ≡ false)
+    at true x y g e = absurd (true≢false g)
+    at false true true g e = let z : _≡_ {A = ℕ} 0 1 = cc in absurd (omega arith)
+    at false true false g e = (refl, refl)
+    at false false y g e = let z : _≡_ {A = ℕ} 0 1 = cc in absurd (omega arith)
+
+-- a side before the entries: the book's own, and with no level before those of a snapshot
+abbrev pub before : Outline → Levels → Levels
+before o kept = record { items = kept .items; count = cond (o .snapshot) 0 (kept .count) }
+
+-- what becomes of a side for which the message has no entries
+abbrev pub idle : Outline → Levels → Applied
+idle o kept = record { levels = before o kept; count = before o kept .count; met = false }
+
 -- ---- a message that passes
 
 module _ (b : Book) (s : List ℕ) (o : Outline) (k : Passed b s o) where
@@ -224,7 +249,10 @@ module _ (b : Book) (s : List ℕ) (o : Outline) (k : Passed b s o) where
   refuse-as a e = told-as (refusedStep b a) (heard-is ∙ e) (refused-told b (k .good) (k .unshut) a)
 
   -- ---- check 13, and then the book with these sides
-  module _ (bids asks : Levels) (updates : ℕ) (ever : Bool) where
+  abbrev finished : Levels → Levels → Answer → Step
+  finished bids asks a = cond (isTaken a) (keptStep b o bids asks) (refusedStep b a)
+
+  module _ (bids asks : Levels) where
     pub record Settles : Type 0 where
       pub bids-sound : Sound (isM d) Bids bids
       pub asks-sound : Sound (isM d) Asks asks
@@ -232,15 +260,16 @@ module _ (b : Book) (s : List ℕ) (o : Outline) (k : Passed b s o) where
       pub asks-few : length (held asks) ≤ b .settings .depth
       pub bids-are : map shown (held bids) ≡ bidsAfter p m
       pub asks-are : map shown (held asks) ≡ asksAfter p m
-      pub counts : updates ≡ cond (m .snapshot) 0 (oneMore (b .updates))
-      pub was : ever ≡ (m .snapshot || b .ever)
       pub not-twice : namesPriceTwice m ≡ false
       pub not-lacking : lacksSnapshot p m ≡ false
       pub not-old : isOld p m ≡ false
       pub not-many : hasTooMany p m ≡ false
 
-    pub settled-told : Settles → Told (hear p s) (settledStep b o bids asks updates ever)
-    unfolding settledStep hasWrongChecksum shows termsOf keptStep taken statusOf
+    abbrev wrong : Bool
+    wrong = o .printed && not (eqb (o .checksum) (checksumOf d (map shown (held bids)) (map shown (held asks))))
+
+    pub settled-told : Settles → Told (hear p s) (finished bids asks (cond wrong WrongChecksum Taken))
+    unfolding hasWrongChecksum shows termsOf keptStep liveStanding taken statusOf isTaken number
     settled-told z = at (hasWrongChecksum p m) refl
       where
         test : (o .printed && not (eqb (o .checksum) (checksumOf d (map shown (held bids)) (map shown (held asks))))) ≡ hasWrongChecksum p m
@@ -249,7 +278,7 @@ module _ (b : Book) (s : List ℕ) (o : Outline) (k : Passed b s o) where
             ∙ sym (differs-is (m .checksum) (checksumOf d (map shown (held bids)) (map shown (held asks))))
             ∙ rw (z .bids-are, z .asks-are)
 
-        fresh : Told (record { book = taken p m; answer = Taken }) (keptStep b (o .number) bids asks updates ever)
+        fresh : Told (record { book = taken p m; answer = Taken }) (keptStep b o bids asks)
         fresh =
             record {
               good = record {
@@ -262,19 +291,18 @@ module _ (b : Book) (s : List ℕ) (o : Outline) (k : Passed b s o) where
                 few-asks = z .asks-few;
                 small = o-small;
               };
-              same = rw (z .bids-are, z .asks-are, z .counts, z .was, o-number);
+              same = rw (z .bids-are, z .asks-are, o-snapshot, o-number);
               answer = refl;
             }
 
-        at : (t : Bool) → hasWrongChecksum p m ≡ t → Told (hear p s)
-            (cond (o .printed && not (eqb (o .checksum) (checksumOf d (map shown (held bids)) (map shown (held asks))))) (refusedStep b WrongChecksum) (keptStep b (o .number) bids asks updates ever))
+        at : (t : Bool) → hasWrongChecksum p m ≡ t → Told (hear p s) (finished bids asks (cond wrong WrongChecksum Taken))
         at true e = rw (test ∙ e) (refuse-as WrongChecksum (thirteen p m (z .not-twice) (z .not-lacking) (z .not-old) (z .not-many) e))
-        at false e = rw (test ∙ e) (told-as (keptStep b (o .number) bids asks updates ever) (heard-is ∙ none-fits p m (z .not-twice) (z .not-lacking) (z .not-old) (z .not-many) e) fresh)
+        at false e = rw (test ∙ e) (told-as (keptStep b o bids asks) (heard-is ∙ none-fits p m (z .not-twice) (z .not-lacking) (z .not-old) (z .not-many) e) fresh)
 
   -- ---- what entries make of the two sides
 
-  none-held : (none : Levels) → Empty none → map shown (held none) ≡ []
-  none-held none e = ap (map shown) (e .none)
+  none-held : (none : Levels) → held none ≡ [] → map shown (held none) ≡ []
+  none-held none e = ap (map shown) e
 
   -- a side with the message's entries applied to it is the side after the message
   module _ (side : Side) (qs : List Quote) (kept : Levels) (base : List PriceLevel) (at count : ℕ) (a : Applied)
@@ -305,9 +333,9 @@ module _ (b : Book) (s : List ℕ) (o : Outline) (k : Passed b s o) where
     length-is e = after-length readable (b .settings .depth) hundred side (map editOf qs) base e ∙ sym count-is
 
   -- ---- a snapshot, whose entries are applied to an empty side
-  module _ (h : o .snapshot ≡ true) (none : Levels) (e : Empty none) (bids asks : Applied)
+  module _ (h : o .snapshot ≡ true) (none none′ : Levels) (e : held none ≡ []) (e′ : held none′ ≡ []) (bids asks : Applied)
       (wb : Worked (isM d) Bids (b .settings .depth) (editsAt (isM d) s (o .«bids_at») (o .bids)) none bids)
-      (wa : Worked (isM d) Asks (b .settings .depth) (editsAt (isM d) s (o .«asks_at») (o .asks)) none asks) where
+      (wa : Worked (isM d) Asks (b .settings .depth) (editsAt (isM d) s (o .«asks_at») (o .asks)) none′ asks) where
     is-snapshot : m .snapshot ≡ true
     is-snapshot = o-snapshot ∙ h
 
@@ -330,18 +358,15 @@ module _ (b : Book) (s : List ℕ) (o : Outline) (k : Passed b s o) where
     unfolding messageOf
     asks-met =
         let z = zero-none s (l .asks .rows) (good-texts .1) in
-        met-is Asks (m .asks) none [] (o .«asks_at») (o .asks) asks (none-held none e) asks-edits wa
+        met-is Asks (m .asks) none′ [] (o .«asks_at») (o .asks) asks (none-held none′ e′) asks-edits wa
         ∙ met-snapshot shownPrice (map editOf (m .asks)) (sets-all s (l .asks .rows) (z .0) (z .1)) ∙ ap namesTwice (names-are (m .asks))
 
     twice-is : namesPriceTwice m ≡ (bids .met || asks .met)
     unfolding namesPriceTwice
     twice-is = rw (is-snapshot, namesPriceTwice, bids-met, asks-met)
 
-    pub snapshot-bids-twice : bids .met ≡ true → Told (hear p s) (refusedStep b PriceTwice)
-    snapshot-bids-twice x = refuse-as PriceTwice (nine p m (twice-is ∙ rw x))
-
-    pub snapshot-asks-twice : asks .met ≡ true → Told (hear p s) (refusedStep b PriceTwice)
-    snapshot-asks-twice x = refuse-as PriceTwice (nine p m (twice-is ∙ ap (λ (y : Bool). bids .met || y) x ∙ or-second (bids .met)))
+    pub snapshot-twice : (bids .met || asks .met) ≡ true → Told (hear p s) (refusedStep b PriceTwice)
+    snapshot-twice x = refuse-as PriceTwice (nine p m (twice-is ∙ x))
 
     few-bids : bids .count ≤ 100
     unfolding messageOf
@@ -356,32 +381,30 @@ module _ (b : Book) (s : List ℕ) (o : Outline) (k : Passed b s o) where
     few-asks : asks .count ≤ 100
     unfolding messageOf
     few-asks =
-        let c = count-is Asks (m .asks) none [] (o .«asks_at») (o .asks) asks (none-held none e) asks-edits wa in
+        let c = count-is Asks (m .asks) none′ [] (o .«asks_at») (o .asks) asks (none-held none′ e′) asks-edits wa in
         let n = length-applyAll shownPrice (map editOf (m .asks)) [] in
         let x = length-map (m .asks) editOf in
         let y = length-map (l .asks .rows) (quoteAt s) in
         let f = few .1 in
         omega arith
 
-    pub snapshot-settles : bids .met ≡ false → asks .met ≡ false → Settles (bids .levels) (asks .levels) 0 true
+    pub snapshot-settles : (bids .met || asks .met) ≡ false → Settles (bids .levels) (asks .levels)
     unfolding bidsAfter asksAfter hasTooMany shows termsOf
-    snapshot-settles x y =
+    snapshot-settles x =
         record {
           bids-sound = wb .sound;
           asks-sound = wa .sound;
           bids-few = levels-few Bids (m .bids) none [] (o .«bids_at») (o .bids) bids (none-held none e) bids-edits wb;
-          asks-few = levels-few Asks (m .asks) none [] (o .«asks_at») (o .asks) asks (none-held none e) asks-edits wa;
+          asks-few = levels-few Asks (m .asks) none′ [] (o .«asks_at») (o .asks) asks (none-held none′ e′) asks-edits wa;
           bids-are = rw is-snapshot (after-same Bids (m .bids) none [] (o .«bids_at») (o .bids) bids (none-held none e) bids-edits wb (λ q. few-bids));
-          asks-are = rw is-snapshot (after-same Asks (m .asks) none [] (o .«asks_at») (o .asks) asks (none-held none e) asks-edits wa (λ q. few-asks));
-          counts = rw is-snapshot;
-          was = rw is-snapshot;
-          not-twice = twice-is ∙ rw (x, y);
+          asks-are = rw is-snapshot (after-same Asks (m .asks) none′ [] (o .«asks_at») (o .asks) asks (none-held none′ e′) asks-edits wa (λ q. few-asks));
+          not-twice = twice-is ∙ x;
           not-lacking = snapshot-lacks-none p m is-snapshot;
           not-old = snapshot-not-old p m is-snapshot;
           not-many = rw is-snapshot
               (over-is (isM d) _ _ (bids .count) (asks .count)
               (length-is Bids (m .bids) none [] (o .«bids_at») (o .bids) bids (none-held none e) bids-edits wb)
-              (length-is Asks (m .asks) none [] (o .«asks_at») (o .asks) asks (none-held none e) asks-edits wa)
+              (length-is Asks (m .asks) none′ [] (o .«asks_at») (o .asks) asks (none-held none′ e′) asks-edits wa)
               ∙ none-over (isM d));
         }
       where
@@ -423,10 +446,9 @@ module _ (b : Book) (s : List ℕ) (o : Outline) (k : Passed b s o) where
         pub update-is-over : (isM d && (ltb 100 (bids .count) || ltb 100 (asks .count))) ≡ true → Told (hear p s) (refusedStep b TooManyLevels)
         update-is-over x = refuse-as TooManyLevels (twelve p m (update-names-once m is-update) lacks-none (old-is ∙ new) (many-is ∙ x))
 
-        pub update-settles : (isM d && (ltb 100 (bids .count) || ltb 100 (asks .count))) ≡ false → (updates : ℕ) → updates ≡ oneMore (b .updates)
-            → Settles (bids .levels) (asks .levels) updates (b .ever)
+        pub update-settles : (isM d && (ltb 100 (bids .count) || ltb 100 (asks .count))) ≡ false → Settles (bids .levels) (asks .levels)
         unfolding bidsAfter asksAfter shows termsOf
-        update-settles x updates u =
+        update-settles x =
             record {
               bids-sound = wb .sound;
               asks-sound = wa .sound;
@@ -434,8 +456,6 @@ module _ (b : Book) (s : List ℕ) (o : Outline) (k : Passed b s o) where
               asks-few = levels-few Asks (m .asks) (b .asks) (map shown (held (b .asks))) (o .«asks_at») (o .asks) asks refl asks-edits wa;
               bids-are = rw is-update (after-same Bids (m .bids) (b .bids) (map shown (held (b .bids))) (o .«bids_at») (o .bids) bids refl bids-edits wb (λ e. within (isM d) e x .0));
               asks-are = rw is-update (after-same Asks (m .asks) (b .asks) (map shown (held (b .asks))) (o .«asks_at») (o .asks) asks refl asks-edits wa (λ e. within (isM d) e x .1));
-              counts = rw is-update u;
-              was = rw is-update refl;
               not-twice = update-names-once m is-update;
               not-lacking = lacks-none;
               not-old = old-is ∙ new;
@@ -448,28 +468,117 @@ module _ (b : Book) (s : List ℕ) (o : Outline) (k : Passed b s o) where
                 (ltb-false 100 (bids .count) (g .0), ltb-false 100 (asks .count) (g .1))
             within false e f = absurd (true≢false (sym e))
 
-  -- ---- what `apply_entries` requires, t being whether the dialect is M
-  module _ (t : Bool) (is : t ≡ isM d) where
-    pub none-asked : (none : Levels) → Empty none
-        → (Sound t Bids none × Ready t s (o .«bids_at») (o .bids) × (b .settings .depth ≤ 100) × (length (held none) ≤ b .settings .depth))
-        × (Sound t Asks none × Ready t s (o .«asks_at») (o .asks) × (b .settings .depth ≤ 100) × (length (held none) ≤ b .settings .depth))
-    unfolding All
-    none-asked none e =
-        let n : length (held none) ≡ 0 = ap length (e .none) in
-        let few : length (held none) ≤ b .settings .depth = omega arith in
-        rw is (
-          (record { good = e .bids; carried = rw (e .none) tt; sized = rw (e .none) tt }, ready-bids, depth-most, few),
-          (record { good = e .asks; carried = rw (e .none) tt; sized = rw (e .none) tt }, ready-asks, depth-most, few),
-        )
+  -- ---- checks 10 and 11
 
-    pub kept-asked :
-        (Sound t Bids (b .bids) × Ready t s (o .«bids_at») (o .bids) × (b .settings .depth ≤ 100) × (length (held (b .bids)) ≤ b .settings .depth))
-        × (Sound t Asks (b .asks) × Ready t s (o .«asks_at») (o .asks) × (b .settings .depth ≤ 100) × (length (held (b .asks)) ≤ b .settings .depth))
-    kept-asked = rw is ((k .good .bids, ready-bids, depth-most, k .good .few-bids), (k .good .asks, ready-asks, depth-most, k .good .few-asks))
+  pub judged-told : (v : Verdict) → v ≡ judgedUpdate (b .standing .state) (isM d) (b .number) o → Judged b s v
+  unfolding judgedUpdate Judged shows statusOf
+  judged-told v e = subst (Judged b s) (sym e) (at (o .snapshot) refl (isLive (statusOf (b .standing .state))) refl (isM d && leb (o .number) (b .number)) refl)
+    where
+      at : (t : Bool) → o .snapshot ≡ t → (x : Bool) → isLive (statusOf (b .standing .state)) ≡ x → (y : Bool) → (isM d && leb (o .number) (b .number)) ≡ y
+          → Judged b s (cond t (Passes o) (cond x (cond y (Fails OldNumber) (Passes o)) (Fails NoSnapshot)))
+      at true h x f y g = (k, sym (judged-snapshot (b .standing .state) (isM d) (b .number) o h))
+      at false h true f true g = update-is-old h f g
+      at false h true f false g = (k, sym (judged-new (b .standing .state) (isM d) (b .number) o h f g))
+      at false h false f y g = update-waits h f
 
-    pub worked-in : (side : Side) (kept : Levels) (at count : ℕ) (a : Applied) → Worked t side (b .settings .depth) (editsAt t s at count) kept a
-        → Worked (isM d) side (b .settings .depth) (editsAt (isM d) s at count) kept a
-    worked-in side kept at count a w = subst (λ (x : Bool). Worked x side (b .settings .depth) (editsAt x s at count) kept a) is w
+  -- ---- the sides that entries are applied to
+
+  before-none : (kept : Levels) → o .snapshot ≡ true → held (before o kept) ≡ []
+  unfolding held
+  before-none kept h = rw h
+
+  before-same : (kept : Levels) → o .snapshot ≡ false → before o kept ≡ kept
+  before-same kept h = rw h
+
+  pub before-asked : (side : Side) (kept : Levels) → Sound (isM d) side kept → length (held kept) ≤ b .settings .depth
+      → Sound (isM d) side (before o kept) × (length (held (before o kept)) ≤ b .settings .depth)
+  unfolding held All Sorted
+  before-asked side kept z n = at (o .snapshot)
+    where
+      at : (t : Bool) → Sound (isM d) side (record { items = kept .items; count = cond t 0 (kept .count) }) × (length (held (record { items = kept .items; count = cond t 0 (kept .count) })) ≤ b .settings .depth)
+      at true = (record { good = record { few = omega arith; room = z .good .room; sorted = tt; within = tt }; carried = tt; sized = tt }, omega arith)
+      at false = (z, n)
+
+  pub idle-worked : (side : Side) (kept : Levels) (at count : ℕ) → count ≡ 0 → Sound (isM d) side kept → length (held kept) ≤ b .settings .depth
+      → Worked (isM d) side (b .settings .depth) (editsAt (isM d) s at count) (before o kept) (idle o kept)
+  idle-worked side kept at count e z n =
+      let y = before-asked side kept z n in
+      none-worked (isM d) side (b .settings .depth) (before o kept) s at count e (y .0) (y .1)
+
+  pub idle-within : (side : Side) (kept : Levels) → Sound (isM d) side kept → ltb 100 (idle o kept .count) ≡ false
+  idle-within side kept z = at (o .snapshot)
+    where
+      at : (t : Bool) → ltb 100 (cond t 0 (kept .count)) ≡ false
+      at true = le-ltb 100 0 (omega arith)
+      at false = let f = z .good .few in le-ltb 100 (kept .count) f
+
+  -- ---- what `apply_entries` requires and gives, t being whether the dialect is M, and n the count of a side before the entries
+
+  module _ (t : Bool) (is : t ≡ isM d) (side : Side) (kept : Levels) (n : ℕ) (counts : n ≡ cond (o .snapshot) 0 (kept .count)) (at count : ℕ) where
+    pub asked-as : Ready (isM d) s at count → Sound (isM d) side kept → length (held kept) ≤ b .settings .depth
+        → Sound t side (record { items = kept .items; count = n }) × Ready t s at count × (b .settings .depth ≤ 100) × (length (held (record { items = kept .items; count = n })) ≤ b .settings .depth)
+    asked-as r z f = let y = before-asked side kept z f in rw (is, counts) (y .0, r, depth-most, y .1)
+
+    pub worked-as : (a : Applied) → Worked t side (b .settings .depth) (editsAt t s at count) (record { items = kept .items; count = n }) a
+        → Worked (isM d) side (b .settings .depth) (editsAt (isM d) s at count) (before o kept) a
+    worked-as a w = rw (is, counts) at w
+
+  -- ---- the whole of checks 9, 12 and 13
+
+  module _ (judged : judgedUpdate (b .standing .state) (isM d) (b .number) o ≡ Passes o) (bids asks : Applied)
+      (wb : Worked (isM d) Bids (b .settings .depth) (editsAt (isM d) s (o .«bids_at») (o .bids)) (before o (b .bids)) bids)
+      (wa : Worked (isM d) Asks (b .settings .depth) (editsAt (isM d) s (o .«asks_at») (o .asks)) (before o (b .asks)) asks) where
+    abbrev found : Answer
+    found = weighed o d (bids .met || asks .met) (ltb 100 (bids .count) || ltb 100 (asks .count)) (bids .levels) (asks .levels)
+
+    found-as : (a : Answer) → found ≡ a → Told (hear p s) (finished (bids .levels) (asks .levels) a) → Told (hear p s) (finished (bids .levels) (asks .levels) found)
+    found-as a e x = subst (λ (y : Answer). Told (hear p s) (finished (bids .levels) (asks .levels) y)) (sym e) x
+
+    as-snapshot : o .snapshot ≡ true → Told (hear p s) (finished (bids .levels) (asks .levels) found)
+    unfolding weighed isTaken number
+    as-snapshot h = at (bids .met || asks .met) refl
+      where
+        at : (t : Bool) → (bids .met || asks .met) ≡ t → Told (hear p s) (finished (bids .levels) (asks .levels) found)
+        at true e = found-as PriceTwice (rw (h, e)) (snapshot-twice h (before o (b .bids)) (before o (b .asks)) (before-none (b .bids) h) (before-none (b .asks) h) bids asks wb wa e)
+        at false e = found-as (cond (wrong (bids .levels) (asks .levels)) WrongChecksum Taken) (rw (h, e)) (settled-told (bids .levels) (asks .levels) (snapshot-settles h (before o (b .bids)) (before o (b .asks)) (before-none (b .bids) h) (before-none (b .asks) h) bids asks wb wa e))
+
+    as-update : o .snapshot ≡ false → Told (hear p s) (finished (bids .levels) (asks .levels) found)
+    unfolding weighed isTaken number shows
+    as-update h = at (isM d && (ltb 100 (bids .count) || ltb 100 (asks .count))) refl
+      where
+        passed : (isLive (p .status) ≡ true) × ((isM d && leb (o .number) (b .number)) ≡ false)
+        passed = update-passed (b .standing .state) (isM d) (b .number) o h judged
+
+        wb′ : Worked (isM d) Bids (b .settings .depth) (editsAt (isM d) s (o .«bids_at») (o .bids)) (b .bids) bids
+        wb′ = subst (λ (x : Levels). Worked (isM d) Bids (b .settings .depth) (editsAt (isM d) s (o .«bids_at») (o .bids)) x bids) (before-same (b .bids) h) wb
+
+        wa′ : Worked (isM d) Asks (b .settings .depth) (editsAt (isM d) s (o .«asks_at») (o .asks)) (b .asks) asks
+        wa′ = subst (λ (x : Levels). Worked (isM d) Asks (b .settings .depth) (editsAt (isM d) s (o .«asks_at») (o .asks)) x asks) (before-same (b .asks) h) wa
+
+        at : (t : Bool) → (isM d && (ltb 100 (bids .count) || ltb 100 (asks .count))) ≡ t → Told (hear p s) (finished (bids .levels) (asks .levels) found)
+        at true e = found-as TooManyLevels (rw (h, e)) (update-is-over h (passed .0) (passed .1) bids asks wb′ wa′ e)
+        at false e = found-as (cond (wrong (bids .levels) (asks .levels)) WrongChecksum Taken) (rw (h, e)) (settled-told (bids .levels) (asks .levels) (update-settles h (passed .0) (passed .1) bids asks wb′ wa′ e))
+
+    pub weighed-told : Told (hear p s) (finished (bids .levels) (asks .levels) found)
+    weighed-told = at (o .snapshot) refl
+      where
+        at : (t : Bool) → o .snapshot ≡ t → Told (hear p s) (finished (bids .levels) (asks .levels) found)
+        at true h = as-snapshot h
+        at false h = as-update h
+
+    -- the same for an answer that the code found
+    module _ (a : Answer) (e : a ≡ found) where
+      step-told : Told (hear p s) (finished (bids .levels) (asks .levels) a)
+      step-told = subst (λ (y : Answer). Told (hear p s) (finished (bids .levels) (asks .levels) y)) (sym e) weighed-told
+
+      pub kept-told : isTaken a ≡ true → Told (hear p s) (record { book = keptStep b o (bids .levels) (asks .levels) .book; answer = a })
+      unfolding keptStep
+      kept-told h =
+          let x : Told (hear p s) (keptStep b o (bids .levels) (asks .levels)) = subst (λ (t : Bool). Told (hear p s) (cond t (keptStep b o (bids .levels) (asks .levels)) (refusedStep b a))) h step-told in
+          record { good = x .good; same = x .same; answer = taken-answer a h ∙ x .answer }
+
+      pub left-told : isTaken a ≡ false → Told (hear p s) (refusedStep b a)
+      left-told h = subst (λ (t : Bool). Told (hear p s) (cond t (keptStep b o (bids .levels) (asks .levels)) (refusedStep b a))) h step-told
 
 -- ---- checksums
 

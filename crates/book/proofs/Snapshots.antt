@@ -65,7 +65,7 @@ module _ (b : Book) (before after : List ℕ) where
   text = snapshotText p
 
   abbrev yes : Bool
-  yes = answers (statusOf (b .state)) (b .ever) Current
+  yes = answers (statusOf (b .standing .state)) (b .standing .ever) Current
 
   if-not : {A : Type 0} (a : Answer) (x z : A) → a ≡ NoRoom → ifTaken a x z ≡ z
   unfolding ifTaken isTaken numberOf
@@ -112,14 +112,14 @@ module _ (b : Book) (before after : List ℕ) where
               buffer = x ∙ sym (if-not (askedWriting p before) _ _ a);
             }
 
-  pub wrote-not : yes ≡ false → (a : Answer) → a ≡ refusalOf (statusOf (b .state)) → after ≡ before → Wrote b before after (record { book = b; answer = a; amount = 0 })
+  pub wrote-not : yes ≡ false → (a : Answer) → a ≡ refusalOf (statusOf (b .standing .state)) → after ≡ before → Wrote b before after (record { book = b; answer = a; amount = 0 })
   unfolding does askedWriting shows
   wrote-not h a e x =
       let n = asked-no p Current h in
-      let m : askedWriting p before ≡ refusalOf (statusOf (b .state)) = if-no (asked Current p) (statusOf (b .state)) _ _ n ∙ n in
+      let m : askedWriting p before ≡ refusalOf (statusOf (b .standing .state)) = if-no (asked Current p) (statusOf (b .standing .state)) _ _ n ∙ n in
       record {
         book = refl;
         answer = e ∙ sym m;
-        value = ap amount (sym (if-no (askedWriting p before) (statusOf (b .state)) _ _ m));
-        buffer = x ∙ sym (if-no (askedWriting p before) (statusOf (b .state)) _ _ m);
+        value = ap amount (sym (if-no (askedWriting p before) (statusOf (b .standing .state)) _ _ m));
+        buffer = x ∙ sym (if-no (askedWriting p before) (statusOf (b .standing .state)) _ _ m);
       }

@@ -32,12 +32,12 @@ unfoldable pub shows : Book → Reference
 shows b =
     record {
       terms = termsOf (b .settings);
-      status = statusOf (b .state);
+      status = statusOf (b .standing .state);
       bids = map shown (held (b .bids));
       asks = map shown (held (b .asks));
       number = b .number;
       updates = b .updates;
-      ever = b .ever;
+      ever = b .standing .ever;
     }
 
 -- What holds of every book that `open` or a method hands out.
@@ -45,7 +45,7 @@ pub record Good (b : Book) : Type 0 where
   pub room : length (b .settings .name) ≡ 16
   pub short : b .settings .length ≤ 16
   -- a book that is not shut has good settings
-  pub terms : isShut (statusOf (b .state)) ≡ false → good (termsOf (b .settings)) ≡ true
+  pub terms : isShut (statusOf (b .standing .state)) ≡ false → good (termsOf (b .settings)) ≡ true
   pub bids : Sound (isM (b .settings .dialect)) Bids (b .bids)
   pub asks : Sound (isM (b .settings .dialect)) Asks (b .asks)
   pub few-bids : length (held (b .bids)) ≤ b .settings .depth

@@ -38,17 +38,22 @@ pub enum State {
     Live,
 }
 
-pub struct Book {
-    settings: Settings,
+// How a book stands.
+pub struct Standing {
     state: State,
     // Whether a snapshot was ever taken.
     ever: bool,
+}
+
+pub struct Book {
     bids: Levels,
     asks: Levels,
+    settings: Settings,
     // The sequence number.
     number: u64,
     // How many updates were taken since the last snapshot.
     updates: u64,
+    standing: Standing,
 }
 
 // The answer to a message.
@@ -88,13 +93,15 @@ pub fn open(dialect: Dialect, depth: usize, name: &[u8]) -> Book
     let dialect = settings.dialect;
     let none = side::empty();
     Book {
-        settings,
-        state: first_state(dialect),
-        ever: false,
         bids: none,
         asks: none,
+        settings,
         number: 0,
         updates: 0,
+        standing: Standing {
+            state: first_state(dialect),
+            ever: false,
+        },
     }
 }
 
@@ -114,15 +121,7 @@ impl Book {
         requires { ⌜ Good self ⌝ }
         ensures { λ r. ⌜ Told (hear (shows self) (now (s .entry))) r ⌝ }
     {
-        let state = self.state;
-        match state {
-            State::Shut => Step {
-                book: self,
-                answer: Answer::Shut,
-            },
-            State::Waiting => taking::hear(self, s),
-            State::Live => taking::hear(self, s),
-        }
+        taking::hear(self, s)
     }
 
     // How many bids and asks there are.
@@ -130,8 +129,8 @@ impl Book {
         requires { ⌜ Good self ⌝ }
         ensures { λ r. ⌜ AnswersCounts self scope r ⌝ }
     {
-        let state = self.state;
-        if stands(state, self.ever, scope) {
+        let standing = self.standing;
+        if stands(standing, scope) {
             let bids = self.bids;
             let asks = self.asks;
             return Counted {
@@ -143,7 +142,7 @@ impl Book {
         }
         Counted {
             book: self,
-            answer: refusal(state),
+            answer: refusal(standing),
             bids: 0,
             asks: 0,
         }
@@ -154,8 +153,8 @@ impl Book {
         requires { ⌜ Good self ⌝ }
         ensures { λ r. ⌜ AnswersLevel self scope side i r ⌝ }
     {
-        let state = self.state;
-        if stands(state, self.ever, scope) {
+        let standing = self.standing;
+        if stands(standing, scope) {
             return match level_in(self, side, i) {
                 Found::At(level) => Levelled {
                     book: self,
@@ -166,7 +165,7 @@ impl Book {
                 Found::Nothing => no_level(self, Answer::NoLevel),
             };
         }
-        no_level(self, refusal(state))
+        no_level(self, refusal(standing))
     }
 
     // The sequence number.
@@ -174,15 +173,15 @@ impl Book {
         requires { ⌜ Good self ⌝ }
         ensures { λ r. ⌜ AnswersAmount self (whichNumber scope) r ⌝ }
     {
-        let state = self.state;
-        if stands(state, self.ever, scope) {
+        let standing = self.standing;
+        if stands(standing, scope) {
             return Amounted {
                 book: self,
                 answer: Answer::Taken,
                 amount: self.number,
             };
         }
-        no_amount(self, refusal(state))
+        no_amount(self, refusal(standing))
     }
 
     // How many updates were taken since the last snapshot.
@@ -190,15 +189,15 @@ impl Book {
         requires { ⌜ Good self ⌝ }
         ensures { λ r. ⌜ AnswersAmount self (howManyUpdates scope) r ⌝ }
     {
-        let state = self.state;
-        if stands(state, self.ever, scope) {
+        let standing = self.standing;
+        if stands(standing, scope) {
             return Amounted {
                 book: self,
                 answer: Answer::Taken,
                 amount: self.updates,
             };
         }
-        no_amount(self, refusal(state))
+        no_amount(self, refusal(standing))
     }
 
     // Writes the book as a snapshot at the start of the buffer; answers its length.
@@ -206,8 +205,8 @@ impl Book {
         requires { ⌜ Good self ⌝ }
         ensures { λ r. ⌜ Wrote self (now (buffer .entry)) (now (buffer .exit)) r ⌝ }
     {
-        let state = self.state;
-        if stands(state, self.ever, Scope::Current) {
+        let standing = self.standing;
+        if stands(standing, Scope::Current) {
             return match writing::lay(self, buffer) {
                 Written::To(n) => Amounted {
                     book: self,
@@ -217,14 +216,16 @@ impl Book {
                 Written::Full => no_amount(self, Answer::NoRoom),
             };
         }
-        no_amount(self, refusal(state))
+        no_amount(self, refusal(standing))
     }
 }
 
 // Whether a question of that scope is answered.
-fn stands(state: State, ever: bool, scope: Scope) -> bool
-    ensures { λ r. ⌜ r ≡ answers (statusOf state) ever scope ⌝ }
+fn stands(standing: Standing, scope: Scope) -> bool
+    ensures { λ r. ⌜ r ≡ answers (statusOf (standing .state)) (standing .ever) scope ⌝ }
 {
+    let state = standing.state;
+    let ever = standing.ever;
     match state {
         State::Shut => false,
         State::Waiting => match scope {
@@ -239,9 +240,10 @@ fn stands(state: State, ever: bool, scope: Scope) -> bool
 }
 
 // The answer to a question that is refused.
-fn refusal(state: State) -> Answer
-    ensures { λ r. ⌜ r ≡ refusalOf (statusOf state) ⌝ }
+fn refusal(standing: Standing) -> Answer
+    ensures { λ r. ⌜ r ≡ refusalOf (statusOf (standing .state)) ⌝ }
 {
+    let state = standing.state;
     match state {
         State::Shut => Answer::Shut,
         State::Waiting => Answer::NoSnapshot,

@@ -1,18 +1,18 @@
 // A message taken or refused.
 ghost use mathlib.Core.Path.{_≡_};
-ghost use mathlib.Core.Bool.{true, false, _&&_, _||_};
+ghost use mathlib.Core.Bool.{_&&_, _||_, not, cond};
 ghost use mathlib.Core.List.{map};
-ghost use lib.Dec.{leb, ltb};
+ghost use lib.Dec.{leb};
 ghost use Rattle.side.specs.Level.{shown};
 ghost use Rattle.side.specs.Kept.{held};
 ghost use Rattle.side.specs.declared.Side.the-variants.{Bids, Asks};
 ghost use Rattle.settings.specs.Settings.{isM};
 ghost use Rattle.sides.specs.Worked.{Sound};
-ghost use Rattle.book.specs.Reference.{isShut, checksumOf, leavesStatus, hear, oneMore};
+ghost use Rattle.book.specs.Reference.{isShut, isTaken, leavesStatus, checksumOf, hear, oneMore};
 ghost use Rattle.book.specs.Shown.{statusOf, shows, Good, Told};
-ghost use Rattle.book.specs.declared.State.the-variants.{Live};
-ghost use Rattle.book.specs.Taking.{Passed, refusedStep, keptStep, settledStep};
+ghost use Rattle.book.specs.Taking.{Judged, judgedUpdate, weighed, liveStanding, refusedStanding};
 use crate::Book;
+use crate::Standing;
 use crate::State;
 use crate::Step;
 use layout::Outline;
@@ -20,6 +20,7 @@ use message::Answer;
 use message::Verdict;
 use settings::Dialect;
 use settings::is_m;
+use side::Applied;
 use side::Levels;
 use side::Side;
 use sides::apply_entries;
@@ -28,142 +29,135 @@ const MAX_LEVELS: usize = 100;
 
 const MAX_UPDATES: u64 = 4294967295;
 
-// The book, which is not shut, after a message.
+// The book after a message. One function owns the book after it, so that a side is copied only where entries change it.
 pub fn hear(book: Book, s: &[u8]) -> Step
-    requires { ⌜ Good book × (isShut (statusOf (book .state)) ≡ false) ⌝ }
+    requires { ⌜ Good book ⌝ }
     ensures { λ r. ⌜ Told (hear (shows book) (now (s .entry))) r ⌝ }
 {
+    let mut after = book;
+    let standing = book.standing;
+    let answer = match judge(book, s) {
+        Verdict::Fails(refusal) => {
+            after.standing = refused(standing, refusal);
+            refusal
+        }
+        Verdict::Passes(outline) => {
+            let settings = book.settings;
+            let depth = settings.depth;
+            let dialect = settings.dialect;
+            let m = is_m(dialect);
+            let bids_before = count_before(outline.snapshot, book.bids.count);
+            after.bids.count = bids_before;
+            let asks_before = count_before(outline.snapshot, book.asks.count);
+            after.asks.count = asks_before;
+            let mut met = false;
+            let mut over = false;
+            if 0 < outline.bids {
+                let old = after.bids;
+                let at = outline.bids_at;
+                let done = apply_entries(old, Side::Bids, depth, m, s, at, outline.bids);
+                after.bids = levels_of(done);
+                met = done.met;
+                over = MAX_LEVELS < done.count;
+            }
+            if 0 < outline.asks {
+                let old = after.asks;
+                let at = outline.asks_at;
+                let done = apply_entries(old, Side::Asks, depth, m, s, at, outline.asks);
+                after.asks = levels_of(done);
+                met = either(met, done.met);
+                over = either(over, MAX_LEVELS < done.count);
+            }
+            let bids = after.bids;
+            let asks = after.asks;
+            let verdict = weigh(outline, dialect, met, over, bids, asks);
+            if is_taken(verdict) {
+                after.number = outline.number;
+                after.updates = updates_after(outline.snapshot, book.updates);
+                after.standing = live(standing, outline.snapshot);
+            } else {
+                after = book;
+                after.standing = refused(standing, verdict);
+            }
+            verdict
+        }
+    };
+    Step {
+        book: after,
+        answer,
+    }
+}
+
+fn levels_of(applied: Applied) -> Levels
+    ensures { λ r. ⌜ r ≡ applied .levels ⌝ }
+{
+    applied.levels
+}
+
+// Checks 1 to 8, 10 and 11.
+fn judge(book: Book, s: &[u8]) -> Verdict
+    requires { ⌜ Good book ⌝ }
+    ensures { λ r. ⌜ Judged book (now (s .entry)) r ⌝ }
+{
+    let standing = book.standing;
+    let state = standing.state;
+    if is_shut(state) {
+        return Verdict::Fails(Answer::Shut);
+    }
     let settings = book.settings;
     let dialect = settings.dialect;
     let depth = settings.depth;
     let name = settings.name;
     let n = settings.length;
     match message::read_open(dialect, depth, &name[..n], s) {
-        Verdict::Fails(answer) => refuse(book, answer),
-        Verdict::Passes(outline) => weigh(book, s, outline),
+        Verdict::Fails(answer) => Verdict::Fails(answer),
+        Verdict::Passes(outline) => judge_update(state, is_m(dialect), book.number, outline),
     }
 }
 
-// The book after a message that passes checks 2 to 8.
-fn weigh(book: Book, s: &[u8], outline: Outline) -> Step
-    requires { ⌜ Passed book (now s) outline ⌝ }
-    ensures { λ r. ⌜ Told (hear (shows book) (now (s .entry))) r ⌝ }
+// Checks 10 and 11, of a message that passes those of its text.
+fn judge_update(state: State, m: bool, number: u64, outline: Outline) -> Verdict
+    ensures { λ r. ⌜ r ≡ judgedUpdate state m number outline ⌝ }
 {
     if outline.snapshot {
-        return take_snapshot(book, s, outline);
+        return Verdict::Passes(outline);
     }
-    let state = book.state;
     match state {
-        State::Shut => refuse(book, Answer::NoSnapshot),
-        State::Waiting => refuse(book, Answer::NoSnapshot),
-        State::Live => take_update(book, s, outline),
+        State::Shut => Verdict::Fails(Answer::NoSnapshot),
+        State::Waiting => Verdict::Fails(Answer::NoSnapshot),
+        State::Live => {
+            if is_old(m, outline.number, number) {
+                return Verdict::Fails(Answer::OldNumber);
+            }
+            Verdict::Passes(outline)
+        }
     }
 }
 
-fn take_snapshot(book: Book, s: &[u8], outline: Outline) -> Step
-    requires { ⌜ Passed book (now s) outline × (outline .snapshot ≡ true) ⌝ }
-    ensures { λ r. ⌜ Told (hear (shows book) (now (s .entry))) r ⌝ }
-{
-    let settings = book.settings;
-    let depth = settings.depth;
-    let dialect = settings.dialect;
-    let m = is_m(dialect);
-    let none = side::empty();
-    let bids = apply_entries(none, Side::Bids, depth, m, s, outline.bids_at, outline.bids);
-    let asks = apply_entries(none, Side::Asks, depth, m, s, outline.asks_at, outline.asks);
-    if bids.met {
-        return refuse(book, Answer::PriceTwice);
-    }
-    if asks.met {
-        return refuse(book, Answer::PriceTwice);
-    }
-    let new_bids = bids.levels;
-    let new_asks = asks.levels;
-    settle(book, outline, new_bids, new_asks, 0, true)
-}
-
-// An update to a live book.
-fn take_update(book: Book, s: &[u8], outline: Outline) -> Step
-    requires { ⌜ Passed book (now s) outline × (outline .snapshot ≡ false) × (book .state ≡ Live) ⌝ }
-    ensures { λ r. ⌜ Told (hear (shows book) (now (s .entry))) r ⌝ }
-{
-    let settings = book.settings;
-    let depth = settings.depth;
-    let dialect = settings.dialect;
-    let m = is_m(dialect);
-    if is_old(m, outline.number, book.number) {
-        return refuse(book, Answer::OldNumber);
-    }
-    let old_bids = book.bids;
-    let bids = apply_entries(
-        old_bids,
-        Side::Bids,
-        depth,
-        m,
-        s,
-        outline.bids_at,
-        outline.bids,
-    );
-    let old_asks = book.asks;
-    let asks = apply_entries(
-        old_asks,
-        Side::Asks,
-        depth,
-        m,
-        s,
-        outline.asks_at,
-        outline.asks,
-    );
-    if is_over(m, bids.count, asks.count) {
-        return refuse(book, Answer::TooManyLevels);
-    }
-    let next_bids = bids.levels;
-    let next_asks = asks.levels;
-    let updates = one_more(book.updates);
-    settle(book, outline, next_bids, next_asks, updates, book.ever)
-}
-
-// The book with these sides, if the message's checksum is theirs.
-fn settle(
-    book: Book,
+// Checks 9, 12 and 13, by what the entries made of the sides: whether some price was met twice, and whether levels are over the limit.
+fn weigh(
     outline: Outline,
+    dialect: Dialect,
+    met: bool,
+    over: bool,
     bids: Levels,
     asks: Levels,
-    updates: u64,
-    ever: bool,
-) -> Step
-    requires { ⌜ Sound (isM (book .settings .dialect)) Bids bids × Sound (isM (book .settings .dialect)) Asks asks ⌝ }
-    ensures { λ r. ⌜ r ≡ settledStep book outline bids asks updates ever ⌝ }
+) -> Answer
+    requires { ⌜ Sound (isM dialect) Bids bids × Sound (isM dialect) Asks asks ⌝ }
+    ensures { λ r. ⌜ r ≡ weighed outline dialect met over bids asks ⌝ }
 {
+    if both(outline.snapshot, met) {
+        return Answer::PriceTwice;
+    }
+    if is_over(outline.snapshot, is_m(dialect), over) {
+        return Answer::TooManyLevels;
+    }
     if outline.printed {
-        let settings = book.settings;
-        let dialect = settings.dialect;
-        let sum = checksum_of(dialect, bids, asks);
-        if outline.checksum != sum {
-            return refuse(book, Answer::WrongChecksum);
+        if outline.checksum != checksum_of(dialect, bids, asks) {
+            return Answer::WrongChecksum;
         }
-        return kept(book, outline.number, bids, asks, updates, ever);
     }
-    kept(book, outline.number, bids, asks, updates, ever)
-}
-
-fn kept(book: Book, number: u64, bids: Levels, asks: Levels, updates: u64, ever: bool) -> Step
-    ensures { λ r. ⌜ r ≡ keptStep book number bids asks updates ever ⌝ }
-{
-    let settings = book.settings;
-    let after = Book {
-        settings,
-        state: State::Live,
-        ever,
-        bids,
-        asks,
-        number,
-        updates,
-    };
-    Step {
-        book: after,
-        answer: Answer::Taken,
-    }
+    Answer::Taken
 }
 
 fn checksum_of(dialect: Dialect, bids: Levels, asks: Levels) -> u32
@@ -177,28 +171,26 @@ fn checksum_of(dialect: Dialect, bids: Levels, asks: Levels) -> u32
     }
 }
 
-// The book after a refusal.
-fn refuse(book: Book, answer: Answer) -> Step
-    ensures { λ r. ⌜ r ≡ refusedStep book answer ⌝ }
+// How a book stands after a message that is taken.
+fn live(standing: Standing, snapshot: bool) -> Standing
+    ensures { λ r. ⌜ r ≡ liveStanding standing snapshot ⌝ }
+{
+    Standing {
+        state: State::Live,
+        ever: either(snapshot, standing.ever),
+    }
+}
+
+// How a book stands after a refusal.
+fn refused(standing: Standing, answer: Answer) -> Standing
+    ensures { λ r. ⌜ r ≡ refusedStanding standing answer ⌝ }
 {
     if leaves_state(answer) {
-        return Step { book, answer };
+        return standing;
     }
-    let settings = book.settings;
-    let bids = book.bids;
-    let asks = book.asks;
-    let after = Book {
-        settings,
+    Standing {
         state: State::Waiting,
-        ever: book.ever,
-        bids,
-        asks,
-        number: book.number,
-        updates: book.updates,
-    };
-    Step {
-        book: after,
-        answer,
+        ever: standing.ever,
     }
 }
 
@@ -226,22 +218,78 @@ fn leaves_state(answer: Answer) -> bool
     }
 }
 
+fn is_shut(state: State) -> bool
+    ensures { λ r. ⌜ r ≡ isShut (statusOf state) ⌝ }
+{
+    match state {
+        State::Shut => true,
+        State::Waiting => false,
+        State::Live => false,
+    }
+}
+
+fn is_taken(answer: Answer) -> bool
+    ensures { λ r. ⌜ r ≡ isTaken answer ⌝ }
+{
+    match answer {
+        Answer::Taken => true,
+        Answer::Shut => false,
+        Answer::TooLong => false,
+        Answer::NotJson => false,
+        Answer::Escaped => false,
+        Answer::NotOurs => false,
+        Answer::BadLayout => false,
+        Answer::TooManyEntries => false,
+        Answer::BadDecimal => false,
+        Answer::PriceTwice => false,
+        Answer::NoSnapshot => false,
+        Answer::OldNumber => false,
+        Answer::TooManyLevels => false,
+        Answer::WrongChecksum => false,
+        Answer::NoLevel => false,
+        Answer::NoRoom => false,
+    }
+}
+
+// How many levels a side has before the entries: none before those of a snapshot.
+fn count_before(snapshot: bool, count: usize) -> usize
+    ensures { λ r. ⌜ r ≡ cond snapshot 0 count ⌝ }
+{
+    if snapshot { 0 } else { count }
+}
+
+fn updates_after(snapshot: bool, updates: u64) -> u64
+    ensures { λ r. ⌜ r ≡ cond snapshot 0 (oneMore updates) ⌝ }
+{
+    if snapshot { 0 } else { one_more(updates) }
+}
+
+fn either(a: bool, b: bool) -> bool
+    ensures { λ r. ⌜ r ≡ (a || b) ⌝ }
+{
+    if a { true } else { b }
+}
+
+fn both(a: bool, b: bool) -> bool
+    ensures { λ r. ⌜ r ≡ (a && b) ⌝ }
+{
+    if a { b } else { false }
+}
+
 fn is_old(m: bool, number: u64, last: u64) -> bool
     ensures { λ r. ⌜ r ≡ (m && leb number last) ⌝ }
 {
     if m { number <= last } else { false }
 }
 
-fn is_over(m: bool, bids: usize, asks: usize) -> bool
-    ensures { λ r. ⌜ r ≡ (m && (ltb 100 bids || ltb 100 asks)) ⌝ }
+// Check 12, which is M's and of updates; a snapshot has no more levels than entries.
+fn is_over(snapshot: bool, m: bool, over: bool) -> bool
+    ensures { λ r. ⌜ r ≡ (not snapshot && (m && over)) ⌝ }
 {
-    if m {
-        if MAX_LEVELS < bids {
-            return true;
-        }
-        return MAX_LEVELS < asks;
+    if snapshot {
+        return false;
     }
-    false
+    both(m, over)
 }
 
 // One more update, up to the end of the count.

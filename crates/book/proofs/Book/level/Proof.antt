@@ -29,12 +29,12 @@ no-level-requires c κs = search needs
 
 returns : tie.Need-returns
 returns c =
-    let a = c .before .before .before .before .before .before .before .before .args in
+    let a = c .before .before .before .before .before .before .before .before .before .args in
     level-here (a .self) (a .scope) (a .side) (a .i) (sym (c .before .before .before .before .before .before .before .stands .ensures) ∙ c .before .before .before .before .before .before .if1 .taken) (c .before .before .before .level .given .0 .0) (sym (c .before .before .before .before .before .level-in .ensures) ∙ c .before .before .before .level .given .1) (c .before .price-of .result) (c .size-of .result) (c .before .price-of .ensures) (c .size-of .ensures)
 
 returns-2 : tie.Need-returns-2
 returns-2 c =
-    let a = c .before .before .before .before .before .before .args in
+    let a = c .before .before .before .before .before .before .before .args in
     subst (AnswersLevel (a .self) (a .scope) (a .side) (a .i)) (sym (c .no-level .ensures)) (level-none (a .self) (a .scope) (a .side) (a .i) (sym (c .before .before .before .before .before .stands .ensures) ∙ c .before .before .before .before .if1 .taken) (sym (c .before .before .before .level-in .ensures) ∙ c .before .enum-told .given .1))
 
 refusal-requires : tie.Need-refusal-requires
@@ -45,7 +45,7 @@ no-level-requires-2 c κs = search needs
 
 returns-3 : tie.Need-returns-3
 returns-3 c =
-    let a = c .before .before .before .before .args in
+    let a = c .before .before .before .before .before .args in
     subst (AnswersLevel (a .self) (a .scope) (a .side) (a .i)) (sym (c .no-level2 .ensures)) (level-no (a .self) (a .scope) (a .side) (a .i) (sym (c .before .before .before .stands .ensures) ∙ c .before .before .if1 .left) (c .before .refusal .result) (c .before .refusal .ensures))
 
 pub level-spec : {M : Type 1} → statement M

@@ -27,7 +27,7 @@ same-length c = search needs
 
 returns : tie.Need-returns
 returns c =
-    let a = c .before .before .before .before .before .before .before .before .before .before .args in
+    let a = c .before .before .before .before .before .before .before .before .before .before .before .args in
     wrote-to (a .self) (now (a .buffer)) (c .before .before .before .before .before .lay .last .1 .0) (sym (c .before .before .before .before .before .before .before .before .stands .ensures) ∙ c .before .before .before .before .before .before .before .if1 .taken) (c .before .before .before .before .before .lay .result) (c .before .before .before .before .before .lay .ensures) (c .before .n .given .0 .0) (c .before .n .given .1)
 
 same-length-2 : tie.Need-same-length-2
@@ -35,7 +35,7 @@ same-length-2 c = search needs
 
 returns-2 : tie.Need-returns-2
 returns-2 c =
-    let a = c .before .before .before .before .before .before .before .before .before .before .args in
+    let a = c .before .before .before .before .before .before .before .before .before .before .before .args in
     subst (Wrote (a .self) _ _) (sym (c .no-amount .ensures)) (wrote-full (a .self) (now (a .buffer)) (c .before .before .before .before .before .lay .last .1 .0) (sym (c .before .before .before .before .before .before .before .before .stands .ensures) ∙ c .before .before .before .before .before .before .before .if1 .taken) (c .before .before .before .before .before .lay .result) (c .before .before .before .before .before .lay .ensures) (c .before .enum-told .given .1))
 
 refusal-requires : tie.Need-refusal-requires
@@ -46,7 +46,7 @@ no-amount-requires-2 c κs = search needs
 
 returns-3 : tie.Need-returns-3
 returns-3 c =
-    let a = c .before .before .before .before .before .args in
+    let a = c .before .before .before .before .before .before .args in
     subst (Wrote (a .self) _ _) (sym (c .no-amount2 .ensures)) (wrote-not (a .self) (now (a .buffer)) (now (a .buffer)) (sym (c .before .before .before .stands .ensures) ∙ c .before .before .if1 .left) (c .before .refusal .result) (c .before .refusal .ensures) refl)
 
 pub write-spec : {M : Type 1} → statement M

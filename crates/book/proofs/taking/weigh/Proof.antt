@@ -1,65 +1,58 @@
--- `weigh` meets its contract: a snapshot, an update to a live book, or one to a book that waits.
-use mathlib.Core.Path.{sym, subst, ap}
-use denote.Ref.{now}
-use Rattle.book.specs.Reference.{isLive, hear}
-use Rattle.book.specs.Shown.{statusOf, shows, Told}
-use Rattle.book.specs.declared.State.{State}
-use Rattle.book.proofs.Settling.{update-waits}
+-- `weigh` meets its contract: check by check.
+use mathlib.Core.Path.{sym, ap, _∙_}
+use mathlib.Core.Bool.{Bool, _&&_, not}
+use Rattle.book.proofs.Refusing.{weighed-twice, weighed-over, weighed-unprinted, weighed-right, weighed-wrong}
 use borrow.Author.Needs.{needs}
 use Rattle.book.proofs.taking.weigh.Statement.{statement}
 use Rattle.book.proofs.taking.weigh.Tie as tie
 
-take-snapshot-requires : tie.Need-take-snapshot-requires
-take-snapshot-requires c κs = search needs
+both-requires : tie.Need-both-requires
+both-requires c κs = search needs
 
 returns : tie.Need-returns
-returns c = search needs
+returns c =
+    let a = c .before .before .args in
+    weighed-twice (a .outline) (a .dialect) (a .met) (a .over) (a .bids) (a .asks) (sym (c .before .both .ensures) ∙ c .if1 .taken)
 
-enum-told : tie.Need-enum-told
-enum-told c = search needs
+is-m-requires : tie.Need-is-m-requires
+is-m-requires c κs = search needs
 
-refuse-requires : tie.Need-refuse-requires
-refuse-requires c κs = search needs
-
-enum-told-2 : tie.Need-enum-told-2
-enum-told-2 c = search needs
-
-refuse-requires-2 : tie.Need-refuse-requires-2
-refuse-requires-2 c κs = search needs
-
-enum-told-3 : tie.Need-enum-told-3
-enum-told-3 c = search needs
-
-take-update-requires : tie.Need-take-update-requires
-take-update-requires c κs = search needs
+is-over-requires : tie.Need-is-over-requires
+is-over-requires c κs = search needs
 
 returns-2 : tie.Need-returns-2
-unfolding isLive statusOf shows
 returns-2 c =
     let a = c .before .before .before .before .before .args in
-    subst (Told (hear (shows (a .book)) (now (a .s)))) (sym (c .refuse .ensures)) (update-waits (a .book) (now (a .s)) (a .outline) (c .before .before .before .before .before .pre) (c .before .before .before .if1 .left) (ap (λ (x : State). isLive (statusOf x)) (c .before .enum-told .given .1)))
+    weighed-over (a .outline) (a .dialect) (a .met) (a .over) (a .bids) (a .asks) (sym (c .before .before .before .before .both .ensures) ∙ c .before .before .before .if1 .left) (sym (c .before .is-over .ensures ∙ ap (λ (x : Bool). not (a .outline .snapshot) && (x && a .over)) (c .before .before .is-m .ensures)) ∙ c .if2 .taken)
+
+checksum-of-requires : tie.Need-checksum-of-requires
+checksum-of-requires c κs = search needs
 
 returns-3 : tie.Need-returns-3
-unfolding isLive statusOf shows
 returns-3 c =
-    let a = c .before .before .before .before .before .args in
-    subst (Told (hear (shows (a .book)) (now (a .s)))) (sym (c .refuse2 .ensures)) (update-waits (a .book) (now (a .s)) (a .outline) (c .before .before .before .before .before .pre) (c .before .before .before .if1 .left) (ap (λ (x : State). isLive (statusOf x)) (c .before .enum-told2 .given .1)))
+    let a = c .before .before .before .before .before .before .before .before .before .args in
+    weighed-wrong (a .outline) (a .dialect) (a .met) (a .over) (a .bids) (a .asks) (sym (c .before .before .before .before .before .before .before .before .both .ensures) ∙ c .before .before .before .before .before .before .before .if1 .left) (sym (c .before .before .before .before .before .is-over .ensures ∙ ap (λ (x : Bool). not (a .outline .snapshot) && (x && a .over)) (c .before .before .before .before .before .before .is-m .ensures)) ∙ c .before .before .before .before .if2 .left) (c .before .before .before .if3 .taken) (λ q. c .if4 .taken (q ∙ sym (c .before .before .checksum-of .ensures)))
 
 returns-4 : tie.Need-returns-4
-returns-4 c = search needs
+returns-4 c =
+    let a = c .before .before .before .before .before .before .before .before .before .args in
+    weighed-right (a .outline) (a .dialect) (a .met) (a .over) (a .bids) (a .asks) (sym (c .before .before .before .before .before .before .before .before .both .ensures) ∙ c .before .before .before .before .before .before .before .if1 .left) (sym (c .before .before .before .before .before .is-over .ensures ∙ ap (λ (x : Bool). not (a .outline .snapshot) && (x && a .over)) (c .before .before .before .before .before .before .is-m .ensures)) ∙ c .before .before .before .before .if2 .left) (c .before .before .before .if3 .taken) (c .if4 .left ∙ c .before .before .checksum-of .ensures)
+
+returns-5 : tie.Need-returns-5
+returns-5 c =
+    let a = c .before .before .before .before .before .before .args in
+    weighed-unprinted (a .outline) (a .dialect) (a .met) (a .over) (a .bids) (a .asks) (sym (c .before .before .before .before .before .both .ensures) ∙ c .before .before .before .before .if1 .left) (sym (c .before .before .is-over .ensures ∙ ap (λ (x : Bool). not (a .outline .snapshot) && (x && a .over)) (c .before .before .before .is-m .ensures)) ∙ c .before .if2 .left) (c .if3 .left)
 
 pub weigh-spec : {M : Type 1} → statement M
 weigh-spec =
     tie.close
     (tie.spec
-    take-snapshot-requires
+    both-requires
     returns
-    enum-told
-    refuse-requires
-    enum-told-2
-    refuse-requires-2
-    enum-told-3
-    take-update-requires
+    is-m-requires
+    is-over-requires
     returns-2
+    checksum-of-requires
     returns-3
-    returns-4)
+    returns-4
+    returns-5)

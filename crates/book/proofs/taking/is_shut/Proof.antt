@@ -1,0 +1,30 @@
+-- `is_shut` meets its contract: state by state.
+use Rattle.book.specs.Reference.{isShut}
+use Rattle.book.specs.Shown.{statusOf}
+use borrow.Author.Needs.{needs}
+use Rattle.book.proofs.taking.is_shut.Statement.{statement}
+use Rattle.book.proofs.taking.is_shut.Tie as tie
+
+enum-told : tie.Need-enum-told
+enum-told c = search needs
+
+enum-told-2 : tie.Need-enum-told-2
+enum-told-2 c = search needs
+
+enum-told-3 : tie.Need-enum-told-3
+enum-told-3 c = search needs
+
+returns : tie.Need-returns
+unfolding isShut statusOf
+returns c = rw (c .enum-told .given .1)
+
+returns-2 : tie.Need-returns-2
+unfolding isShut statusOf
+returns-2 c = rw (c .enum-told2 .given .1)
+
+returns-3 : tie.Need-returns-3
+unfolding isShut statusOf
+returns-3 c = rw (c .enum-told3 .given .1)
+
+pub is-shut-spec : {M : Type 1} → statement M
+is-shut-spec = tie.close (tie.spec enum-told enum-told-2 enum-told-3 returns returns-2 returns-3)

@@ -1,0 +1,63 @@
+-- `judge_update` meets its contract: a snapshot passes, an update by the state and its number.
+use mathlib.Core.Path.{sym, ap, _∙_}
+use Rattle.book.specs.Reference.{isLive}
+use Rattle.book.specs.Shown.{statusOf}
+use Rattle.book.specs.declared.State.{State}
+use Rattle.book.proofs.Refusing.{judged-snapshot, judged-idle, judged-old, judged-new}
+use borrow.Author.Needs.{needs}
+use Rattle.book.proofs.taking.judge_update.Statement.{statement}
+use Rattle.book.proofs.taking.judge_update.Tie as tie
+
+returns : tie.Need-returns
+returns c =
+    judged-snapshot (c .before .args .state) (c .before .args .m) (c .before .args .number) (c .before .args .outline) (c .if1 .taken)
+
+enum-told : tie.Need-enum-told
+enum-told c = search needs
+
+enum-told-2 : tie.Need-enum-told-2
+enum-told-2 c = search needs
+
+enum-told-3 : tie.Need-enum-told-3
+enum-told-3 c = search needs
+
+is-old-requires : tie.Need-is-old-requires
+is-old-requires c κs = search needs
+
+returns-2 : tie.Need-returns-2
+unfolding isLive statusOf
+returns-2 c =
+    let a = c .before .before .before .before .before .args in
+    judged-old (a .state) (a .m) (a .number) (a .outline) (c .before .before .before .before .if1 .left) (ap (λ (x : State). isLive (statusOf x)) (c .before .before .enum-told3 .given .1)) (sym (c .before .is-old .ensures) ∙ c .if2 .taken)
+
+returns-3 : tie.Need-returns-3
+unfolding isLive statusOf
+returns-3 c =
+    let a = c .before .before .before .args in
+    judged-idle (a .state) (a .m) (a .number) (a .outline) (c .before .before .if1 .left) (ap (λ (x : State). isLive (statusOf x)) (c .enum-told .given .1))
+
+returns-4 : tie.Need-returns-4
+unfolding isLive statusOf
+returns-4 c =
+    let a = c .before .before .before .args in
+    judged-idle (a .state) (a .m) (a .number) (a .outline) (c .before .before .if1 .left) (ap (λ (x : State). isLive (statusOf x)) (c .enum-told2 .given .1))
+
+returns-5 : tie.Need-returns-5
+unfolding isLive statusOf
+returns-5 c =
+    let a = c .before .before .before .before .before .args in
+    judged-new (a .state) (a .m) (a .number) (a .outline) (c .before .before .before .before .if1 .left) (ap (λ (x : State). isLive (statusOf x)) (c .before .before .enum-told3 .given .1)) (sym (c .before .is-old .ensures) ∙ c .if2 .left)
+
+pub judge-update-spec : {M : Type 1} → statement M
+judge-update-spec =
+    tie.close
+    (tie.spec
+    returns
+    enum-told
+    enum-told-2
+    enum-told-3
+    is-old-requires
+    returns-2
+    returns-3
+    returns-4
+    returns-5)

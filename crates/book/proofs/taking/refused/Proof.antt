@@ -1,0 +1,20 @@
+-- `refused` meets its contract: by whether the book stays as it is.
+use mathlib.Core.Path.{sym, _∙_}
+use Rattle.book.proofs.Refusing.{refused-left, refused-waits}
+use borrow.Author.Needs.{needs}
+use Rattle.book.proofs.taking.refused.Statement.{statement}
+use Rattle.book.proofs.taking.refused.Tie as tie
+
+leaves-state-requires : tie.Need-leaves-state-requires
+leaves-state-requires c κs = search needs
+
+returns : tie.Need-returns
+returns c =
+    refused-left (c .before .before .args .standing) (c .before .before .args .answer) (sym (c .before .leaves-state .ensures) ∙ c .if1 .taken)
+
+returns-2 : tie.Need-returns-2
+returns-2 c =
+    refused-waits (c .before .before .args .standing) (c .before .before .args .answer) (sym (c .before .leaves-state .ensures) ∙ c .if1 .left)
+
+pub refused-spec : {M : Type 1} → statement M
+refused-spec = tie.close (tie.spec leaves-state-requires returns returns-2)

@@ -1,20 +1,22 @@
 #!/usr/bin/env python3
-"""Runs target/bin/booklines on the cases below, each whole and in pieces, and compares what it writes.
+"""Runs the line program on the cases below, each whole and in pieces, and compares what it writes.
 
-    rt check booklines && python3 tools/booklines_cases.py
+    rt check booklines && python3 tools/booklines_cases.py [PROGRAM]
+
+PROGRAM is target/bin/booklines unless it is named. The last line written has the count of cases and of those that failed;
+the exit status is 1 if one failed.
 """
+import os
 import subprocess
 import sys
 import threading
 import time
 import zlib
 
-PROGRAM = "target/bin/booklines"
+PROGRAM = os.path.abspath(sys.argv[1] if len(sys.argv) > 1 else "target/bin/booklines")
 MAX_MESSAGE = 32_768
-
-
-def k_text(price, size):
-    return (price.replace(".", "").lstrip("0") + size.replace(".", "").lstrip("0")).encode()
+# how long a run may take, in seconds
+LIMIT = 30
 
 
 def k_snapshot(depth, name, bids, asks):
@@ -95,56 +97,75 @@ CASES.append(("a million empty lines", b"K 10 A/B\n" + b"\n" * 1_000_000, b"3 - 
 CASES.append(("snapshots over many blocks", b"K 10 A/B\n" + (K + b"\n") * 20_000, b"0 1 2\n" * 20_000))
 
 
-def whole(text):
-    return subprocess.run([PROGRAM], input=text, stdout=subprocess.PIPE, check=True).stdout
-
-
-def in_pieces(text, size):
-    """The same through a pipe that is written to in pieces."""
+def start():
+    """The program, which is ended after LIMIT."""
     process = subprocess.Popen([PROGRAM], stdin=subprocess.PIPE, stdout=subprocess.PIPE)
+    limit = threading.Timer(LIMIT, process.kill)
+    limit.daemon = True
+    limit.start()
+    return process, limit
+
+
+def written(text, size):
+    """What the program writes where the text comes in pieces of a size; None if the program fails."""
+    process, limit = start()
 
     def send():
-        with process.stdin as pipe:
-            for i in range(0, len(text), size):
-                pipe.write(text[i : i + size])
-                pipe.flush()
+        try:
+            with process.stdin as pipe:
+                for i in range(0, len(text), size):
+                    pipe.write(text[i : i + size])
+                    pipe.flush()
+        except BrokenPipeError:
+            pass
 
     sender = threading.Thread(target=send)
     sender.start()
     out = process.stdout.read()
     sender.join()
-    process.wait()
-    return out
+    status = process.wait()
+    limit.cancel()
+    return out if status == 0 else None
 
 
-def answers_at_once():
-    """A reply comes before the next message is sent."""
-    process = subprocess.Popen([PROGRAM], stdin=subprocess.PIPE, stdout=subprocess.PIPE)
-    process.stdin.write(b"K 10 A/B\n")
-    for message, reply in [(K, b"0 1 2\n"), (b"", b"3 - -\n"), (K, b"0 1 2\n")]:
-        process.stdin.write(message + b"\n")
-        process.stdin.flush()
-        if process.stdout.readline() != reply:
+def is_answered_at_once():
+    """Whether a reply comes before the next message is sent."""
+    process, limit = start()
+    answered = True
+    try:
+        process.stdin.write(b"K 10 A/B\n")
+        for message, reply in [(K, b"0 1 2\n"), (b"", b"3 - -\n"), (K, b"0 1 2\n")]:
+            process.stdin.write(message + b"\n")
+            process.stdin.flush()
+            answered = answered and process.stdout.readline() == reply
+    except BrokenPipeError:
+        answered = False
+    rest, _ = process.communicate()
+    limit.cancel()
+    return answered and rest == b"" and process.returncode == 0
+
+
+def is_met(name, text, expected):
+    """Whether the text gives what is expected, whole and in pieces."""
+    for size in (len(text) + 1, 1, 7, 4_096, 65_536) if len(text) < 2_000 else (len(text), 1_000, 32_769, 65_536):
+        out = written(text, size)
+        if out != expected:
+            said = "the program fails" if out is None else f"{out[:60]!r}"
+            print(f"{name}, in pieces of {size} bytes: {said} and not {expected[:60]!r}")
             return False
-    return process.communicate()[0] == b""
+    return True
 
 
 def main():
-    failed = 0
-    start = time.time()
-    for name, text, expected in CASES:
-        if whole(text) != expected:
-            failed += 1
-            print(f"{name}: {whole(text)[:60]!r} and not {expected[:60]!r}")
-        for size in (1, 7, 4_096, 65_536) if len(text) < 2_000 else (1_000, 32_769, 65_536):
-            if in_pieces(text, size) != expected:
-                failed += 1
-                print(f"{name}: in pieces of {size} bytes it differs")
-    if not answers_at_once():
-        failed += 1
+    if not os.access(PROGRAM, os.X_OK):
+        sys.exit(f"{PROGRAM} is no program")
+    begun = time.time()
+    met = [is_met(*case) for case in CASES]
+    met.append(is_answered_at_once())
+    if not met[-1]:
         print("a reply is held back")
-    print(f"{len(CASES)} cases, {failed} failed, {time.time() - start:.1f} s")
-    sys.exit(failed > 0)
+    print(f"{len(met)} cases, {met.count(False)} failed, {time.time() - begun:.1f} s")
+    sys.exit(1 if False in met else 0)
 
 
 if __name__ == "__main__":

@@ -51,7 +51,7 @@ pub fn hear_lines(book: Book, s: &[u8], buffer: &mut [u8]) -> Heard
         now = step.book;
         let counted = now.counts(Scope::Current);
         let asked = counted.answer;
-        let live = line_text::number_of(asked) == 0;
+        let live = message::number_of(asked) == 0;
         written = line_text::write_reply(answer, live, counted.bids, counted.asks, buffer, written);
         next = end + 1;
     }

@@ -6,13 +6,13 @@ ghost use mathlib.Core.Path.{_≡_};
 ghost use Prim.Native.Nat.{_≤_};
 ghost use lib.ListN.{length, drop};
 ghost use Rattle.settings.specs.Settings.{shut};
-ghost use Rattle.message.specs.Answers.{number};
 ghost use Rattle.writer.specs.Parts.{Room, Put};
 ghost use Rattle.line_text.specs.Opening.{dialectOf, lineOne, depthAndName, Found};
 ghost use Rattle.line_text.specs.Reply.{replyText, countsText};
 use decimal::ParsedWhole;
 use lines::find;
 use message::Answer;
+use message::number_of;
 use settings::Dialect;
 use writer::lay;
 use writer::lay_number;
@@ -81,30 +81,6 @@ fn no_settings(line: &[u8]) -> FirstLine
         dialect: Dialect::Unknown,
         depth: 0,
         name: line.len(),
-    }
-}
-
-// The number of an answer.
-pub fn number_of(answer: Answer) -> u64
-    ensures { λ r. ⌜ r ≡ number answer ⌝ }
-{
-    match answer {
-        Answer::Taken => 0,
-        Answer::Shut => 1,
-        Answer::TooLong => 2,
-        Answer::NotJson => 3,
-        Answer::Escaped => 4,
-        Answer::NotOurs => 5,
-        Answer::BadLayout => 6,
-        Answer::TooManyEntries => 7,
-        Answer::BadDecimal => 8,
-        Answer::PriceTwice => 9,
-        Answer::NoSnapshot => 10,
-        Answer::OldNumber => 11,
-        Answer::TooManyLevels => 12,
-        Answer::WrongChecksum => 13,
-        Answer::NoLevel => 14,
-        Answer::NoRoom => 15,
     }
 }
 

@@ -1,14 +1,29 @@
 -- What stands before a byte, from a position on: each case of the byte there. Assumes nothing.
-use Prim.Native.Nat.{ℕ, suc, _+_, _≤_, _<_}
+use Prim.Native.Nat.{ℕ, zero, suc, _+_, _-_, _≤_, _<_}
 use mathlib.Core.Path.{_≡_, refl, sym, ap, _∙_}
-use mathlib.Core.List.{List, _∷_}
+use mathlib.Core.Bool.{Bool, true, false}
+use mathlib.Core.List.{List, [], _∷_}
+use native.Mathlib.Decide.{decLt}
 use native.Mathlib.Nat.{add-zero}
 use native.Mathlib.Numerals.{add-one}
 use native.Mathlib.Omega.{arith}
-use borrow.Author.Tests.{eq-eqb, ne-eqb}
+use borrow.Author.Tests.{eq-eqb, ne-eqb, lt-ltb, le-ltb}
+use lib.Dec.{eqb, ltb}
 use lib.ListN.{length, getD, drop, drop-of-length-le}
-use lib.Seq.{drop-cons}
+use lib.Seq.{drop-cons, drop-drop}
 use Rattle.lines.specs.Lines.{before}
+
+-- ---- the first byte
+
+pub first-is : (b c : ℕ) (s : List ℕ) → eqb c b ≡ true → before b (c ∷ s) ≡ 0
+unfolding before
+first-is b c s e = rw (e, before)
+
+pub first-not : (b c : ℕ) (s : List ℕ) → eqb c b ≡ false → before b (c ∷ s) ≡ suc (before b s)
+unfolding before
+first-not b c s e = rw (e, before)
+
+-- ---- the byte at a position
 
 here : (s : List ℕ) (i : ℕ) → i < length s → drop i s ≡ getD s i 0 ∷ drop (i + 1) s
 here s i h = drop-cons s i 0 h ∙ ap (λ (n : ℕ). getD s i 0 ∷ drop n s) (sym (add-one i))
@@ -26,3 +41,46 @@ passed s i b h n =
 pub ended : (s : List ℕ) (i b : ℕ) → length s ≤ i → i + before b (drop i s) ≡ i
 unfolding before
 ended s i b h = ap (λ (l : List ℕ). i + before b l) (drop-of-length-le s {i = i} h) ∙ add-zero i
+
+-- ---- a block
+
+past : (b k : ℕ) (s : List ℕ) → k ≤ before b s → k + before b (drop k s) ≡ before b s
+unfolding before
+past b zero s h = omega arith
+past b (suc k) [] h = absurd (omega (arith, h))
+past b (suc k) (c ∷ s) h = at (eqb c b) refl (λ l. past b k s l)
+  where
+    at : (t : Bool) → eqb c b ≡ t → (k ≤ before b s → k + before b (drop k s) ≡ before b s) → suc k + before b (drop k s) ≡ before b (c ∷ s)
+    at true e ih = let n : before b (c ∷ s) ≡ 0 = first-is b c s e in absurd (omega (arith, h))
+    at false e ih = let n : before b (c ∷ s) ≡ suc (before b s) = first-not b c s e in let m = ih (omega arith) in omega arith
+
+pub skipped : (s : List ℕ) (i k b : ℕ) → k ≤ before b (drop i s) → i + k + before b (drop (i + k) s) ≡ i + before b (drop i s)
+skipped s i k b h =
+    let e : before b (drop k (drop i s)) ≡ before b (drop (i + k) s) = ap (before b) (drop-drop k i s) in
+    let p = past b k (drop i s) h in
+    omega arith
+
+-- whether it stands before a position, from the byte there to the next one
+module _ (s : List ℕ) (from i b : ℕ) (order : from ≤ i) (inside : i < length s) where
+  abbrev count : ℕ
+  count = before b (drop from s)
+
+  reached : (count < i - from → ⊥) → count ≡ i - from + before b (drop i s)
+  reached h =
+      let e : from + (i - from) ≡ i = omega arith in
+      let k = ap (λ (j : ℕ). j + before b (drop j s)) e in
+      let p = skipped s from (i - from) b (omega arith) in
+      omega arith
+
+  pub hit : getD s i 0 ≡ b → ltb count (i + 1 - from) ≡ true
+  hit e =
+      let f = found s i b inside e in
+      elim (decLt count (i - from)) [ yes l ↦ lt-ltb count (i + 1 - from) (omega arith) | no l ↦ let r = reached l in lt-ltb count (i + 1 - from) (omega arith) ]
+
+  pub missed : (getD s i 0 ≡ b → ⊥) → ltb count (i - from) ≡ ltb count (i + 1 - from)
+  missed e =
+      let f = passed s i b inside e in
+      elim (decLt count (i - from)) [
+        | yes l ↦ lt-ltb count (i - from) l ∙ sym (lt-ltb count (i + 1 - from) (omega arith))
+        | no l ↦ let r = reached l in le-ltb count (i - from) (omega arith) ∙ sym (le-ltb count (i + 1 - from) (omega arith))
+      ]

@@ -9,16 +9,15 @@ use lib.Dec.{eqb}
 use lib.ListN.{length, take, drop, length-drop}
 use lib.Seq.{drop-drop}
 use Rattle.lines.specs.Lines.{before, lineEnd, inFront, complete, unfinished}
+use Rattle.lines.proofs.Before.{first-is, first-not}
 
 -- ---- the first byte
 
 pub at-end : (c : ℕ) (s : List ℕ) → eqb c lineEnd ≡ true → before lineEnd (c ∷ s) ≡ 0
-unfolding before
-at-end c s e = rw (e, before)
+at-end = first-is lineEnd
 
 pub not-end : (c : ℕ) (s : List ℕ) → eqb c lineEnd ≡ false → before lineEnd (c ∷ s) ≡ suc (before lineEnd s)
-unfolding before
-not-end c s e = rw (e, before)
+not-end = first-not lineEnd
 
 -- ---- a first line that ends
 

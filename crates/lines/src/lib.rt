@@ -3,6 +3,7 @@
 //     let end = lines::find(s, at, lines::LINE_END);     // the line that begins at `at` is &s[at..end]
 ghost use mathlib.Core.Path.{_≡_};
 ghost use Prim.Native.Nat.{_+_, _-_, _≤_, min};
+ghost use lib.Dec.{ltb};
 ghost use lib.ListN.{length, drop};
 ghost use lib.Seq.{paste};
 ghost use Rattle.lines.specs.Lines.{before};
@@ -14,12 +15,47 @@ pub fn find(s: &[u8], at: usize, b: u8) -> usize
     requires { ⌜ at ≤ length (now s) ⌝ }
     ensures { λ r. ⌜ (at ≤ r) × (r ≤ length (now (s .entry))) × (r ≡ at + before b (drop at (now (s .entry)))) ⌝ }
 {
-    let mut i = at;
+    let mut i = skip_blocks(s, at, b);
     while i < s.len() {
         if s[i] == b {
             return i;
         }
         i += 1;
+    }
+    i
+}
+
+// How many bytes are tested together.
+const BLOCK: usize = 16;
+
+// Whether a byte stands in the block that begins at a position. No turn ends the loop early, so that all the bytes are compared at once.
+fn is_in_block(s: &[u8], at: usize, b: u8) -> bool
+    requires { ⌜ at + 16 ≤ length (now s) ⌝ }
+    ensures { λ r. ⌜ r ≡ ltb (before b (drop at (now (s .entry)))) 16 ⌝ }
+{
+    let end = at + BLOCK;
+    let mut found = false;
+    let mut k = at;
+    while k < end {
+        if s[k] == b {
+            found = true;
+        }
+        k += 1;
+    }
+    found
+}
+
+// Past the blocks that do not have a byte, from a position on.
+fn skip_blocks(s: &[u8], at: usize, b: u8) -> usize
+    requires { ⌜ at ≤ length (now s) ⌝ }
+    ensures { λ r. ⌜ (at ≤ r) × (r ≤ length (now (s .entry))) × (r + before b (drop r (now (s .entry))) ≡ at + before b (drop at (now (s .entry)))) ⌝ }
+{
+    let mut i = at;
+    while BLOCK <= s.len() - i {
+        if is_in_block(s, i, b) {
+            return i;
+        }
+        i += BLOCK;
     }
     i
 }

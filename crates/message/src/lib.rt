@@ -16,6 +16,7 @@ ghost use mathlib.Core.Path.{_≡_};
 ghost use mathlib.Core.Bool.{true};
 ghost use Rattle.settings.specs.Settings.{good};
 ghost use Rattle.layout.specs.Told.{toldAt};
+ghost use Rattle.message.specs.Answers.{number};
 ghost use Rattle.message.specs.Meaning.{heardIn, framed, checked, judged};
 ghost use Rattle.message.specs.Verdict.{verdictOf};
 pub use bad::bad_decimal;
@@ -62,6 +63,30 @@ pub enum Answer {
     NoLevel,
     // The lent buffer is too small.
     NoRoom,
+}
+
+// The number of an answer.
+pub fn number_of(answer: Answer) -> u64
+    ensures { λ r. ⌜ r ≡ number answer ⌝ }
+{
+    match answer {
+        Answer::Taken => 0,
+        Answer::Shut => 1,
+        Answer::TooLong => 2,
+        Answer::NotJson => 3,
+        Answer::Escaped => 4,
+        Answer::NotOurs => 5,
+        Answer::BadLayout => 6,
+        Answer::TooManyEntries => 7,
+        Answer::BadDecimal => 8,
+        Answer::PriceTwice => 9,
+        Answer::NoSnapshot => 10,
+        Answer::OldNumber => 11,
+        Answer::TooManyLevels => 12,
+        Answer::WrongChecksum => 13,
+        Answer::NoLevel => 14,
+        Answer::NoRoom => 15,
+    }
 }
 
 pub enum Verdict {

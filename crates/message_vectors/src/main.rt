@@ -13,8 +13,8 @@ use libc::STDIN_FILENO;
 use libc::STDOUT_FILENO;
 use lines::LINE_END;
 use lines::find;
-use message::Answer;
 use message::Verdict;
+use message::number_of;
 use settings::Dialect;
 ghost use mathlib.Core.Path.{_≡_};
 ghost use Prim.Native.Nat.{_≤_};
@@ -231,26 +231,4 @@ fn write(s: &[u8]) {
 
 fn write_number(n: u64) {
     io::print_decimal(STDOUT_FILENO, n);
-}
-
-// The number of an answer in document 01's table.
-fn number_of(answer: Answer) -> u64 {
-    match answer {
-        Answer::Taken => 0,
-        Answer::Shut => 1,
-        Answer::TooLong => 2,
-        Answer::NotJson => 3,
-        Answer::Escaped => 4,
-        Answer::NotOurs => 5,
-        Answer::BadLayout => 6,
-        Answer::TooManyEntries => 7,
-        Answer::BadDecimal => 8,
-        Answer::PriceTwice => 9,
-        Answer::NoSnapshot => 10,
-        Answer::OldNumber => 11,
-        Answer::TooManyLevels => 12,
-        Answer::WrongChecksum => 13,
-        Answer::NoLevel => 14,
-        Answer::NoRoom => 15,
-    }
 }

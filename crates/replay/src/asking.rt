@@ -12,12 +12,11 @@ use book::Counted;
 use book::Levelled;
 use book::Scope;
 use book::Step;
-use message::Answer;
+use message::number_of;
 use side::Side;
 ghost use mathlib.Core.Path.{_≡_};
 ghost use Prim.Native.Nat.{_≤_};
 ghost use lib.ListN.{length};
-ghost use Rattle.message.specs.Answers.{number};
 ghost use Rattle.writer.specs.Parts.{Put};
 ghost use Rattle.book.specs.Shown.{shows, Good};
 ghost use Rattle.replay.specs.Format.{askOf, scopeOf, sideOf, wordsLength, wordsOf};
@@ -149,29 +148,5 @@ fn amounted(amount: Amounted) -> Replied
         second: 0,
         third: 0,
         fourth: 0,
-    }
-}
-
-// An answer's number.
-fn number_of(answer: Answer) -> u64
-    ensures { λ r. ⌜ r ≡ number answer ⌝ }
-{
-    match answer {
-        Answer::Taken => 0,
-        Answer::Shut => 1,
-        Answer::TooLong => 2,
-        Answer::NotJson => 3,
-        Answer::Escaped => 4,
-        Answer::NotOurs => 5,
-        Answer::BadLayout => 6,
-        Answer::TooManyEntries => 7,
-        Answer::BadDecimal => 8,
-        Answer::PriceTwice => 9,
-        Answer::NoSnapshot => 10,
-        Answer::OldNumber => 11,
-        Answer::TooManyLevels => 12,
-        Answer::WrongChecksum => 13,
-        Answer::NoLevel => 14,
-        Answer::NoRoom => 15,
     }
 }

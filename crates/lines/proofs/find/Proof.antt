@@ -1,7 +1,7 @@
 -- `find` meets its contract: what stands before the byte, from a turn on, gives what it gives from the start.
 use borrow.Author.Needs.{needs}
 use Prim.Native.Nat.{_+_, _≤_, _-_}
-use mathlib.Core.Path.{_≡_, refl, sym, _∙_}
+use mathlib.Core.Path.{_≡_, sym, _∙_}
 use native.Mathlib.Omega.{arith}
 use lib.ListN.{length, drop}
 use Rattle.lines.specs.Lines.{before}
@@ -15,18 +15,21 @@ Inv-loop s at b i₀ i = (at ≤ i) × (i ≤ length s) × (i + before b (drop i
 abbrev μ-loop : tie.MeasureT-loop
 μ-loop s at b i₀ i = length s - i
 
+skip-blocks-requires : tie.Need-skip-blocks-requires Inv-loop μ-loop
+skip-blocks-requires c κs = search needs
+
 loop-holds : tie.Need-loop-holds Inv-loop μ-loop
-loop-holds c = let p = c .pre in (omega arith, p, refl)
+loop-holds c = c .skip-blocks .ensures
 
 shared-slice-read-if1 : tie.Need-shared-slice-read-if1 Inv-loop μ-loop
 shared-slice-read-if1 c = search needs
 
 returns : tie.Need-returns Inv-loop μ-loop
 returns c =
-    let s = c .before .before .before .before .args .s .now in
+    let s = c .before .before .before .before .before .before .args .s .now in
     let i = c .before .before .before .loop .i in
     let inv = c .before .before .before .loop .inv in
-    (inv .0, inv .1, sym (found s i (c .before .before .before .before .args .b) (c .before .before .loop-test .taken) (c .if1 .taken)) ∙ inv .2)
+    (inv .0, inv .1, sym (found s i (c .before .before .before .before .before .before .args .b) (c .before .before .loop-test .taken) (c .if1 .taken)) ∙ inv .2)
 
 add-i : tie.Need-add-i Inv-loop μ-loop
 add-i c = search needs
@@ -36,16 +39,16 @@ loop-less c = search needs
 
 loop-again : tie.Need-loop-again Inv-loop μ-loop
 loop-again c =
-    let s = c .before .before .before .before .args .s .now in
+    let s = c .before .before .before .before .before .before .args .s .now in
     let i = c .before .before .before .loop .i in
     let inv = c .before .before .before .loop .inv in
     let h = c .before .before .loop-test .taken in
-    (omega arith, omega arith, passed s i (c .before .before .before .before .args .b) h (c .if1 .left) ∙ inv .2)
+    (omega arith, omega arith, passed s i (c .before .before .before .before .before .before .args .b) h (c .if1 .left) ∙ inv .2)
 
 returns-2 : tie.Need-returns-2 Inv-loop μ-loop
 returns-2 c =
     let inv = c .before .loop .inv in
-    (inv .0, inv .1, sym (ended (c .before .before .args .s .now) (c .before .loop .i) (c .before .before .args .b) (c .loop-test .left)) ∙ inv .2)
+    (inv .0, inv .1, sym (ended (c .before .before .before .before .args .s .now) (c .before .loop .i) (c .before .before .before .before .args .b) (c .loop-test .left)) ∙ inv .2)
 
 pub find-spec : {M : Type 1} → statement M
 find-spec =
@@ -53,6 +56,7 @@ find-spec =
     (tie.spec
     Inv-loop
     μ-loop
+    skip-blocks-requires
     loop-holds
     shared-slice-read-if1
     returns

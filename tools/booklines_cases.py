@@ -1,7 +1,7 @@
 #!/usr/bin/env python3
 """Runs target/bin/booklines on the cases below, each whole and in pieces, and compares what it writes.
 
-    rt check booklines && python3 tools/booklines_cases.py
+    rt check booklines && python3 tools/booklines_cases.py [PROGRAM]
 """
 import subprocess
 import sys
@@ -9,7 +9,7 @@ import threading
 import time
 import zlib
 
-PROGRAM = "target/bin/booklines"
+PROGRAM = sys.argv[1] if len(sys.argv) > 1 else "target/bin/booklines"
 MAX_MESSAGE = 32_768
 
 

@@ -120,12 +120,17 @@ def in_pieces(text, size):
 def answers_at_once():
     """A reply comes before the next message is sent."""
     process = subprocess.Popen([PROGRAM], stdin=subprocess.PIPE, stdout=subprocess.PIPE)
+    timer = threading.Timer(10, process.kill)
+    timer.start()
     process.stdin.write(b"K 10 A/B\n")
     for message, reply in [(K, b"0 1 2\n"), (b"", b"3 - -\n"), (K, b"0 1 2\n")]:
         process.stdin.write(message + b"\n")
         process.stdin.flush()
         if process.stdout.readline() != reply:
+            timer.cancel()
+            process.kill()
             return False
+    timer.cancel()
     return process.communicate()[0] == b""
 
 

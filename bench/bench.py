@@ -6,7 +6,7 @@
 Without a PROGRAM: target/bin/booklines (rt check booklines). In a round every program runs once on the feed, in shuffled
 order; a ratio is the median, over the rounds, of the ratio of CPU times (user and system) within a round, so that what
 else the machine does falls on all alike. What the programs print is compared byte for byte: exit status 1 if it differs.
-Instructions a message: callgrind's count for 5,000 messages less that for 1,000, by 4,000.
+Instructions a message: callgrind's count for the first 5,000 messages less that for the first 1,000, by 4,000.
 A peer that cannot be built is named and left out. Peers and feeds are put into target/bench.
 """
 import argparse
@@ -87,12 +87,14 @@ def rounds(name, path, programs, count, order):
     return times, good
 
 
-def instructions(program, path, few=1_000, many=5_000):
+def instructions(program, path):
     """Instructions a message by callgrind, or nothing for a script or where callgrind fails."""
     if program.endswith(".py"):
         return None
-    lines = open(path, "rb").readlines()
-    counts = []
+    with open(path, "rb") as file:
+        lines = file.readlines()
+    many = min(5_000, len(lines) - 1)
+    few, counts = many // 5, []
     for length in (few, many):
         done = subprocess.run(
             ["valgrind", "--tool=callgrind", "--callgrind-out-file=/dev/null", program],

@@ -28,12 +28,12 @@ const MISNAMED: [&str; 18] = [
 
 /// One fault in the draft's texts.
 pub fn damage_draft(random: &mut Random, book: &Book, market: &Market, draft: Draft) -> Draft {
-    match random.below(11) {
-        0 | 1 => bad_decimal(random, book, market, draft),
-        2 => zeros(random, book, market, draft),
-        3 | 4 => doubled(random, book, market, draft),
-        5 | 6 => crowd(random, book, market, draft),
-        7 | 8 => old_gsn(random, book, draft),
+    match (random.below(15), draft.kind) {
+        (0 | 1, _) => bad_decimal(random, book, market, draft),
+        (2, _) => zeros(random, book, market, draft),
+        (3 | 4, _) | (5..=9, Kind::Snapshot) => doubled(random, book, market, draft),
+        (5..=9, Kind::Update) | (10, _) => crowd(random, book, market, draft),
+        (11 | 12, _) => old_gsn(random, book, draft),
         _ => wrong_checksum(random, draft),
     }
 }
@@ -83,10 +83,13 @@ fn doubled(random: &mut Random, book: &Book, market: &Market, draft: Draft) -> D
     finished(book, draft)
 }
 
-/// 99 to 102 entries on a side.
+/// 99 to 102 entries on a side, or fewer that a full side has no place for.
 fn crowd(random: &mut Random, book: &Book, market: &Market, mut draft: Draft) -> Draft {
     let side = if random.percent(50) { Side::Bid } else { Side::Ask };
-    let wanted = random.between(MAX_ENTRIES - 1, MAX_ENTRIES + 2);
+    let least = random.pick(&[MAX_ENTRIES - 1, 20]);
+    let wanted = random.between(least, MAX_ENTRIES + 2);
+    let wide = Market { spread: 400, middle: market.middle + 400, ..*market };
+    let market = if random.percent(50) { market } else { &wide };
     draft.lines.retain(|line| line.side != side);
     for _ in 0..wanted {
         let size = if draft.kind == Kind::Update && random.percent(20) { zero(random) } else { size(random) };

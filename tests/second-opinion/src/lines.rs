@@ -54,13 +54,16 @@ pub fn run(program: &Path, input: &[u8]) -> std::io::Result<Vec<String>> {
         child.stdout.take().expect("piped").read_to_end(&mut printed)?;
         Ok(())
     })?;
-    child.wait()?;
+    let status = child.wait()?;
     let text = String::from_utf8_lossy(&printed);
     let mut lines: Vec<String> = text.split('\n').map(str::to_string).collect();
     if lines.last().is_some_and(String::is_empty) {
         lines.pop();
     } else {
         lines.push("no line end after the last line".to_string());
+    }
+    if !status.success() {
+        lines.push(format!("ended with {status}"));
     }
     Ok(lines)
 }

@@ -7,7 +7,7 @@ use second_opinion::lines;
 use second_opinion::random::Random;
 use second_opinion::replay;
 use second_opinion::script::script;
-use second_opinion::session::{count, session, Purpose, Session};
+use second_opinion::session::{answers, session, Purpose, Session};
 use second_opinion::sweep;
 use second_opinion::tally::Tally;
 use std::path::PathBuf;
@@ -48,7 +48,7 @@ fn compare(options: &Options, counts: &mut Tally) -> Result<usize, String> {
     let mut random = Random::new(options.seed);
     let sweeps = if options.sweep { sweep::sessions() } else { vec![] };
     for session in sweeps {
-        done += compare_one(options, counts, &session, &mut random)?;
+        done += compare_one(options, counts, &session, &mut random, true)?;
     }
     let purpose = if options.booklines.is_some() { Purpose::Lines } else { Purpose::Calls };
     let enough = done + options.calls;
@@ -56,24 +56,31 @@ fn compare(options: &Options, counts: &mut Tally) -> Result<usize, String> {
         let most = random.pick(&[5, 50, 300, 300, 600]);
         let length = random.between(0, most);
         let session = session(&mut random, purpose, length);
-        done += compare_one(options, counts, &session, &mut random)?;
+        done += compare_one(options, counts, &session, &mut random, false)?;
     }
     Ok(done)
 }
 
-/// How many calls the session has, if nothing differs.
-fn compare_one(options: &Options, counts: &mut Tally, session: &Session, random: &mut Random) -> Result<usize, String> {
-    count(session, counts);
-    let report = match (&options.booklines, replay::linked()) {
-        (Some(program), _) => lines::compare(program, session, random.percent(80))
-            .map_err(|error| format!("{}: {error}", program.display()))?,
-        (None, Some(library)) => script(random, session).compare(library),
-        (None, None) => None,
+/// How many calls of the session were made and compared, if nothing differs.
+fn compare_one(
+    options: &Options,
+    counts: &mut Tally,
+    session: &Session,
+    random: &mut Random,
+    whole: bool,
+) -> Result<usize, String> {
+    let compared = match (&options.booklines, replay::linked()) {
+        (Some(program), _) => match lines::compare(program, session, random.percent(80)) {
+            Ok(None) => Ok(answers(session)),
+            Ok(Some(report)) => Err(report),
+            Err(error) => return Err(format!("{}: {error}", program.display())),
+        },
+        (None, Some(library)) => script(random, session, whole).compare(library),
+        (None, None) => Ok(answers(session)),
     };
-    match report {
-        None => Ok(session.calls.len()),
-        Some(report) => Err(format!("differs:\n{report}")),
-    }
+    let answers = compared.map_err(|report| format!("differs:\n{report}"))?;
+    counts.count(session.dialect, &answers);
+    Ok(answers.len())
 }
 
 /// What this book was compared with.

@@ -4,14 +4,14 @@ use crate::script::Run;
 
 /// The library's way to run a script, if this was built with REPLAY_DIR.
 #[cfg(not(replay))]
-pub fn linked() -> Option<Run> {
+pub fn linked() -> Option<Run<'static>> {
     None
 }
 
 /// The library's way to run a script, if this was built with REPLAY_DIR.
 #[cfg(replay)]
-pub fn linked() -> Option<Run> {
-    Some(library::run)
+pub fn linked() -> Option<Run<'static>> {
+    Some(&library::run)
 }
 
 #[cfg(replay)]

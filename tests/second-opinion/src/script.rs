@@ -19,14 +19,14 @@ pub struct Script {
 }
 
 /// How a script is run: the count of calls made; the replies are laid into the room.
-pub type Run = fn(&Opening, &[u8], &mut [u8]) -> usize;
+pub type Run<'a> = &'a dyn Fn(&Opening, &[u8], &mut [u8]) -> usize;
 
-/// The session as a script; sometimes it is cut, asks for what is not there, or
-/// has too little room.
-pub fn script(random: &mut Random, session: &Session) -> Script {
+/// The session as a script. Unless it is to be whole, sometimes it is cut, asks
+/// for what is not there, or has too little room.
+pub fn script(random: &mut Random, session: &Session, whole: bool) -> Script {
     let mut parts: Vec<Vec<u8>> = session.calls.iter().map(|call| part(random, call)).collect();
     let mut room: usize = parts.iter().map(|part| REPLY + word(part, 32) as usize).sum();
-    match random.below(12) {
+    match if whole { 12 } else { random.below(12) } {
         0 => room = random.below(room + 1),
         1 => room += random.below(100),
         2 => parts.push(garbage(random, HEADER + 7)),
@@ -184,15 +184,28 @@ fn reply(book: &mut Book, header: &[u8], message: &[u8], room: &mut [u8]) -> (u8
     }
 }
 
+/// The answer numbers in the replies of the calls made.
+fn answers(script: &[u8], made: usize, out: &[u8]) -> Vec<u8> {
+    let (mut from, mut to) = (0, 0);
+    let mut answers = Vec::new();
+    for _ in 0..made {
+        answers.push(out[to]);
+        to += REPLY + word(&script[from..], 32) as usize;
+        from += HEADER + word(&script[from..], 40) as usize;
+    }
+    answers
+}
+
 impl Script {
-    fn run(&self, run: Run) -> (usize, Vec<u8>) {
+    /// The count of calls made, and the whole room afterwards.
+    pub fn run(&self, run: Run) -> (usize, Vec<u8>) {
         let mut out = self.out.clone();
         let made = run(&self.opening, &self.parts.concat(), &mut out);
         (made, out)
     }
 
     fn differs(&self, there: Run) -> bool {
-        self.run(here) != self.run(there)
+        self.run(&here) != self.run(there)
     }
 
     /// The script without the calls that the difference does not need.
@@ -208,23 +221,28 @@ impl Script {
         short
     }
 
-    /// A difference is answered as a report.
-    pub fn compare(&self, there: Run) -> Option<String> {
-        if !self.differs(there) {
-            return None;
+    /// The answer number of each call made; a difference is an error with its report.
+    pub fn compare(&self, there: Run) -> Result<Vec<u8>, String> {
+        let (made, out) = self.run(&here);
+        let (there_made, there_out) = self.run(there);
+        if made == there_made && out == there_out {
+            return Ok(answers(&self.parts.concat(), made, &out));
         }
-        let short = self.shortest(there);
-        let (ours, theirs) = (short.run(here), short.run(there));
-        let mut report = format!("opened with {}, room of {}\n", shown(&short.opening.line()), short.out.len());
-        for part in &short.parts {
+        Err(self.shortest(there).report(there))
+    }
+
+    fn report(&self, there: Run) -> String {
+        let (ours, theirs) = (self.run(&here), self.run(there));
+        let mut report = format!("opened with {}, room of {}\n", shown(&self.opening.line()), self.out.len());
+        for part in &self.parts {
             let words: Vec<u64> = (0..6).filter(|&at| 8 * at + 8 <= part.len()).map(|at| word(part, 8 * at)).collect();
             report += &format!("call {words:?} {}\n", shown(part.get(HEADER..).unwrap_or(part)));
         }
         report += &format!("calls made: here {}, there {}\n", ours.0, theirs.0);
-        if let Some(place) = (0..short.out.len()).find(|&place| ours.1[place] != theirs.1[place]) {
-            let end = short.out.len().min(place + 200);
+        if let Some(place) = (0..self.out.len()).find(|&place| ours.1[place] != theirs.1[place]) {
+            let end = self.out.len().min(place + 200);
             report += &format!("from byte {place}: here {:?}, there {:?}\n", &ours.1[place..end], &theirs.1[place..end]);
         }
-        Some(report)
+        report
     }
 }

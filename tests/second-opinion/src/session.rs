@@ -5,7 +5,6 @@ use crate::damage::{damage_bytes, damage_draft, damage_tree, pad};
 use crate::message::{Kind, Side};
 use crate::random::Random;
 use crate::settings::{Dialect, Settings};
-use crate::tally::Tally;
 use crate::traffic::{snapshot, update, Market};
 use crate::value::Blanks;
 
@@ -76,12 +75,10 @@ pub enum Purpose {
     Calls,
 }
 
-/// Counts the answer number of each call.
-pub fn count(session: &Session, tally: &mut Tally) {
+/// The answer number of each call, on this book.
+pub fn answers(session: &Session) -> Vec<u8> {
     let mut book = Book::open(session.opening.settings());
-    for call in &session.calls {
-        tally.count(session.dialect, answer(&mut book, call));
-    }
+    session.calls.iter().map(|call| answer(&mut book, call)).collect()
 }
 
 fn answer(book: &mut Book, call: &Call) -> u8 {
@@ -200,7 +197,7 @@ impl Source {
         let bytes = tree.written(random, blanks);
         match place {
             8 | 9 => damage_bytes(random, bytes),
-            _ if random.below(400) == 0 => pad(random, bytes),
+            _ if random.below(200) == 0 => pad(random, bytes),
             _ => bytes,
         }
     }

@@ -15,8 +15,10 @@ fn row(dialect: Dialect) -> usize {
 }
 
 impl Tally {
-    pub fn count(&mut self, dialect: Dialect, answer: u8) {
-        self.counts[row(dialect)][usize::from(answer)] += 1;
+    pub fn count(&mut self, dialect: Dialect, answers: &[u8]) {
+        for &answer in answers {
+            self.counts[row(dialect)][usize::from(answer)] += 1;
+        }
     }
 
     pub fn times(&self, dialect: Dialect, answer: u8) -> u64 {

@@ -1,10 +1,11 @@
-//! The generated sessions bring up every answer number, and what the writer
-//! gives a new book takes.
+//! The generated sessions bring up every answer number, what the writer gives a
+//! new book takes, and the comparison finds a reply that is changed in any byte.
 
-use second_opinion::book::{Book, State};
+use second_opinion::book::{Book, Scope, State};
+use second_opinion::message::Side;
 use second_opinion::random::Random;
-use second_opinion::script::{here, script};
-use second_opinion::session::{count, session, Call, Opening, Purpose};
+use second_opinion::script::{here, script, Script};
+use second_opinion::session::{answers, session, Call, Opening, Purpose, Session};
 use second_opinion::settings::Dialect;
 use second_opinion::tally::Tally;
 
@@ -13,7 +14,8 @@ fn every_answer_comes_up() {
     let mut random = Random::new(5);
     let mut tally = Tally::default();
     for _ in 0..150 {
-        count(&session(&mut random, Purpose::Calls, 200), &mut tally);
+        let session = session(&mut random, Purpose::Calls, 200);
+        tally.count(session.dialect, &answers(&session));
     }
     for answer in 0..16 {
         assert!(tally.times(Dialect::M, answer) >= 10, "M {answer}");
@@ -66,10 +68,74 @@ fn a_difference_is_reported() {
     let mut random = Random::new(7);
     let found = (0..50).find_map(|_| {
         let session = session(&mut random, Purpose::Calls, 100);
-        let script = script(&mut random, &session);
-        assert!(script.compare(here).is_none());
-        script.compare(wrong)
+        let script = script(&mut random, &session, false);
+        assert!(script.compare(&here).is_ok());
+        script.compare(&wrong).err()
     });
     let report = found.expect("a session with a level that is not there");
     assert!(report.contains("here [14,") && report.contains("there [10,"), "{report}");
+}
+
+/// A live book of each dialect, then one call of each kind: answers, counts, a level, number, updates, and
+/// writings-out with room to spare and with too little, for the live book and for the last good one.
+fn every_call(dialect: Dialect) -> Session {
+    let (line, snapshot): (&str, &str) = match dialect {
+        Dialect::K => ("K 10 a", r#"[0,{"as":[["2.50","0.1","t"]],"bs":[["1.5","3","t"]]},"book-10","a"]"#),
+        Dialect::M => (
+            "M 100 a",
+            r#"{"channel":"book","product":"a","type":"snapshot","data":{"bids":[["9","2"]],"asks":[["10","1"]]},"checksum":1226559413,"gsn":7}"#,
+        ),
+    };
+    let questions = [Scope::Live, Scope::LastGood].map(|scope| {
+        let level = |side, place| Call::Level(scope, side, place);
+        vec![
+            Call::Levels(scope),
+            level(Side::Bid, 0),
+            level(Side::Ask, 0),
+            level(Side::Ask, 1),
+            Call::Number(scope),
+            Call::Updates(scope),
+            Call::Write(200),
+            Call::Write(20),
+        ]
+    });
+    let questions = questions.concat();
+    let messages = |text: &str| vec![Call::Message(text.as_bytes().to_vec())];
+    let calls = [messages(snapshot), questions.clone(), messages("{"), questions].concat();
+    Session { dialect, opening: Opening::Line(line.into()), calls }
+}
+
+/// The session as a script, with 16 bytes of room past the replies.
+fn with_spare_room(session: &Session) -> Script {
+    let mut script = script(&mut Random::new(1), session, true);
+    script.out.extend(0..16);
+    script
+}
+
+#[test]
+fn every_changed_byte_is_found() {
+    for dialect in [Dialect::K, Dialect::M] {
+        let script = with_spare_room(&every_call(dialect));
+        let answers = script.compare(&here).expect("the same book");
+        assert_eq!(answers.len(), script.parts.len());
+        assert!([0, 3, 10, 14, 15].iter().all(|answer| answers.contains(answer)), "{answers:?}");
+        for place in 0..script.out.len() {
+            let changed = |opening: &Opening, script: &[u8], out: &mut [u8]| {
+                let made = here(opening, script, out);
+                if let Some(byte) = out.get_mut(place) {
+                    *byte ^= 1 << (place % 8);
+                }
+                made
+            };
+            assert!(script.compare(&changed).is_err(), "{dialect:?}, byte {place}");
+        }
+    }
+}
+
+#[test]
+fn a_wrong_count_of_calls_is_found() {
+    let more = |opening: &Opening, script: &[u8], out: &mut [u8]| here(opening, script, out) + 1;
+    let script = with_spare_room(&every_call(Dialect::K));
+    let report = script.compare(&more).expect_err("one call more");
+    assert!(report.contains("calls made: here 0, there 1"), "{report}");
 }

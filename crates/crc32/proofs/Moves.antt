@@ -16,11 +16,9 @@ use Rattle.crc32_spec.specs.Text.{bits-byte, whole-word}
 bits-at : {m n : ℕ} (s : ℕ) → m ≡ n → bits m s ≡ bits n s
 bits-at s e = ap (λ (k : ℕ). bits k s) e
 
--- the table that a match chose
-pub in-table : (k n s r : ℕ) → n / 8 ≡ k → r ≡ bits (8 * (8 * k + n % 8)) s → r ≡ bits (8 * n) s
-in-table k n s r e f =
-    let z : 8 * (8 * k + n % 8) ≡ 8 * n = omega arith in
-    f ∙ bits-at s z
+-- a table's first row and the rows past it
+pub in-table : (first m n s r : ℕ) → first + m ≡ n → r ≡ bits (8 * (first + m)) s → r ≡ bits (8 * n) s
+in-table first m n s r e f = f ∙ bits-at s (ap (λ (k : ℕ). 8 * k) e)
 
 -- moving by j bytes and by the others
 pub shifted : (j n s : ℕ) → j ≤ n → bits (8 * (n - j)) (bits (8 * j) s) ≡ bits (8 * n) s

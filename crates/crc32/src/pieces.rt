@@ -6,11 +6,11 @@ ghost use Rattle.crc32_spec.specs.Crc.{bits};
 use crate::lookup::moved;
 use crate::words::step;
 
-// The state moved by n bytes: after n bytes that are 0. Below 104 it is eight look-ups.
+// The state moved by n bytes: after n bytes that are 0. Below 116 it is eight look-ups.
 pub fn shift(s: u32, n: u64) -> u32
     ensures { λ r. ⌜ r ≡ bits (8 * n) s ⌝ }
 {
-    if n < 104 {
+    if n < 116 {
         return moved(s, n);
     }
     shift_many(s, n)
@@ -22,7 +22,7 @@ fn shift_many(s: u32, n: u64) -> u32
 {
     let mut state = s;
     let mut left = n;
-    while 104 <= left {
+    while 116 <= left {
         state = moved(state, 100);
         left -= 100;
     }
@@ -40,7 +40,7 @@ pub fn combine(a: u32, b: u32, n: u64) -> u32
 pub fn front(b: u8, s: u32, n: u64) -> u32
     ensures { λ r. ⌜ r ≡ bitXor (bits (8 * (n + 1)) b) s ⌝ }
 {
-    if n < 103 {
+    if n < 115 {
         return moved(b as u32, n + 1) ^ s;
     }
     shift(step(0, b), n) ^ s

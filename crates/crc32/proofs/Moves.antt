@@ -7,8 +7,9 @@ use native.Mathlib.Numerals.{add-one}
 use native.Mathlib.Omega.{arith}
 use lib.Pow.{shl-shr, mod-pow-add, pow-pos, pow-mono}
 use lib.Bits.{bitXor, xor-shr, xor-mod, xor-comm}
+use lib.Dec.{lit<}
 use Rattle.crc32_spec.specs.Crc.{bits}
-use Rattle.crc32_spec.specs.Laws.{peel, bits-add}
+use Rattle.crc32_spec.specs.Laws.{peel, bits-add, xor-assoc}
 use Rattle.crc32_spec.specs.Text.{bits-byte, whole-word}
 
 -- ---- states
@@ -28,6 +29,12 @@ shifted j n s h =
 
 pub one-more : (n s : ℕ) → bits (8 * n) (bits 8 s) ≡ bits (8 * (n + 1)) s
 one-more n s = bits-byte n s ∙ bits-at s (ap (λ (k : ℕ). 8 * k) (sym (add-one n)))
+
+-- moving by k bytes and then by n
+pub moved-on : (n k s : ℕ) → bits (8 * n) (bits (8 * k) s) ≡ bits (8 * (n + k)) s
+moved-on n k s =
+    let z : 8 * k + 8 * n ≡ 8 * (n + k) = omega arith in
+    sym (bits-add (8 * k) (8 * n) s) ∙ bits-at s z
 
 -- ---- a word on a state
 
@@ -50,13 +57,27 @@ long-word n s w h l =
     let e : 64 ≤ 8 * n = omega arith in
     shifted 8 n (bitXor s w) h ∙ sym (whole-word n s w (lt-of-lt-of-le l (pow-mono e)))
 
--- fewer than four have no upper half
+-- four bytes or fewer are their lower half
+pub short : (n w piece lower : ℕ) → n ≤ 4 → piece ≡ w % 2 ^ (8 * n) → lower ≡ piece % 2 ^ 32 → lower ≡ w % 2 ^ (8 * n)
+short n w piece lower h e f =
+    let m : 8 * n ≤ 32 = omega arith in
+    f ∙ ap (λ (x : ℕ). x % 2 ^ 32) e ∙ mod-eq-of-lt (lt-of-lt-of-le (mod-lt w (pow-pos (8 * n))) (pow-mono m))
+
 pub short-word : (n s w piece lower r : ℕ) → n < 4 → piece ≡ w % 2 ^ (8 * n) → lower ≡ piece % 2 ^ 32 → r ≡ bits (8 * n) (bitXor s lower) →
     r ≡ bits (8 * n) (bitXor s (w % 2 ^ (8 * n)))
-short-word n s w piece lower r h e f g =
-    let m : 8 * n ≤ 32 = omega arith in
-    g ∙ ap (λ (x : ℕ). bits (8 * n) (bitXor s x))
-    (f ∙ ap (λ (x : ℕ). x % 2 ^ 32) e ∙ mod-eq-of-lt (lt-of-lt-of-le (mod-lt w (pow-pos (8 * n))) (pow-mono m)))
+short-word n s w piece lower r h e f g = g ∙ ap (λ (x : ℕ). bits (8 * n) (bitXor s x)) (short n w piece lower (omega arith) e f)
+
+-- ---- a word in front of a text
+
+pub short-front : (m n s w piece lower q : ℕ) → n ≤ 4 → piece ≡ w % 2 ^ (8 * n) → lower ≡ piece % 2 ^ 32 → q ≡ bits m lower →
+    bitXor q s ≡ bitXor (bits m (w % 2 ^ (8 * n))) s
+short-front m n s w piece lower q h e f g = ap (λ (x : ℕ). bitXor x s) (g ∙ ap (bits m) (short n w piece lower h e f))
+
+pub two-halves-front : (m s w piece lower upper p q : ℕ) → 4 ≤ m → piece ≡ w → lower ≡ piece % 2 ^ 32 → upper ≡ piece / 2 ^ 32 →
+    p ≡ bits (8 * (m - 4)) upper → q ≡ bits (8 * m) lower → bitXor p (bitXor q s) ≡ bitXor (bits (8 * m) w) s
+two-halves-front m s w piece lower upper p q l e el eu ep eq =
+    sym (xor-assoc p q s)
+    ∙ ap (λ (x : ℕ). bitXor x s) (two-halves m 0 piece lower upper p q l (lit< tt) el eu ep eq ∙ ap (bits (8 * m)) e)
 
 -- ---- the lowest bytes of a word
 

@@ -3,14 +3,13 @@
 use mathlib.Core.Path.{_≡_, sym, ap, ap₂, _∙_}
 use Prim.Native.Nat.{ℕ, _+_, _-_, _*_, _/_, _%_, _^_, _≤_, _<_}
 use native.Mathlib.Nat.{div-eq-of-lt, mod-eq-of-lt, mod-lt, mod-one, mul-mod-left, add-zero, lt-of-lt-of-le}
-use native.Mathlib.Numerals.{add-one}
 use native.Mathlib.Omega.{arith}
 use lib.Pow.{shl-shr, mod-pow-add, pow-pos, pow-mono}
 use lib.Bits.{bitXor, xor-shr, xor-mod, xor-comm}
 use lib.Dec.{lit<}
 use Rattle.crc32_spec.specs.Crc.{bits}
 use Rattle.crc32_spec.specs.Laws.{peel, bits-add, xor-assoc}
-use Rattle.crc32_spec.specs.Text.{bits-byte, whole-word}
+use Rattle.crc32_spec.specs.Text.{whole-word}
 
 -- ---- states
 
@@ -26,9 +25,6 @@ pub shifted : (j n s : ℕ) → j ≤ n → bits (8 * (n - j)) (bits (8 * j) s) 
 shifted j n s h =
     let z : 8 * j + 8 * (n - j) ≡ 8 * n = omega arith in
     sym (bits-add (8 * j) (8 * (n - j)) s) ∙ bits-at s z
-
-pub one-more : (n s : ℕ) → bits (8 * n) (bits 8 s) ≡ bits (8 * (n + 1)) s
-one-more n s = bits-byte n s ∙ bits-at s (ap (λ (k : ℕ). 8 * k) (sym (add-one n)))
 
 -- moving by k bytes and then by n
 pub moved-on : (n k s : ℕ) → bits (8 * n) (bits (8 * k) s) ≡ bits (8 * (n + k)) s

@@ -1,17 +1,17 @@
 """Writes the crates of the CRC-32's tables, code and proofs:  python3 tools/crc32_tables.py
 
 An entry is two states in one number: four bits in the highest byte of a state, in its upper half and in its lower, moved by k bytes.
-Table t has the rows k = 8 * t to 8 * t + 10, so that eight look-ups in it move a state by 8 * t to 8 * t + 7 bytes.
+Table t has the rows k = 29 * t to 29 * t + 31, so that eight look-ups in it move a state by 29 * t to 29 * t + 28 bytes.
 """
 import os
 
 POLYNOMIAL = 0xEDB88320
-ROWS = 11
+ROWS = 32
+LENGTHS = ROWS - 3
 # crate -> its tables
 CRATES = {
-    "crc32_tables": range(0, 1),
-    "crc32_tables_mid": range(1, 7),
-    "crc32_tables_far": range(7, 13),
+    "crc32_tables": range(0, 2),
+    "crc32_tables_far": range(2, 4),
 }
 
 
@@ -22,16 +22,17 @@ def bits(n, s):
 
 
 def entries(t):
-    return [bits(8 * (8 * t + i // 16), i % 16 << 28) << 32 | bits(8 * (8 * t + i // 16), i % 16 << 24) for i in range(16 * ROWS)]
+    return [bits(8 * (LENGTHS * t + i // 16), i % 16 << 28) << 32 | bits(8 * (LENGTHS * t + i // 16), i % 16 << 24) for i in range(16 * ROWS)]
 
 
 def source(tables):
-    out = f"""// States moved by {8 * tables[0]} to {8 * tables[-1] + 7} bytes, from tables. `crc32` alone calls this. Written by tools/crc32_tables.py.
+    out = f"""// States moved by {LENGTHS * tables[0]} to {LENGTHS * (tables[-1] + 1) - 1} bytes, from tables. `crc32` alone calls this. Written by tools/crc32_tables.py.
 //
 // A table is a function of a key, {ROWS} rows of sixteen entries: the key's upper half counts the rows from the table's first,
 // and its lower half are the four bits that are moved. An entry is two states in one number, for the upper half of a byte and the lower.
 // A `match` becomes a table in constant memory, where a `const` array would be built anew at each use;
-// and a table that is called at one place only, in a loop, is inlined there.
+// and a table that is called at one place only, in a loop, is inlined there. The remainder of a key is the key:
+// it says that no key is past the last, so that the look-up tests none.
 ghost use mathlib.Core.Path.{{_≡_}};
 ghost use Prim.Native.Nat.{{_+_, _*_, _<_}};
 ghost use Rattle.crc32_spec.specs.Crc.{{bits}};
@@ -40,12 +41,12 @@ use crc32_spec::four_bits;
 use crc32_spec::half;
 """
     for t in tables:
-        values = entries(t)
+        first, values = LENGTHS * t, entries(t)
         out += f"""
-// The rows {8 * t} to {8 * t + ROWS - 1}.
+// The rows {first} to {first + ROWS - 1}.
 fn rows{t}(key: u64) -> u64
     requires {{ ⌜ key < {16 * ROWS} ⌝ }}
-    ensures {{ λ r. ⌜ r ≡ entry-at {8 * t} key ⌝ }}
+    ensures {{ λ r. ⌜ r ≡ entry-at {first} key ⌝ }}
 {{
     match key {{
 """
@@ -54,15 +55,15 @@ fn rows{t}(key: u64) -> u64
     }}
 }}
 
-// A state moved by {8 * t} + n bytes.
+// A state moved by {first} + n bytes.
 pub fn moved{t}(s: u32, n: u64) -> u32
-    requires {{ ⌜ n < 8 ⌝ }}
-    ensures {{ λ r. ⌜ r ≡ bits (8 * ({8 * t} + n)) s ⌝ }}
+    requires {{ ⌜ n < {LENGTHS} ⌝ }}
+    ensures {{ λ r. ⌜ r ≡ bits (8 * ({first} + n)) s ⌝ }}
 {{
     let mut sum: u32 = 0;
     let mut j: u64 = 0;
     while j < 8 {{
-        sum ^= half(rows{t}((n + 3 - j / 2) * 16 + four_bits(s, j)), j);
+        sum ^= half(rows{t}(((n + 3 - j / 2) * 16 + four_bits(s, j)) % {16 * ROWS}), j);
         j += 1;
     }}
     sum
@@ -72,7 +73,7 @@ pub fn moved{t}(s: u32, n: u64) -> u32
 
 
 def table_proof(crate, t):
-    values = entries(t)
+    first, values = LENGTHS * t, entries(t)
     lines = "".join("    " + " ∷ ".join(str(x) for x in values[i:i + 4]) + " ∷\n" for i in range(0, len(values), 4))
     last = len(values) - 1
     arms = "".join(f"    (λ c. arm (c .before .args .key) {i} (c .before .pre) (c .match .keys{i + 1}))\n" for i in range(last))
@@ -92,9 +93,9 @@ table : List ℕ
 table =
 {lines}    []
 
-arm : (i k : ℕ) → i < {len(values)} → i ≡ k → getD table k 0 ≡ entry-at {8 * t} i
+arm : (i k : ℕ) → i < {len(values)} → i ≡ k → getD table k 0 ≡ entry-at {first} i
 unfolding table bits bit alike rows powers span double
-arm = tested table {8 * t} tt
+arm = tested table {first} tt
 
 pub rows{t}-spec : {{M : Type 1}} → statement M
 unfolding table
@@ -106,6 +107,7 @@ rows{t}-spec =
 
 
 def move_proof(crate, t):
+    first = LENGTHS * t
     loop = "c .before .before .before .before .loop"
     args = "c .before .before .before .before .before .args"
     search = "    (λ c. search needs)\n"
@@ -123,25 +125,25 @@ use Rattle.{crate}.proofs.moved{t}.Statement.{{statement}}
 use Rattle.{crate}.proofs.moved{t}.Tie as tie
 
 abbrev Inv-loop : tie.InvT-loop
-Inv-loop s n sum₀ j₀ sum j = (j ≤ 8) × (bitXor sum (left ({8 * t} + n) s j) ≡ bits (8 * ({8 * t} + n)) s)
+Inv-loop s n sum₀ j₀ sum j = (j ≤ 8) × (bitXor sum (left ({first} + n) s j) ≡ bits (8 * ({first} + n)) s)
 
 abbrev μ-loop : tie.MeasureT-loop
 μ-loop s n sum₀ j₀ sum j = 8 - j
 
 loop-holds : tie.Need-loop-holds Inv-loop μ-loop
-loop-holds c = (omega arith, all-left ({8 * t} + c .args .n) (c .args .s))
+loop-holds c = (omega arith, all-left ({first} + c .args .n) (c .args .s))
 
 loop-again : tie.Need-loop-again Inv-loop μ-loop
 loop-again c = (
   omega arith,
-  looked-up {8 * t} ({args} .n) ({args} .s) ({loop} .j) ({loop} .sum) _ _ _ (omega arith)
+  looked-up {first} ({args} .n) ({args} .s) ({loop} .j) ({loop} .sum) _ _ _ (omega arith) (omega arith)
       (c .before .before .four-bits .ensures) (c .before .rows{t} .ensures) (c .half .ensures)
       ∙ {loop} .inv .1,
 )
 
 returns : tie.Need-returns Inv-loop μ-loop
 returns c =
-    none-left ({8 * t} + c .before .before .args .n) (c .before .before .args .s) (c .before .loop .j) (c .before .loop .sum) _ (omega arith)
+    none-left ({first} + c .before .before .args .n) (c .before .before .args .s) (c .before .loop .j) (c .before .loop .sum) _ (omega arith)
     (c .before .before .fits .s .fits) (c .before .loop .inv .1)
 
 pub moved{t}-spec : {{M : Type 1}} → statement M

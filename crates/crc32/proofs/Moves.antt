@@ -3,24 +3,22 @@
 use mathlib.Core.Path.{_≡_, sym, ap, ap₂, _∙_}
 use Prim.Native.Nat.{ℕ, _+_, _-_, _*_, _/_, _%_, _^_, _≤_, _<_}
 use native.Mathlib.Nat.{div-eq-of-lt, mod-eq-of-lt, mod-lt, mod-one, mul-mod-left, add-zero, lt-of-lt-of-le}
-use native.Mathlib.Numerals.{add-one}
 use native.Mathlib.Omega.{arith}
 use lib.Pow.{shl-shr, mod-pow-add, pow-pos, pow-mono}
 use lib.Bits.{bitXor, xor-shr, xor-mod, xor-comm}
+use lib.Dec.{lit<}
 use Rattle.crc32_spec.specs.Crc.{bits}
-use Rattle.crc32_spec.specs.Laws.{peel, bits-add}
-use Rattle.crc32_spec.specs.Text.{bits-byte, whole-word}
+use Rattle.crc32_spec.specs.Laws.{peel, bits-add, xor-assoc}
+use Rattle.crc32_spec.specs.Text.{whole-word}
 
 -- ---- states
 
 bits-at : {m n : ℕ} (s : ℕ) → m ≡ n → bits m s ≡ bits n s
 bits-at s e = ap (λ (k : ℕ). bits k s) e
 
--- the table that a match chose
-pub in-table : (k n s r : ℕ) → n / 8 ≡ k → r ≡ bits (8 * (8 * k + n % 8)) s → r ≡ bits (8 * n) s
-in-table k n s r e f =
-    let z : 8 * (8 * k + n % 8) ≡ 8 * n = omega arith in
-    f ∙ bits-at s z
+-- a table's first row and the rows past it
+pub in-table : (first m n s r : ℕ) → first + m ≡ n → r ≡ bits (8 * (first + m)) s → r ≡ bits (8 * n) s
+in-table first m n s r e f = f ∙ bits-at s (ap (λ (k : ℕ). 8 * k) e)
 
 -- moving by j bytes and by the others
 pub shifted : (j n s : ℕ) → j ≤ n → bits (8 * (n - j)) (bits (8 * j) s) ≡ bits (8 * n) s
@@ -28,8 +26,11 @@ shifted j n s h =
     let z : 8 * j + 8 * (n - j) ≡ 8 * n = omega arith in
     sym (bits-add (8 * j) (8 * (n - j)) s) ∙ bits-at s z
 
-pub one-more : (n s : ℕ) → bits (8 * n) (bits 8 s) ≡ bits (8 * (n + 1)) s
-one-more n s = bits-byte n s ∙ bits-at s (ap (λ (k : ℕ). 8 * k) (sym (add-one n)))
+-- moving by k bytes and then by n
+pub moved-on : (n k s : ℕ) → bits (8 * n) (bits (8 * k) s) ≡ bits (8 * (n + k)) s
+moved-on n k s =
+    let z : 8 * k + 8 * n ≡ 8 * (n + k) = omega arith in
+    sym (bits-add (8 * k) (8 * n) s) ∙ bits-at s z
 
 -- ---- a word on a state
 
@@ -52,13 +53,27 @@ long-word n s w h l =
     let e : 64 ≤ 8 * n = omega arith in
     shifted 8 n (bitXor s w) h ∙ sym (whole-word n s w (lt-of-lt-of-le l (pow-mono e)))
 
--- fewer than four have no upper half
+-- four bytes or fewer are their lower half
+pub short : (n w piece lower : ℕ) → n ≤ 4 → piece ≡ w % 2 ^ (8 * n) → lower ≡ piece % 2 ^ 32 → lower ≡ w % 2 ^ (8 * n)
+short n w piece lower h e f =
+    let m : 8 * n ≤ 32 = omega arith in
+    f ∙ ap (λ (x : ℕ). x % 2 ^ 32) e ∙ mod-eq-of-lt (lt-of-lt-of-le (mod-lt w (pow-pos (8 * n))) (pow-mono m))
+
 pub short-word : (n s w piece lower r : ℕ) → n < 4 → piece ≡ w % 2 ^ (8 * n) → lower ≡ piece % 2 ^ 32 → r ≡ bits (8 * n) (bitXor s lower) →
     r ≡ bits (8 * n) (bitXor s (w % 2 ^ (8 * n)))
-short-word n s w piece lower r h e f g =
-    let m : 8 * n ≤ 32 = omega arith in
-    g ∙ ap (λ (x : ℕ). bits (8 * n) (bitXor s x))
-    (f ∙ ap (λ (x : ℕ). x % 2 ^ 32) e ∙ mod-eq-of-lt (lt-of-lt-of-le (mod-lt w (pow-pos (8 * n))) (pow-mono m)))
+short-word n s w piece lower r h e f g = g ∙ ap (λ (x : ℕ). bits (8 * n) (bitXor s x)) (short n w piece lower (omega arith) e f)
+
+-- ---- a word in front of a text
+
+pub short-front : (m n s w piece lower q : ℕ) → n ≤ 4 → piece ≡ w % 2 ^ (8 * n) → lower ≡ piece % 2 ^ 32 → q ≡ bits m lower →
+    bitXor q s ≡ bitXor (bits m (w % 2 ^ (8 * n))) s
+short-front m n s w piece lower q h e f g = ap (λ (x : ℕ). bitXor x s) (g ∙ ap (bits m) (short n w piece lower h e f))
+
+pub two-halves-front : (m s w piece lower upper p q : ℕ) → 4 ≤ m → piece ≡ w → lower ≡ piece % 2 ^ 32 → upper ≡ piece / 2 ^ 32 →
+    p ≡ bits (8 * (m - 4)) upper → q ≡ bits (8 * m) lower → bitXor p (bitXor q s) ≡ bitXor (bits (8 * m) w) s
+two-halves-front m s w piece lower upper p q l e el eu ep eq =
+    sym (xor-assoc p q s)
+    ∙ ap (λ (x : ℕ). bitXor x s) (two-halves m 0 piece lower upper p q l (lit< tt) el eu ep eq ∙ ap (bits (8 * m)) e)
 
 -- ---- the lowest bytes of a word
 

@@ -13,6 +13,7 @@ mod words;
 
 pub use pieces::combine;
 pub use pieces::front;
+pub use pieces::front_word;
 pub use pieces::shift;
 pub use text::crc;
 pub use text::run;

@@ -1,16 +1,20 @@
 // Pieces put together: a state moved past what follows it.
 ghost use mathlib.Core.Path.{_≡_};
-ghost use Prim.Native.Nat.{_+_, _*_};
+ghost use Prim.Native.Nat.{_+_, _*_, _%_, _^_, _<_, _≤_};
 ghost use lib.Bits.{bitXor};
 ghost use Rattle.crc32_spec.specs.Crc.{bits};
 use crate::lookup::moved;
+use crate::words::absorb;
+use crate::words::low_bytes;
+use crate::words::lower_half;
 use crate::words::step;
+use crate::words::upper_half;
 
-// The state moved by n bytes: after n bytes that are 0. Below 104 it is eight look-ups.
+// The state moved by n bytes: after n bytes that are 0. Below 116 it is eight look-ups.
 pub fn shift(s: u32, n: u64) -> u32
     ensures { λ r. ⌜ r ≡ bits (8 * n) s ⌝ }
 {
-    if n < 104 {
+    if n < 116 {
         return moved(s, n);
     }
     shift_many(s, n)
@@ -22,7 +26,7 @@ fn shift_many(s: u32, n: u64) -> u32
 {
     let mut state = s;
     let mut left = n;
-    while 104 <= left {
+    while 116 <= left {
         state = moved(state, 100);
         left -= 100;
     }
@@ -40,8 +44,33 @@ pub fn combine(a: u32, b: u32, n: u64) -> u32
 pub fn front(b: u8, s: u32, n: u64) -> u32
     ensures { λ r. ⌜ r ≡ bitXor (bits (8 * (n + 1)) b) s ⌝ }
 {
-    if n < 103 {
+    if n < 115 {
         return moved(b as u32, n + 1) ^ s;
     }
     shift(step(0, b), n) ^ s
+}
+
+// The state, from 0, of a text with the lowest k bytes of w in front, the first lowest: s is the text's own, from 0, and n its length.
+pub fn front_word(w: u64, k: u64, s: u32, n: u64) -> u32
+    ensures { λ r. ⌜ r ≡ bitXor (bits (8 * (n + k)) (w % 2 ^ (8 * k))) s ⌝ }
+{
+    if k <= 8 {
+        if n < 108 {
+            return front_near(w, k, s, n);
+        }
+    }
+    combine(absorb(0, w, k), s, n)
+}
+
+// The same within reach of the tables: each half of the word is moved at once.
+fn front_near(w: u64, k: u64, s: u32, n: u64) -> u32
+    requires { ⌜ (k ≤ 8) × (n < 108) ⌝ }
+    ensures { λ r. ⌜ r ≡ bitXor (bits (8 * (n + k)) (w % 2 ^ (8 * k))) s ⌝ }
+{
+    let front = low_bytes(w, k);
+    let first = moved(lower_half(front), n + k) ^ s;
+    if k < 5 {
+        return first;
+    }
+    moved(upper_half(front), n + k - 4) ^ first
 }

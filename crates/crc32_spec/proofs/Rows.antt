@@ -174,12 +174,12 @@ alike-eq (x ∷ xs) (y ∷ ys) t = ap₂ (λ (z : ℕ) (zs : List ℕ). z ∷ zs
     right true b u = u
     right false b u = absurd u
 
--- a table of eleven rows that passes the test holds at each key what it should
-pub tested : (table : List ℕ) (first : ℕ) → T (alike table (rows (top first) 11)) → (i k : ℕ) → i < 176 → i ≡ k → getD table k 0 ≡ entry-at first i
+-- a table of 32 rows that passes the test holds at each key what it should
+pub tested : (table : List ℕ) (first : ℕ) → T (alike table (rows (top first) 32)) → (i k : ℕ) → i < 512 → i ≡ k → getD table k 0 ≡ entry-at first i
 tested table first t i k h e =
     ap (λ (j : ℕ). getD table j 0) (sym e)
-    ∙ ap (λ (l : List ℕ). getD l i 0) (alike-eq table (rows (top first) 11) t)
-    ∙ rows-at 11 first i h
+    ∙ ap (λ (l : List ℕ). getD l i 0) (alike-eq table (rows (top first) 32) t)
+    ∙ rows-at 32 first i h
 
 -- ---- eight look-ups move a state
 
@@ -240,13 +240,15 @@ module _ (n s j : ℕ) where
       ∙ moved-xor (8 * n) (4 * j) (s / 2 ^ (4 * j) / 16 * 16) (s / 2 ^ (4 * j) % 16)
       ∙ ap (λ (x : ℕ). bitXor x (bits (8 * n) (s / 2 ^ (4 * j) % 16 * 2 ^ (4 * j)))) (sym left-next)
 
--- one look-up more
-pub looked-up : (first m s j sum v e r : ℕ) → j < 8 → v ≡ s / 2 ^ (4 * j) % 16 → e ≡ entry-at first ((m + 3 - j / 2) * 16 + v) → r ≡ e / 2 ^ (32 * (j % 2)) % 2 ^ 32 →
+-- one look-up more, of a key below 512
+pub looked-up : (first m s j sum v e r : ℕ) → m < 29 → j < 8 → v ≡ s / 2 ^ (4 * j) % 16 →
+    e ≡ entry-at first (((m + 3 - j / 2) * 16 + v) % 512) → r ≡ e / 2 ^ (32 * (j % 2)) % 2 ^ 32 →
     bitXor (bitXor sum r) (left (first + m) s (j + 1)) ≡ bitXor sum (left (first + m) s j)
-looked-up first m s j sum v e r h ev ee er =
+looked-up first m s j sum v e r g h ev ee er =
     let l : s / 2 ^ (4 * j) % 16 < 16 = mod-lt (s / 2 ^ (4 * j)) (lit< tt) in
-    let p : first + ((m + 3 - j / 2) * 16 + v) / 16 ≡ first + m + 3 - j / 2 = omega arith in
-    let q : ((m + 3 - j / 2) * 16 + v) % 16 ≡ s / 2 ^ (4 * j) % 16 = omega arith in
+    let k : ((m + 3 - j / 2) * 16 + v) % 512 ≡ (m + 3 - j / 2) * 16 + v = mod-eq-of-lt (omega arith) in
+    let p : first + ((m + 3 - j / 2) * 16 + v) % 512 / 16 ≡ first + m + 3 - j / 2 = omega arith in
+    let q : ((m + 3 - j / 2) * 16 + v) % 512 % 16 ≡ s / 2 ^ (4 * j) % 16 = omega arith in
     let o : j % 2 < 2 = omega arith in
     xor-assoc sum r (left (first + m) s (j + 1))
     ∙ ap (bitXor sum)
@@ -269,12 +271,3 @@ above (suc n) i r = lt-of-le-ne (above n i (r .0)) (λ e. r .1 (sym e))
 
 pub last : (n i : ℕ) → i < suc n → Rest n i → i ≡ n
 last n i h r = let a : n ≤ i = above n i r in omega arith
-
--- .. over 1, 2, .., n
-abbrev pub Rest-above : ℕ → ℕ → Type 0
-Rest-above zero i = Unit
-Rest-above (suc n) i = Rest-above n i × (i ≡ suc n → ⊥)
-
-pub first-arm : (n i : ℕ) → i < suc n → Rest-above n i → i ≡ 0
-first-arm zero i h r = lt-one h
-first-arm (suc n) i h r = first-arm n i (lt-of-le-ne (le-of-suc-le-suc h) (r .1)) (r .0)

@@ -96,6 +96,19 @@ fn front(t: &[u8], n: usize) -> u64
     )
 }
 
+// The words are of 0 to 8 bytes.
+fn front_word(t: &[u8], n: usize) -> u64
+    requires { do ⌜ n + 8 ≤ (← ⟦t.len()⟧) ⌝ }
+    ensures { λ r. ⌜ r ≤ 1 ⌝ }
+{
+    let k = n % 9;
+    let whole = k + n;
+    differ(
+        crc32::front_word(word(t, 0), k as u64, crc32::run(0, &t[k..whole]), n as u64),
+        second(0, &t[0..whole]),
+    )
+}
+
 fn shift(zeros: &[u8], n: usize) -> u64
     requires { do ⌜ n ≤ (← ⟦zeros.len()⟧) ⌝ }
     ensures { λ r. ⌜ r ≤ 1 ⌝ }
@@ -159,6 +172,7 @@ fn compared(group: u64, t: &[u8], n: usize) -> u64
         3 => front(t, n),
         4 => absorb8(t, n),
         5 => absorb(t, n),
+        6 => front_word(t, n),
         _ => shift(t, n),
     }
 }
@@ -192,10 +206,10 @@ fn say(text: &[u8], value: u64) {
 }
 
 fn report(name: &[u8], group: u64, t: &[u8]) -> u64
-    requires { do ⌜ 123 ≤ (← ⟦t.len()⟧) ⌝ }
-    ensures { λ r. ⌜ r ≤ 111 ⌝ }
+    requires { do ⌜ 137 ≤ (← ⟦t.len()⟧) ⌝ }
+    ensures { λ r. ⌜ r ≤ 125 ⌝ }
 {
-    let found = tally(group, t, 111);
+    let found = tally(group, t, 125);
     io::write_all(1, name);
     say(b": lengths compared ", found.made);
     say(b", differing ", found.differing);
@@ -233,21 +247,22 @@ fn main() {
         b"twenty levels",
         b"50055005010500501550050205005025500503050050355005040500504550050505005000500499550049905004980500497550049705004965500496050049555004950500",
     );
-    let mut bytes = [0u8; 128];
-    fill(&mut bytes, 128);
-    let mut padded = [0u8; 128];
+    let mut bytes = [0u8; 144];
+    fill(&mut bytes, 144);
+    let mut padded = [0u8; 144];
     fill(&mut padded, 8);
-    let zeros = [0u8; 128];
+    let zeros = [0u8; 144];
     let texts = report(b"crc", 0, &bytes);
     let steps = report(b"step", 1, &bytes);
     let combined = report(b"combine", 2, &bytes);
     let fronts = report(b"front", 3, &bytes);
     let eights = report(b"absorb8", 4, &bytes);
     let absorbed = report(b"absorb", 5, &padded);
-    let shifted = report(b"shift", 6, &zeros);
+    let words = report(b"front_word", 6, &bytes);
+    let shifted = report(b"shift", 7, &zeros);
     say(
         b"differing in all: ",
-        texts + steps + combined + fronts + eights + absorbed + shifted,
+        texts + steps + combined + fronts + eights + absorbed + words + shifted,
     );
     io::write_all(1, b"\n");
 }

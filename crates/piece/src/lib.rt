@@ -1,7 +1,7 @@
 // A level's piece of checksum text: its sum and its length.
 //
 // The sum is that of the CRC-32 from 0, so that the sum of a book is put together from those of its levels
-// (`crc32::combine`). Each byte is summed as it is made, from the last to the first; no array holds any of the text.
+// (`crc32::combine`). Bytes are made from the last to the first and summed eight at a time; no array holds any of the text.
 //
 //     piece::k_piece(price, size)    // `5000304` for 0.05000 and 0.00000304
 //     piece::m_piece(price, size)    // `:9:2` for 9 and 2: a colon before each part, so that pieces are joined as they are
@@ -42,7 +42,7 @@ pub fn m_piece(price: Decimal, size: Decimal) -> Piece
     feed_colon(feed(decimal::text_tail(price), second))
 }
 
-// The piece with a text in front of it.
+// The piece with a text in front of it, summed eight bytes at a time: word has the k bytes that are not yet summed, the first lowest.
 fn feed(tail: Tail, piece: Piece) -> Piece
     requires { ⌜ piece .length + length (remaining tail) < 2 ^ 32 ⌝ }
     ensures { λ r. ⌜ Fed tail piece r ⌝ }
@@ -50,18 +50,35 @@ fn feed(tail: Tail, piece: Piece) -> Piece
     let mut rest = tail;
     let mut sum = piece.sum;
     let mut n = piece.length;
+    let mut word: u64 = 0;
+    let mut k: u64 = 0;
     loop {
         match rest.step() {
             Step::Byte(b, shorter) => {
-                sum = crc32::front(b, sum, n);
-                n += 1;
+                word = word * 256 + wide(b);
+                k += 1;
                 rest = shorter;
+                if k == 8 {
+                    sum = crc32::front_word(word, 8, sum, n);
+                    n += 8;
+                    word = 0;
+                    k = 0;
+                }
             }
             Step::End => {
-                return Piece { sum, length: n };
+                return Piece {
+                    sum: crc32::front_word(word, k, sum, n),
+                    length: n + k,
+                };
             }
         }
     }
+}
+
+fn wide(b: u8) -> u64
+    ensures { λ r. ⌜ (r ≡ b) × (r < 256) ⌝ }
+{
+    b as u64
 }
 
 // The piece with a colon in front of it.

@@ -22,7 +22,7 @@ loop-holds c = (omega arith, all-left (0 + c .args .n) (c .args .s))
 loop-again : tie.Need-loop-again Inv-loop μ-loop
 loop-again c = (
   omega arith,
-  looked-up 0 (c .before .before .before .before .before .args .n) (c .before .before .before .before .before .args .s) (c .before .before .before .before .loop .j) (c .before .before .before .before .loop .sum) _ _ _ (omega arith)
+  looked-up 0 (c .before .before .before .before .before .args .n) (c .before .before .before .before .before .args .s) (c .before .before .before .before .loop .j) (c .before .before .before .before .loop .sum) _ _ _ (omega arith) (omega arith)
       (c .before .before .four-bits .ensures) (c .before .rows0 .ensures) (c .half .ensures)
       ∙ c .before .before .before .before .loop .inv .1,
 )

@@ -5,7 +5,7 @@ use borrow.Author.Needs.{needs}
 use lib.Bits.{bitXor}
 use mathlib.Core.Path.{ap, _∙_}
 use Rattle.crc32_spec.specs.Crc.{bits, step}
-use Rattle.crc32.proofs.Moves.{one-more}
+use Rattle.crc32.proofs.Moves.{moved-on}
 use Rattle.crc32.proofs.pieces.front.Statement.{statement}
 use Rattle.crc32.proofs.pieces.front.Tie as tie
 
@@ -16,7 +16,7 @@ returns-2 : tie.Need-returns-2
 unfolding step
 returns-2 c =
     ap (λ (x : ℕ). bitXor x (c .before .before .before .args .s))
-    (c .shift .ensures ∙ ap (bits (8 * c .before .before .before .args .n)) (c .before .step .ensures) ∙ one-more (c .before .before .before .args .n) (c .before .before .before .args .b))
+    (c .shift .ensures ∙ ap (bits (8 * c .before .before .before .args .n)) (c .before .step .ensures) ∙ moved-on (c .before .before .before .args .n) 1 (c .before .before .before .args .b))
 
 pub front-spec : {M : Type 1} → statement M
 front-spec =

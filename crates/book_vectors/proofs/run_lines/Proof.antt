@@ -1,5 +1,5 @@
 -- `run_lines` meets its contract: it is safe, and ends as each line ends past where it begins.
-use Prim.Native.Nat.{_-_, _≤_}
+use Prim.Native.Nat.{_+_, _-_, _^_, _<_, _≤_}
 use native.Mathlib.Omega.{arith}
 use lib.ListN.{length}
 use borrow.Author.Needs.{needs}
@@ -41,7 +41,11 @@ returns : tie.Need-returns Inv-loop μ-loop
 returns c = search needs
 
 add-i : tie.Need-add-i Inv-loop μ-loop
-add-i c = search needs
+add-i c =
+    let l = c .if1 .left in
+    let g = c .before .before .before .before .before .before .before .before .before .before .before .good .0 .0 in
+    let f : c .before .before .before .before .before .find .result + 1 < 2 ^ 64 = omega arith in
+    record { fits = f }
 
 loop-less : tie.Need-loop-less Inv-loop μ-loop
 loop-less c = search needs

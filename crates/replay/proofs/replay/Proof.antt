@@ -1,5 +1,5 @@
 -- `replay` meets its contract: the replies to the calls that are left are owed, until none is left.
-use Prim.Native.Nat.{_+_, _-_}
+use Prim.Native.Nat.{_+_, _-_, _^_, _<_}
 use mathlib.Core.Path.{_≡_, refl, sym, _∙_}
 use native.Mathlib.Omega.{arith}
 use borrow.Author.Needs.{needs}
@@ -71,7 +71,10 @@ add-end : tie.Need-add-end Inv-loop μ-loop
 add-end c =
     let h = call-within (c .before .before .before .before .before .before .before .loop .inv) (rw (rest-is (c .before .before .before .before .before .before .before .before .before .before .before .before .args .script .now) (c .before .before .before .before .before .before .before .loop .at)) at (sym (c .before .before .before .before .before .is-whole .ensures) ∙ c .before .before .before .before .if1 .taken)) (rw (rest-is (c .before .before .before .before .before .before .before .before .before .before .before .before .args .script .now) (c .before .before .before .before .before .before .before .loop .at)) at (c .before .before .call-length .ensures)) (rw (rest-is (c .before .before .before .before .before .before .before .before .before .before .before .before .args .script .now) (c .before .before .before .before .before .before .before .loop .at)) at (c .reply-length .ensures)) in
     let k = reply-within (c .before .before .before .before .before .before .before .loop .inv) (rw (rest-is (c .before .before .before .before .before .before .before .before .before .before .before .before .args .script .now) (c .before .before .before .before .before .before .before .loop .at)) at (sym (c .before .before .before .before .before .is-whole .ensures) ∙ c .before .before .before .before .if1 .taken)) (rw (rest-is (c .before .before .before .before .before .before .before .before .before .before .before .before .args .script .now) (c .before .before .before .before .before .before .before .loop .at)) at (c .before .before .call-length .ensures)) (rw (rest-is (c .before .before .before .before .before .before .before .before .before .before .before .before .args .script .now) (c .before .before .before .before .before .before .before .loop .at)) at (c .reply-length .ensures)) in
-    omega arith
+    let l = c .before .before .before .before .before .before .before .before .before .before .before .before .good .1 .1 .1 .1 .0 .0 in
+    let e = c .before .before .before .before .before .before .before .loop .inv .same in
+    let f : c .before .before .before .before .before .before .before .loop .done + c .reply-length .result < 2 ^ 64 = omega (arith, l, e, k) in
+    record { fits = f }
 
 sub-call : tie.Need-sub-call Inv-loop μ-loop
 sub-call c =

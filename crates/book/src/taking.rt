@@ -35,20 +35,21 @@ pub fn hear(book: Book, s: &[u8]) -> Step
     ensures { λ r. ⌜ Told (hear (shows book) (now (s .entry))) r ⌝ }
 {
     let mut after = book;
-    let standing = book.standing;
-    let answer = match judge(book, s) {
+    let standing = after.standing;
+    let answer = match judge(after, s) {
         Verdict::Fails(refusal) => {
             after.standing = refused(standing, refusal);
             refusal
         }
         Verdict::Passes(outline) => {
-            let settings = book.settings;
+            let last = after;
+            let settings = last.settings;
             let depth = settings.depth;
             let dialect = settings.dialect;
             let m = is_m(dialect);
-            let bids_before = count_before(outline.snapshot, book.bids.count);
+            let bids_before = count_before(outline.snapshot, last.bids.count);
             after.bids.count = bids_before;
-            let asks_before = count_before(outline.snapshot, book.asks.count);
+            let asks_before = count_before(outline.snapshot, last.asks.count);
             after.asks.count = asks_before;
             let mut met = false;
             let mut over = false;
@@ -73,10 +74,10 @@ pub fn hear(book: Book, s: &[u8]) -> Step
             let verdict = weigh(outline, dialect, met, over, bids, asks);
             if is_taken(verdict) {
                 after.number = outline.number;
-                after.updates = updates_after(outline.snapshot, book.updates);
+                after.updates = updates_after(outline.snapshot, last.updates);
                 after.standing = live(standing, outline.snapshot);
             } else {
-                after = book;
+                after = last;
                 after.standing = refused(standing, verdict);
             }
             verdict

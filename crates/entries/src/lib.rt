@@ -47,22 +47,22 @@ const ELEMENT_DEPTH: usize = 12;
 pub struct Found {
     // Past the value, or 0 where it is not JSON.
     pub end: usize,
-    // Whether the value is an entry. If not, the positions below are 0.
-    pub fair: bool,
     // Where the texts of the price and the size lie, quotes included.
     pub price_from: usize,
     pub price_to: usize,
     pub size_from: usize,
     pub size_to: usize,
+    // Whether the value is an entry. If not, the positions of the texts are 0.
+    pub fair: bool,
 }
 
 // What stands at a position, as an array of entries.
 pub struct Entries {
     // Past the value, or 0 where it is not JSON.
     pub end: usize,
-    // Whether the value is an array of entries. If not, what is below says nothing.
-    pub fair: bool,
     pub count: usize,
+    // Whether the value is an array of entries. If not, the rest but for the end says nothing.
+    pub fair: bool,
     // Whether some price is no decimal or zero, or some size is no decimal.
     pub broken: bool,
     // Whether some size is zero.

@@ -10,9 +10,9 @@ ghost use Rattle.layout.specs.Told.{notListed, nothingListed, listingFro
 pub struct Listing {
     // Where the array of entries begins, or 0 where the message has none for this side.
     pub at: usize,
-    // Whether it is an array of entries. If not, what is below says nothing.
-    pub fair: bool,
     pub count: usize,
+    // Whether it is an array of entries. If not, the rest says nothing.
+    pub fair: bool,
     // Whether some price is no decimal or zero, or some size is no decimal.
     pub broken: bool,
     // Whether some size is zero.
@@ -21,33 +21,33 @@ pub struct Listing {
 
 // The layout of a message.
 pub struct Outline {
-    // Whether the layout is right. If not, what is below says nothing.
-    pub fair: bool,
-    pub snapshot: bool,
     // Where the array of the bids begins, or 0 where there is none, and how many bids it has.
     pub bids_at: usize,
     pub bids: usize,
     pub asks_at: usize,
     pub asks: usize,
+    // The sequence number, 0 where the dialect has none.
+    pub number: u64,
+    pub checksum: u32,
+    // Whether the layout is right. If not, the rest says nothing.
+    pub fair: bool,
+    pub snapshot: bool,
     // Whether some price or size breaks a rule of decimals.
     pub bad: bool,
     // Whether the message carries a checksum.
     pub printed: bool,
-    pub checksum: u32,
-    // The sequence number, 0 where the dialect has none.
-    pub number: u64,
 }
 
 pub struct Told {
     // Past the message's value, or 0 where it is not JSON.
     pub end: usize,
-    // Whether it has the outer form of the dialect. If not, what is below says nothing.
+    pub outline: Outline,
+    // Whether it has the outer form of the dialect. If not, the rest but for the end says nothing.
     pub framed: bool,
     // Whether a backslash stands where the book's name could be written with one.
     pub escaped: bool,
     // Whether it is this book's.
     pub ours: bool,
-    pub outline: Outline,
 }
 
 // How often a member of one name was met, and where the value of the last one lies.

@@ -84,23 +84,23 @@ const BOOK_100: u64 = 3472329383848406882;
 // The member `c`.
 struct Sum {
     mark: Mark,
-    // Whether the last one is a string that holds a checksum, and this checksum.
-    fair: bool,
+    // The checksum that the last one holds, and whether it is a string that holds one.
     sum: u32,
+    fair: bool,
 }
 
 // What is told of one object, or of two together.
 struct Members {
     // Past the value, or 0 where it is not JSON.
     end: usize,
-    // Whether the value is an object. If not, what is below says nothing.
-    is_object: bool,
     // `as`, `bs`, `a`, `b` and `c`.
     snapshot_asks: Slot,
     snapshot_bids: Slot,
     asks: Slot,
     bids: Slot,
     checksum: Sum,
+    // Whether the value is an object. If not, the rest but for the end says nothing.
+    is_object: bool,
 }
 
 // What is told of the elements of the message but for the objects.

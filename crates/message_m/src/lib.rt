@@ -112,17 +112,17 @@ struct Body {
 // The members of a message that were met.
 struct Members {
     body: Body,
-    // Whether a backslash stands in some name, or in some `channel` or `product` that is a string.
-    escaped: bool,
-    // Whether some `channel` is `book`, and whether some `product` is the book's name.
-    is_book: bool,
-    is_product: bool,
     channel: Mark,
     product: Mark,
     // The members `type`.
     kind: Mark,
     checksum: Mark,
     gsn: Mark,
+    // Whether a backslash stands in some name, or in some `channel` or `product` that is a string.
+    escaped: bool,
+    // Whether some `channel` is `book`, and whether some `product` is the book's name.
+    is_book: bool,
+    is_product: bool,
 }
 
 // The message at `at`, to an M book of that name.

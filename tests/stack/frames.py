@@ -3,8 +3,8 @@
 
     tests/stack/frames.py [LIBRARY [FUNCTION]]     target/staticlib/libreplay.a, huurqan_replay
 
-A frame is counted from above: the return address, every push, and every constant taken from the stack pointer. Calls
-of functions outside the library (memcpy and the like) count 512 bytes. `json::value_end`, which calls itself for a nested
+A frame is counted from above: the return address, every push, and every constant taken from the stack pointer. A frame of
+many pages is taken page by page in a loop, down to an address in r11: what that address is below counts. Calls of functions outside the library (memcpy and the like) count 512 bytes. `json::value_end`, which calls itself for a nested
 value and goes no deeper than 16, counts 17 times. Calls by address, a stack pointer moved by anything else than a
 constant, or another function that calls itself end the count with exit status 1, as do more than 128 KB.
 """
@@ -20,7 +20,7 @@ MOST = 128 * 1024
 def functions(library):
     """Frame, called functions and anything that cannot be counted, by name."""
     text = subprocess.run(["objdump", "-drw", "--no-show-raw-insn", library], stdout=subprocess.PIPE, text=True, check=True).stdout
-    found, name = {}, None
+    found, name, before = {}, None, ""
     for line in text.splitlines():
         if start := re.match(r"[0-9a-f]+ <(.+)>:$", line):
             name = start[1]
@@ -29,12 +29,15 @@ def functions(library):
             found[name][1].add(call[1].removeprefix(".text."))
         elif name and (taken := re.search(r"\tsub +\$0x([0-9a-f]+),%rsp", line)):
             found[name][0] += int(taken[1], 16)
+        elif name and before.endswith("%rsp,%r11") and (pages := re.search(r"\tsub +\$0x([0-9a-f]+),%r11", line)):
+            found[name][0] += int(pages[1], 16)
         elif name and re.search(r"\tpush ", line):
             found[name][0] += 8
         elif name and (own := re.search(r"\tcall +[0-9a-f]+ <([^+>]+)>$", line)):
             found[name][1].add(own[1])
         elif name and re.search(r"\tcall +\*|\t(?:sub|and) +%?[^$]*,%rsp|\tadd +\$0xf{8}.*,%rsp", line):
             found[name][2].append(line.strip())
+        before = line
     return found
 
 

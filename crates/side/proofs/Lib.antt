@@ -7,6 +7,7 @@ pub mod Lengths
 pub mod Mapping
 pub mod Meeting
 pub mod Packing
+pub mod Stored
 pub mod Shift
 pub mod Find
 pub mod Held

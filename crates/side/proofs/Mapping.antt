@@ -98,8 +98,8 @@ pub shown-met : (es : List (Edit Level)) (s : List Level) → met shownPrice (ma
 shown-met = map-met levelPrice shownPrice shown shown-price
 
 -- what `apply` ensures, of the levels shown: the side of document 01's plain book
-module _ {side : Side} {depth : ℕ} {es : List (Edit Level)} {kept : Levels} {applied : Applied} (r : AfterEntries side depth es kept applied) where
-  pub applied-levels : map shown (held (applied .levels)) ≡ afterMessage shownPrice side depth (map (mapEdit shown) es) (map shown (held kept))
+module _ {side : Side} {depth : ℕ} {es : List (Edit Level)} {kept : Levels} {words : List ℕ} {applied : Applied} (r : AfterEntries side depth es kept words applied) where
+  pub applied-levels : map shown (held (record { words = words; count = applied .left })) ≡ afterMessage shownPrice side depth (map (mapEdit shown) es) (map shown (held kept))
   applied-levels = ap (map shown) (r .levels) ∙ shown-afterMessage side depth es (held kept)
 
   pub applied-count : applied .count ≡ length (applyAll shownPrice (map (mapEdit shown) es) (map shown (held kept)))

@@ -1,4 +1,5 @@
--- The words that entries are handed over in: a word each for the price's digits, the size's digits and the rest. A size of 0 removes.
+-- The words that a side is kept in and that entries are handed over in: a word each for the price's digits, the size's digits and the rest. An
+-- entry's size of 0 removes.
 -- Assumes nothing: these are definitions.
 use Prim.Native.Nat.{ℕ, _+_, _*_, _/_, _%_, _^_, _<_}
 use mathlib.Core.Path.{_≡_}
@@ -40,6 +41,17 @@ levelOf price size rest = record {
   «price_decimals» = rest / 2 ^ 48 % 2 ^ 8;
   «size_decimals» = rest / 2 ^ 56 % 2 ^ 8;
 }
+
+-- The levels that a list of words holds, three words each.
+unfoldable pub levelsIn : List ℕ → List Level
+levelsIn (price ∷ size ∷ rest ∷ words) = levelOf price size rest ∷ levelsIn words
+levelsIn [] = []
+levelsIn (price ∷ []) = []
+levelsIn (price ∷ size ∷ []) = []
+
+-- What stands past the last level of a list, where a definition has to say something.
+abbrev pub noLevel : Level
+noLevel = record { price = 0; size = 0; sum = 0; length = 0; «price_decimals» = 0; «size_decimals» = 0 }
 
 -- The code's decimal for a level's price.
 unfoldable pub decimalPrice : Level → Decimal

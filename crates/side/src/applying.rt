@@ -10,59 +10,61 @@ ghost use Rattle.side.specs.Order.{aheadOf, equalOf};
 use crate::Applied;
 use crate::Change;
 use crate::EMPTY;
-use crate::Level;
-use crate::Levels;
-use crate::MAX_LEVELS;
+use crate::MAX_WORDS;
 use crate::MAX_WORKING;
 use crate::Side;
 use crate::price_of;
 use crate::words::entry_at;
+use crate::words::level_in;
+use crate::words::put_level;
 use decimal::Decimal;
 use decimal::Order;
 
-// A side after a message's entries for it: each a place of the three slices, which are as long as each other.
+// A side after a message's entries for it: each a place of the three slices, which are as long as each other. The side is the
+// first `kept` levels of the words, and then the first `left` of what is answered.
 pub fn apply(
-    kept: Levels,
+    words: &mut [u64; MAX_WORDS],
+    kept: usize,
     side: Side,
     depth: usize,
     prices: &[u64],
     sizes: &[u64],
     rests: &[u64],
 ) -> Applied
-    requires { ⌜ Good side kept × Given (now prices) (now sizes) (now rests) × (depth ≤ maxLevels) ⌝ }
-    ensures { λ r. ⌜ AfterEntries side depth (entriesOf (now (prices .entry)) (now (sizes .entry)) (now (rests .entry))) kept r ⌝ }
+    requires { ⌜ Good side (record { words = now words; count = kept }) × Given (now prices) (now sizes) (now rests) × (depth ≤ maxLevels) ⌝ }
+    ensures { λ r. ⌜ AfterEntries side depth (entriesOf (now (prices .entry)) (now (sizes .entry)) (now (rests .entry))) (record { words = now (words .entry); count = kept }) (now (words .exit)) r ⌝ }
 {
     if prices.len() == 0 {
-        let count = kept.count;
-        if count <= depth {
+        if kept <= depth {
             return Applied {
-                levels: kept,
-                count: count,
+                left: kept,
+                count: kept,
                 met: false,
             };
         }
     }
-    work(kept, side, depth, prices, sizes, rests)
+    work(words, kept, side, depth, prices, sizes, rests)
 }
 
 // All in one function, since it owns the working side: an entry moves the levels that it shifts, and copies no side.
 // The side is loaded; each entry's price is searched for, and its level set or removed there; then the best are kept.
 fn work(
-    kept: Levels,
+    words: &mut [u64; MAX_WORDS],
+    kept: usize,
     side: Side,
     depth: usize,
     prices: &[u64],
     sizes: &[u64],
     rests: &[u64],
 ) -> Applied
-    requires { ⌜ Good side kept × Given (now prices) (now sizes) (now rests) × (depth ≤ maxLevels) ⌝ }
-    ensures { λ r. ⌜ AfterEntries side depth (entriesOf (now (prices .entry)) (now (sizes .entry)) (now (rests .entry))) kept r ⌝ }
+    requires { ⌜ Good side (record { words = now words; count = kept }) × Given (now prices) (now sizes) (now rests) × (depth ≤ maxLevels) ⌝ }
+    ensures { λ r. ⌜ AfterEntries side depth (entriesOf (now (prices .entry)) (now (sizes .entry)) (now (rests .entry))) (record { words = now (words .entry); count = kept }) (now (words .exit)) r ⌝ }
 {
     let mut levels = [EMPTY; MAX_WORKING];
-    let mut count = kept.count;
+    let mut count = kept;
     let mut i = 0;
     'load: while i < count {
-        levels[i] = kept.items[i];
+        levels[i] = level_in(words, i);
         i += 1;
     }
     let mut met = false;
@@ -118,17 +120,14 @@ fn work(
     if depth < left {
         left = depth;
     }
-    let mut items = [EMPTY; MAX_LEVELS];
     i = 0;
     'cut: while i < left {
-        items[i] = levels[i];
+        let level = levels[i];
+        put_level(words, i, level);
         i += 1;
     }
     Applied {
-        levels: Levels {
-            items: items,
-            count: left,
-        },
+        left: left,
         count: count,
         met: met,
     }

@@ -4,9 +4,9 @@
 // prices compared by value. A message's entries for a side are applied in their written order; then, and never
 // between entries, the side is cut to its best `depth` levels.
 //
-//     let rest = side::pack(level);                                          // a level's price, size and rest: three words
-//     let applied = side::apply(bids, Side::Bids, 10, prices, sizes, rests); // each entry a place of the three slices
-//     side::level_at(applied.levels, 0)                                      // the best bid now
+//     let rest = side::pack(level);                               // a level's price, size and rest: three words
+//     let applied = side::apply(&mut bids, count, Side::Bids, 10, prices, sizes, rests); // each entry a place of the three slices
+//     side::level_at(Levels { words: bids, count: applied.left }, 0)  // the best bid now
 mod applying;
 mod words;
 
@@ -18,6 +18,7 @@ ghost use Rattle.side.specs.Kept.{maxLevels, held, levelAt, Empty};
 pub use applying::apply;
 use decimal::Decimal;
 pub use words::entry_at;
+pub use words::level_in;
 pub use words::pack;
 
 // How many levels a side keeps, and how many there is room for while one message is worked: a message has at most 100
@@ -25,6 +26,9 @@ pub use words::pack;
 pub const MAX_LEVELS: usize = 100;
 
 const MAX_WORKING: usize = 200;
+
+// The words of a side that is kept: three a level.
+pub const MAX_WORDS: usize = 300;
 
 pub enum Side {
     Bids,
@@ -53,16 +57,17 @@ pub struct Entry {
     pub change: Change,
 }
 
-// A side that is kept: `count` levels at the front of `items`, best first.
+// A side that is kept: `count` levels at the front of `words`, best first. A level is three words, since an array of numbers can
+// be lent, and one of structs cannot.
 pub struct Levels {
-    pub items: [Level; MAX_LEVELS],
+    pub words: [u64; MAX_WORDS],
     pub count: usize,
 }
 
-// A side with a message's entries applied and cut: how many levels stood before the cut, and whether some entry set a
-// level at a price where one stood by then.
+// A side with a message's entries applied and cut: how many levels are left, how many stood before the cut, and whether some
+// entry set a level at a price where one stood by then.
 pub struct Applied {
-    pub levels: Levels,
+    pub left: usize,
     pub count: usize,
     pub met: bool,
 }
@@ -86,7 +91,7 @@ pub fn empty() -> Levels
     ensures { λ r. ⌜ Empty r ⌝ }
 {
     Levels {
-        items: [EMPTY; MAX_LEVELS],
+        words: [0; MAX_WORDS],
         count: 0,
     }
 }
@@ -97,7 +102,7 @@ pub fn level_at(kept: Levels, i: usize) -> Found
     ensures { λ r. ⌜ r ≡ levelAt i (held kept) ⌝ }
 {
     if i < kept.count {
-        return Found::At(kept.items[i]);
+        return Found::At(level_in(&kept.words, i));
     }
     Found::Nothing
 }

@@ -1,9 +1,14 @@
-// Entries as words: the price's digits, the size's digits, and one word for the rest of a level. A size of 0 removes.
+// Levels and entries as words: the price's digits, the size's digits, and one word for the rest of a level. An entry's size of 0
+// removes.
 ghost use mathlib.Core.Path.{_≡_};
-ghost use Rattle.side.specs.Words.{Packed, entryOf};
+ghost use Prim.Native.Nat.{_<_};
+ghost use lib.ListN.{length, getD};
+ghost use Rattle.side.specs.Words.{Packed, levelOf, levelsIn, noLevel, entryOf};
+ghost use Rattle.side.specs.Kept.{maxLevels, maxWords, PutAt};
 use crate::Change;
 use crate::Entry;
 use crate::Level;
+use crate::MAX_WORDS;
 use crate::Side;
 use decimal::Decimal;
 
@@ -22,29 +27,55 @@ pub fn pack(level: Level) -> u64
     level.sum as u64 + LENGTH * (level.length as u64 + 65_536 * decimals)
 }
 
+// The level that three words hold.
+fn level_of(price: u64, size: u64, rest: u64) -> Level
+    ensures { λ r. ⌜ r ≡ levelOf price size rest ⌝ }
+{
+    Level {
+        price: price,
+        size: size,
+        sum: (rest % LENGTH) as u32,
+        length: (rest / LENGTH % 65_536) as u16,
+        price_decimals: (rest / PRICE_DECIMALS % 256) as u8,
+        size_decimals: (rest / SIZE_DECIMALS % 256) as u8,
+    }
+}
+
+// Level i of the words of a side.
+pub fn level_in(words: &[u64; MAX_WORDS], i: usize) -> Level
+    requires { ⌜ (i < maxLevels) × (length (now words) ≡ maxWords) ⌝ }
+    ensures { λ r. ⌜ r ≡ getD (levelsIn (now (words .entry))) i noLevel ⌝ }
+{
+    level_of(words[3 * i], words[3 * i + 1], words[3 * i + 2])
+}
+
+// Puts a level at place i of the words of a side.
+pub(crate) fn put_level(words: &mut [u64; MAX_WORDS], i: usize, level: Level)
+    requires { ⌜ (i < maxLevels) × (length (now words) ≡ maxWords) ⌝ }
+    ensures { λ r. ⌜ PutAt (now (words .entry)) i level (now (words .exit)) ⌝ }
+{
+    let rest = pack(level);
+    words[3 * i] = level.price;
+    words[3 * i + 1] = level.size;
+    words[3 * i + 2] = rest;
+}
+
 // The entry that three words hold.
 pub fn entry_at(side: Side, price: u64, size: u64, rest: u64) -> Entry
     ensures { λ r. ⌜ r ≡ entryOf side price size rest ⌝ }
 {
-    let decimals = (rest / PRICE_DECIMALS % 256) as u8;
+    let level = level_of(price, size, rest);
     if size == 0 {
         return Entry {
             side: side,
             change: Change::Remove(Decimal {
-                digits: price,
-                decimals: decimals as u64,
+                digits: level.price,
+                decimals: level.price_decimals as u64,
             }),
         };
     }
     Entry {
         side: side,
-        change: Change::Set(Level {
-            price: price,
-            size: size,
-            sum: (rest % LENGTH) as u32,
-            length: (rest / LENGTH % 65_536) as u16,
-            price_decimals: decimals,
-            size_decimals: (rest / SIZE_DECIMALS % 256) as u8,
-        }),
+        change: Change::Set(level),
     }
 }

@@ -17,7 +17,7 @@ use Rattle.side.specs.declared.Level.{Level}
 use Rattle.side.specs.Level.{levelPrice}
 use Rattle.side.specs.Side.{Edit, sets, removes, before, All, standing, without, applyAll, ranked, afterMessage, named, meets, met, Sorted, IfSet}
 use Rattle.side.specs.Order.{aheadOf, equalOf}
-use Rattle.side.specs.Words.{editOf, entriesOf}
+use Rattle.side.specs.Words.{noLevel, editOf, entriesOf}
 use Rattle.side.specs.Kept.{Given}
 use Rattle.side.proofs.Order.{ahead-is, equal-is}
 use Rattle.side.proofs.All.{all-at}
@@ -143,40 +143,36 @@ module _ (side : Side) (prices sizes rests : List ℕ) (s : List Level) (none : 
 
 -- ---- what a read of the array and the calls on it say of the side
 
--- what lies past the end, as the logic has it
-abbrev pub none : Level
-none = record { price = 0; size = 0; sum = 0; length = 0; «price_decimals» = 0; «size_decimals» = 0 }
-
 abbrev pub key : Level → ℕ
 key level = value (levelPrice level)
 
 module _ (a : List Level) (n k : ℕ) (h : k < n) where
-  key-at : key (getD (take n a) k none) ≡ key (getD a k none)
-  key-at = ap key (getD-take n a k none h)
+  key-at : key (getD (take n a) k noLevel) ≡ key (getD a k noLevel)
+  key-at = ap key (getD-take n a k noLevel h)
 
-  pub sound-at : n ≤ length a → All Sound (take n a) → Sound (getD a k none)
+  pub sound-at : n ≤ length a → All Sound (take n a) → Sound (getD a k noLevel)
   sound-at l s =
-      subst Sound (getD-take n a k none h)
-      (all-at Sound (take n a) k none (omega (arith, length-take-le n a l)) s)
+      subst Sound (getD-take n a k noLevel h)
+      (all-at Sound (take n a) k noLevel (omega (arith, length-take-le n a l)) s)
 
-  module _ (read price : Decimal) (o : Order) (is : number read ≡ levelPrice (getD a k none)) (compared : o ≡ order (number read) (number price)) where
-    pub ahead-at : (side : Side) (t u : Bool) → t ≡ aheadOf side o → t ≡ u → before side (key (getD (take n a) k none)) (value (number price)) ≡ u
+  module _ (read price : Decimal) (o : Order) (is : number read ≡ levelPrice (getD a k noLevel)) (compared : o ≡ order (number read) (number price)) where
+    pub ahead-at : (side : Side) (t u : Bool) → t ≡ aheadOf side o → t ≡ u → before side (key (getD (take n a) k noLevel)) (value (number price)) ≡ u
     unfolding order
     ahead-at side t u e f =
         ap (λ (x : ℕ). before side x (value (number price))) (key-at ∙ ap value (sym is))
         ∙ sym (ahead-is side (value (number read)) (value (number price))) ∙ ap (aheadOf side) (sym compared) ∙ sym e ∙ f
 
-    tested : (t u : Bool) → t ≡ equalOf o → t ≡ u → eqb (key (getD (take n a) k none)) (value (number price)) ≡ u
+    tested : (t u : Bool) → t ≡ equalOf o → t ≡ u → eqb (key (getD (take n a) k noLevel)) (value (number price)) ≡ u
     unfolding order
     tested t u e f =
         ap (λ (x : ℕ). eqb x (value (number price))) (key-at ∙ ap value (sym is))
         ∙ sym (equal-is (value (number read)) (value (number price))) ∙ ap equalOf (sym compared) ∙ sym e ∙ f
 
-    pub same-at : (t : Bool) → t ≡ equalOf o → t ≡ true → key (getD (take n a) k none) ≡ value (number price)
-    same-at t e f = eqb-true (key (getD (take n a) k none)) (value (number price)) (tested t true e f)
+    pub same-at : (t : Bool) → t ≡ equalOf o → t ≡ true → key (getD (take n a) k noLevel) ≡ value (number price)
+    same-at t e f = eqb-true (key (getD (take n a) k noLevel)) (value (number price)) (tested t true e f)
 
-    pub other-at : (t : Bool) → t ≡ equalOf o → t ≡ false → key (getD (take n a) k none) ≡ value (number price) → ⊥
-    other-at t e f = eqb-false (key (getD (take n a) k none)) (value (number price)) (tested t false e f)
+    pub other-at : (t : Bool) → t ≡ equalOf o → t ≡ false → key (getD (take n a) k noLevel) ≡ value (number price) → ⊥
+    other-at t e f = eqb-false (key (getD (take n a) k noLevel)) (value (number price)) (tested t false e f)
 
 -- ---- copying from one array to another, one level a turn
 

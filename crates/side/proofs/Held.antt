@@ -1,16 +1,24 @@
--- The level at a place of a list, and a side with no level. Assumes nothing.
+-- How many levels a side has, the level at a place of a list, and a side with no level. Assumes nothing.
 use Prim.Native.Nat.{ℕ, zero, suc, _<_, _≤_}
 use mathlib.Core.Path.{_≡_, refl}
+use native.Mathlib.Omega.{arith}
 use mathlib.Core.List.{List, [], _∷_}
 use native.Mathlib.Nat.{le-of-suc-le-suc, not-suc-le-zero}
 use lib.ListN.{length, getD}
+use lib.Seq.{length-take-le}
 use Rattle.side.specs.declared.Side.{Side}
 use Rattle.side.specs.declared.Side.the-variants.{Bids, Asks}
 use Rattle.side.specs.declared.Level.{Level}
 use Rattle.side.specs.declared.Levels.{Levels}
 use Rattle.side.specs.declared.Found.{Found}
 use Rattle.side.specs.declared.Found.the-variants.{At, Nothing}
-use Rattle.side.specs.Kept.{levelAt, Good, Empty}
+use Rattle.side.specs.Words.{levelsIn}
+use Rattle.side.specs.Kept.{maxLevels, maxWords, held, levelAt, Good, Empty}
+use Rattle.side.proofs.Stored.{length-levels}
+
+pub held-length : (kept : Levels) → kept .count ≤ maxLevels → length (kept .words) ≡ maxWords → length (held kept) ≡ kept .count
+unfolding held
+held-length kept few room = length-take-le (kept .count) (levelsIn (kept .words)) (omega (arith, length-levels maxLevels (kept .words) room))
 
 pub level-in : (s : List Level) (i : ℕ) (d : Level) → i < length s → levelAt i s ≡ At (getD s i d)
 unfolding levelAt

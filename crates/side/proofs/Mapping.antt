@@ -11,7 +11,7 @@ use Rattle.side.specs.declared.Side.{Side}
 use Rattle.side.specs.declared.Level.{Level}
 use Rattle.side.specs.declared.Levels.{Levels}
 use Rattle.side.specs.declared.Applied.{Applied}
-use Rattle.side.specs.Kept.{held, AfterEntries}
+use Rattle.side.specs.Kept.{keptIn, held, AfterEntries}
 use Rattle.side.specs.Level.{PriceLevel, levelPrice, shown, shownPrice}
 use Rattle.side.specs.Side.{Edit, sets, removes, before, standing, without, apply, applyAll, place, ranked, afterMessage, named, meets, met, mapEdit}
 
@@ -99,7 +99,7 @@ shown-met = map-met levelPrice shownPrice shown shown-price
 
 -- what `apply` ensures, of the levels shown: the side of document 01's plain book
 module _ {side : Side} {depth : ℕ} {es : List (Edit Level)} {kept : Levels} {words : List ℕ} {applied : Applied} (r : AfterEntries side depth es kept words applied) where
-  pub applied-levels : map shown (held (record { words = words; count = applied .left })) ≡ afterMessage shownPrice side depth (map (mapEdit shown) es) (map shown (held kept))
+  pub applied-levels : map shown (held (keptIn words (applied .left))) ≡ afterMessage shownPrice side depth (map (mapEdit shown) es) (map shown (held kept))
   applied-levels = ap (map shown) (r .levels) ∙ shown-afterMessage side depth es (held kept)
 
   pub applied-count : applied .count ≡ length (applyAll shownPrice (map (mapEdit shown) es) (map shown (held kept)))

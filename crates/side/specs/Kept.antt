@@ -30,6 +30,10 @@ maxWords = 300
 unfoldable pub held : Levels → List Level
 held kept = take (kept .count) (levelsIn (kept .words))
 
+-- The side in words that are lent, of n levels.
+abbrev pub keptIn : List ℕ → ℕ → Levels
+keptIn words n = record { words = words; count = n }
+
 -- The level at a place, counted from 0 as best.
 unfoldable pub levelAt : ℕ → List Level → Found
 levelAt i [] = Nothing
@@ -64,7 +68,7 @@ pub record PutAt (words : List ℕ) (i : ℕ) (level : Level) (after : List ℕ)
 -- A side with a message's entries applied: the levels that are left in the words are the definition's, the count is that before the cut, and `met`
 -- says whether some entry set a level at a price where one stood by then.
 pub record AfterEntries (side : Side) (depth : ℕ) (entries : List (Edit Level)) (kept : Levels) (words : List ℕ) (applied : Applied) : Type 0 where
-  pub good : Good side (record { words = words; count = applied .left })
-  pub levels : held (record { words = words; count = applied .left }) ≡ afterMessage levelPrice side depth entries (held kept)
+  pub good : Good side (keptIn words (applied .left))
+  pub levels : held (keptIn words (applied .left)) ≡ afterMessage levelPrice side depth entries (held kept)
   pub count : applied .count ≡ length (applyAll levelPrice entries (held kept))
   pub met : applied .met ≡ met levelPrice entries (held kept)

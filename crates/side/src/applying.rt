@@ -5,7 +5,7 @@ ghost use Rattle.decimal.specs.Decimal.{number};
 ghost use Rattle.side.specs.Level.{levelPrice};
 ghost use Rattle.side.specs.Side.{named};
 ghost use Rattle.side.specs.Words.{edit, entriesOf};
-ghost use Rattle.side.specs.Kept.{maxLevels, Good, Given, AfterEntries};
+ghost use Rattle.side.specs.Kept.{maxLevels, keptIn, Good, Given, AfterEntries};
 ghost use Rattle.side.specs.Order.{aheadOf, equalOf};
 use crate::Applied;
 use crate::Change;
@@ -31,8 +31,8 @@ pub fn apply(
     sizes: &[u64],
     rests: &[u64],
 ) -> Applied
-    requires { ⌜ Good side (record { words = now words; count = kept }) × Given (now prices) (now sizes) (now rests) × (depth ≤ maxLevels) ⌝ }
-    ensures { λ r. ⌜ AfterEntries side depth (entriesOf (now (prices .entry)) (now (sizes .entry)) (now (rests .entry))) (record { words = now (words .entry); count = kept }) (now (words .exit)) r ⌝ }
+    requires { ⌜ Good side (keptIn (now words) kept) × Given (now prices) (now sizes) (now rests) × (depth ≤ maxLevels) ⌝ }
+    ensures { λ r. ⌜ AfterEntries side depth (entriesOf (now (prices .entry)) (now (sizes .entry)) (now (rests .entry))) (keptIn (now (words .entry)) kept) (now (words .exit)) r ⌝ }
 {
     if prices.len() == 0 {
         if kept <= depth {
@@ -57,8 +57,8 @@ fn work(
     sizes: &[u64],
     rests: &[u64],
 ) -> Applied
-    requires { ⌜ Good side (record { words = now words; count = kept }) × Given (now prices) (now sizes) (now rests) × (depth ≤ maxLevels) ⌝ }
-    ensures { λ r. ⌜ AfterEntries side depth (entriesOf (now (prices .entry)) (now (sizes .entry)) (now (rests .entry))) (record { words = now (words .entry); count = kept }) (now (words .exit)) r ⌝ }
+    requires { ⌜ Good side (keptIn (now words) kept) × Given (now prices) (now sizes) (now rests) × (depth ≤ maxLevels) ⌝ }
+    ensures { λ r. ⌜ AfterEntries side depth (entriesOf (now (prices .entry)) (now (sizes .entry)) (now (rests .entry))) (keptIn (now (words .entry)) kept) (now (words .exit)) r ⌝ }
 {
     let mut levels = [EMPTY; MAX_WORKING];
     let mut count = kept;

@@ -7,7 +7,7 @@ use Prim.Native.Nat.{ℕ, _≤_}
 use native.Mathlib.Omega.{arith}
 use borrow.Author.Tests.{eq-eqb, ne-eqb}
 use lib.Dec.{eqb, lit<}
-use lib.ListN.{length, take, drop, length-take, length-map}
+use lib.ListN.{length, take, drop, length-map}
 use lib.Seq.{take-all}
 use Rattle.decimal.specs.Digits.{Reading, reads, refused}
 use Rattle.decimal.specs.Decimal.{Number, read, isZero, Within}
@@ -23,6 +23,7 @@ use Rattle.side.specs.declared.Side.{Side}
 use Rattle.side.specs.declared.Level.{Level}
 use Rattle.side.specs.declared.Levels.{Levels}
 use Rattle.side.specs.declared.Applied.{Applied}
+use Rattle.side.proofs.Held.{held-length}
 use Rattle.side.proofs.Ranking.{all-afterMessage, sorted-ranked}
 use Rattle.side.proofs.Mapping.{shown-afterMessage, applied-levels, applied-count, applied-met}
 use Rattle.checksum.specs.Carried.{Carries}
@@ -74,16 +75,12 @@ module _ (m : Bool) (side : Side) (depth : ℕ) (kept : Levels) (s : List ℕ) (
   unfolding editsAt
   edits-are h = let e = ne-eqb count 0 h in rw (e, editsAt)
 
-  held-length : Good side kept → length (held kept) ≡ kept .count
-  unfolding held
-  held-length g = let a = g .few in let b = g .room in let n = length-take (kept .count) (kept .items) in omega arith
-
   unchanged : Good side kept → length (held kept) ≤ depth → held kept ≡ afterMessage levelPrice side depth [] (held kept)
   unfolding afterMessage applyAll
   unchanged g few = sym (ap (take depth) (sorted-ranked levelPrice side (held kept) (g .sorted)) ∙ take-all depth (held kept) few)
 
   pub none-worked : count ≡ 0 → Sound m side kept → length (held kept) ≤ depth
-      → Worked m side depth (editsAt m s at count) kept (record { levels = kept; count = kept .count; met = false })
+      → Worked m side depth (editsAt m s at count) kept (kept .words) (record { left = kept .count; count = kept .count; met = false })
   unfolding applyAll met
   none-worked h k few =
       let z = no-edits h in
@@ -91,17 +88,17 @@ module _ (m : Bool) (side : Side) (depth : ℕ) (kept : Levels) (s : List ℕ) (
       rw z (record {
         sound = k;
         levels = ap (map shown) (unchanged (k .good) few) ∙ shown-afterMessage side depth [] (held kept);
-        count = sym (held-length (k .good)) ∙ sym l;
+        count = sym (held-length kept (k .good .few) (k .good .room)) ∙ sym l;
         met = refl;
       })
 
   -- ---- entries
-  module _ (prices sizes rests : List ℕ) (n : ℕ) (r : Applied) where
+  module _ (prices sizes rests : List ℕ) (n : ℕ) (words : List ℕ) (r : Applied) where
     abbrev es : List (Edit Level)
     es = entriesOf (take n prices) (take n sizes) (take n rests)
 
     pub some-worked : (count ≡ 0 → ⊥) → Sound m side kept → Loaded (pieceFor m) (drop at s) (rowsAt (entryFor m) (drop at s)) prices sizes rests n
-        → AfterEntries side depth es kept r → Worked m side depth (editsAt m s at count) kept r
+        → AfterEntries side depth es kept words r → Worked m side depth (editsAt m s at count) kept words r
     some-worked h k l a =
         let q : map (mapEdit shown) es ≡ editsAt m s at count = l .edits ∙ sym (edits-are h) in
         record {

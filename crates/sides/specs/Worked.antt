@@ -8,7 +8,7 @@ use lib.ListN.{length, drop}
 use Rattle.decimal.specs.Decimal.{Within}
 use Rattle.side.specs.Level.{PriceLevel, levelSize, shown, shownPrice}
 use Rattle.side.specs.Side.{Edit, All, applyAll, afterMessage, met}
-use Rattle.side.specs.Kept.{held, Good}
+use Rattle.side.specs.Kept.{keptIn, held, Good}
 use Rattle.side.specs.declared.Side.{Side}
 use Rattle.side.specs.declared.Levels.{Levels}
 use Rattle.side.specs.declared.Applied.{Applied}
@@ -26,8 +26,8 @@ pub record Sound (m : Bool) (side : Side) (kept : Levels) : Type 0 where
 unfoldable pub editsAt : Bool → List ℕ → ℕ → ℕ → List (Edit PriceLevel)
 editsAt m s at count = cond (eqb count 0) [] (map (editAt (drop at s)) (rowsAt (entryFor m) (drop at s)))
 
-pub record Worked (m : Bool) (side : Side) (depth : ℕ) (edits : List (Edit PriceLevel)) (kept : Levels) (r : Applied) : Type 0 where
-  pub sound : Sound m side (r .levels)
-  pub levels : map shown (held (r .levels)) ≡ afterMessage shownPrice side depth edits (map shown (held kept))
+pub record Worked (m : Bool) (side : Side) (depth : ℕ) (edits : List (Edit PriceLevel)) (kept : Levels) (words : List ℕ) (r : Applied) : Type 0 where
+  pub sound : Sound m side (keptIn words (r .left))
+  pub levels : map shown (held (keptIn words (r .left))) ≡ afterMessage shownPrice side depth edits (map shown (held kept))
   pub count : r .count ≡ length (applyAll shownPrice edits (map shown (held kept)))
   pub met : r .met ≡ met shownPrice edits (map shown (held kept))

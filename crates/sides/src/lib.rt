@@ -2,17 +2,19 @@
 ghost use mathlib.Core.Path.{_≡_};
 ghost use Prim.Native.Nat.{_≤_};
 ghost use lib.ListN.{length};
-ghost use Rattle.side.specs.Kept.{held};
+ghost use Rattle.side.specs.Kept.{keptIn, held};
 ghost use Rattle.loader.specs.Reading.{Ready};
 ghost use Rattle.sides.specs.Worked.{Sound, editsAt, Worked};
 use loader::MAX_ENTRIES;
 use side::Applied;
-use side::Levels;
+use side::MAX_WORDS;
 use side::Side;
 
-// The side after the entries in the array at `at`, of which there are `count`; `m` says that the dialect is M, else it is K.
+// The side after the entries in the array at `at`, of which there are `count`; `m` says that the dialect is M, else it is K. The side
+// is the first `kept` levels of the words, and then the first `left` of what is answered.
 pub fn apply_entries(
-    kept: Levels,
+    words: &mut [u64; MAX_WORDS],
+    kept: usize,
     side: Side,
     depth: usize,
     m: bool,
@@ -20,14 +22,13 @@ pub fn apply_entries(
     at: usize,
     count: usize,
 ) -> Applied
-    requires { ⌜ Sound m side kept × Ready m (now s) at count × (depth ≤ 100) × (length (held kept) ≤ depth) ⌝ }
-    ensures { λ r. ⌜ Worked m side depth (editsAt m (now (s .entry)) at count) kept r ⌝ }
+    requires { ⌜ Sound m side (keptIn (now words) kept) × Ready m (now s) at count × (depth ≤ 100) × (length (held (keptIn (now words) kept)) ≤ depth) ⌝ }
+    ensures { λ r. ⌜ Worked m side depth (editsAt m (now (s .entry)) at count) (keptIn (now (words .entry)) kept) (now (words .exit)) r ⌝ }
 {
     if count == 0 {
-        let standing = kept.count;
         return Applied {
-            levels: kept,
-            count: standing,
+            left: kept,
+            count: kept,
             met: false,
         };
     }
@@ -35,5 +36,5 @@ pub fn apply_entries(
     let mut sizes = [0; MAX_ENTRIES];
     let mut rests = [0; MAX_ENTRIES];
     let n = loader::load(&s[at..], m, &mut prices, &mut sizes, &mut rests);
-    side::apply(kept, side, depth, &prices[..n], &sizes[..n], &rests[..n])
+    side::apply(words, kept, side, depth, &prices[..n], &sizes[..n], &rests[..n])
 }

@@ -3,13 +3,12 @@ use Prim.Native.Nat.{_≤_}
 use mathlib.Core.Path.{_≡_, sym, ap, _∙_}
 use native.Mathlib.Omega.{arith}
 use borrow.Author.Needs.{needs}
-use lib.ListN.{length, length-map}
-use lib.Seq.{length-take-le, getD-take}
+use lib.ListN.{length}
+use lib.Seq.{getD-take}
 use Rattle.side.specs.declared.Found.the-variants.{At}
 use Rattle.side.specs.Words.{levelsIn, noLevel}
 use Rattle.side.specs.Kept.{held, levelAt}
-use Rattle.side.proofs.Held.{level-in, level-past}
-use Rattle.side.proofs.Stored.{length-levels}
+use Rattle.side.proofs.Held.{held-length, level-in, level-past}
 use Rattle.side.proofs.level_at.Statement.{statement}
 use Rattle.side.proofs.level_at.Tie as tie
 
@@ -20,9 +19,7 @@ room : (s : tie.Start) → length (s .args .t1 .words) ≡ 300
 room s = search needs
 
 long : (s : tie.Start) → length (held (s .args .t1)) ≡ s .args .t1 .count
-unfolding held
-long s =
-    length-take-le (s .args .t1 .count) (levelsIn (s .args .t1 .words)) (omega (arith, s .pre, length-levels 100 (s .args .t1 .words) (room s)))
+long s = held-length (s .args .t1) (s .pre) (room s)
 
 returns : tie.Need-returns
 unfolding held

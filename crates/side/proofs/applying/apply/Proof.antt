@@ -4,26 +4,25 @@ use mathlib.Core.Path.{_≡_, sym, _∙_}
 use native.Mathlib.Omega.{arith}
 use borrow.Author.Needs.{needs}
 use lib.ListN.{length}
-use lib.Seq.{length-take-le}
-use Rattle.side.specs.Kept.{held}
+use Rattle.side.specs.Kept.{keptIn, held}
+use Rattle.side.proofs.Held.{held-length}
 use Rattle.side.proofs.Entries.{nothing-levels, nothing-count, nothing-met}
 use Rattle.side.proofs.applying.apply.Statement.{statement}
 use Rattle.side.proofs.applying.apply.Tie as tie
 
-long : (s : tie.Start) → length (held (s .args .kept)) ≡ s .args .kept .count
-unfolding held
-long s = length-take-le (s .args .kept .count) (s .args .kept .items) (omega (arith, s .pre .0 .few, s .pre .0 .room))
+long : (s : tie.Start) → length (held (keptIn (s .args .words .now) (s .args .kept))) ≡ s .args .kept
+long s = held-length (keptIn (s .args .words .now) (s .args .kept)) (s .pre .0 .few) (s .pre .0 .room)
 
 returns : tie.Need-returns
 returns c =
     let s = c .before .before .before .before .before in
     let none = c .before .if1 .taken in
-    let short : length (held (s .args .kept)) ≤ s .args .depth = omega (arith, long s, c .if2 .taken) in
+    let short : length (held (keptIn (s .args .words .now) (s .args .kept))) ≤ s .args .depth = omega (arith, long s, c .if2 .taken) in
     record {
       good = s .pre .0;
-      levels = nothing-levels (s .args .side) (s .args .prices .now) (s .args .sizes .now) (s .args .rests .now) (held (s .args .kept)) none (s .args .depth) short (s .pre .0 .sorted);
-      count = sym (long s) ∙ nothing-count (s .args .side) (s .args .prices .now) (s .args .sizes .now) (s .args .rests .now) (held (s .args .kept)) none;
-      met = nothing-met (s .args .side) (s .args .prices .now) (s .args .sizes .now) (s .args .rests .now) (held (s .args .kept)) none;
+      levels = nothing-levels (s .args .side) (s .args .prices .now) (s .args .sizes .now) (s .args .rests .now) (held (keptIn (s .args .words .now) (s .args .kept))) none (s .args .depth) short (s .pre .0 .sorted);
+      count = sym (long s) ∙ nothing-count (s .args .side) (s .args .prices .now) (s .args .sizes .now) (s .args .rests .now) (held (keptIn (s .args .words .now) (s .args .kept))) none;
+      met = nothing-met (s .args .side) (s .args .prices .now) (s .args .sizes .now) (s .args .rests .now) (held (keptIn (s .args .words .now) (s .args .kept))) none;
     }
 
 work-requires : tie.Need-work-requires

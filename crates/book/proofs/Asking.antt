@@ -6,7 +6,8 @@ use mathlib.Core.Bool.{Bool, true, false, true≢false, cond}
 use Prim.Native.Nat.{ℕ, zero, suc}
 use native.Mathlib.Omega.{arith}
 use lib.Dec.{lit<}
-use lib.ListN.{length, length-take, length-map}
+use lib.ListN.{length, length-map}
+use Rattle.side.proofs.Held.{held-length}
 use Rattle.decimal.specs.Decimal.{Number, number}
 use Rattle.decimal.specs.declared.Decimal.{Decimal}
 use Rattle.settings.specs.Settings.{Terms, good, goodDepth, goodName, kept, shut, termsOf, Chosen}
@@ -80,13 +81,7 @@ if-no a t x z h = let e = refusal-refuses t in rw (h, ifTaken, e)
 -- ---- how many
 
 held-count : (levels : Levels) (side : Side) → kept·.Good side levels → levels .count ≡ length (map shown (held levels))
-unfolding held
-held-count levels side g =
-    let a = g .few in
-    let b = g .room in
-    let c = length-take (levels .count) (levels .items) in
-    let e = length-map (held levels) shown in
-    omega arith
+held-count levels side g = sym (length-map (held levels) shown ∙ held-length levels (g .few) (g .room))
 
 module _ (b : Book) (scope : Scope) where
   abbrev p : Reference

@@ -27,10 +27,9 @@ use Rattle.checksum.specs.Carried.{Carries}
 use Rattle.side.specs.declared.Side.{Side}
 use Rattle.side.specs.declared.Side.the-variants.{Bids, Asks}
 use Rattle.side.specs.declared.Levels.{Levels}
-use Rattle.side.specs.declared.Applied.{Applied}
 use Rattle.side.proofs.Lengths.{length-ranked, length-applyAll, afterMessage-whole}
 use Rattle.side.proofs.Meeting.{met-snapshot}
-use Rattle.sides.specs.Worked.{Sound, editsAt, Worked}
+use Rattle.sides.specs.Worked.{SideAfter, Sound, editsAt, Worked}
 use Rattle.sides.proofs.Working.{none-worked}
 use Rattle.loader.specs.Reading.{Ready}
 use Rattle.layout.specs.Layout.{Layout}
@@ -162,10 +161,10 @@ update-passed state m n o h j = at (o .snapshot) (isLive (statusOf state)) (m &&
 
 -- a side before the entries: the book's own, and with no level before those of a snapshot
 abbrev pub before : Outline → Levels → Levels
-before o kept = record { items = kept .items; count = cond (o .snapshot) 0 (kept .count) }
+before o kept = record { words = kept .words; count = cond (o .snapshot) 0 (kept .count) }
 
 -- what becomes of a side for which the message has no entries
-abbrev pub idle : Outline → Levels → Applied
+abbrev pub idle : Outline → Levels → SideAfter
 idle o kept = record { levels = before o kept; count = before o kept .count; met = false }
 
 -- ---- a message that passes
@@ -305,7 +304,7 @@ module _ (b : Book) (s : List ℕ) (o : Outline) (k : Passed b s o) where
   none-held none e = ap (map shown) e
 
   -- a side with the message's entries applied to it is the side after the message
-  module _ (side : Side) (qs : List Quote) (kept : Levels) (base : List PriceLevel) (at count : ℕ) (a : Applied)
+  module _ (side : Side) (qs : List Quote) (kept : Levels) (base : List PriceLevel) (at count : ℕ) (a : SideAfter)
       (stood : map shown (held kept) ≡ base) (edits : editsAt (isM d) s at count ≡ map editOf qs)
       (w : Worked (isM d) side (b .settings .depth) (editsAt (isM d) s at count) kept a) where
     levels-are : map shown (held (a .levels)) ≡ afterMessage shownPrice side (b .settings .depth) (map editOf qs) base
@@ -333,7 +332,7 @@ module _ (b : Book) (s : List ℕ) (o : Outline) (k : Passed b s o) where
     length-is e = after-length readable (b .settings .depth) hundred side (map editOf qs) base e ∙ sym count-is
 
   -- ---- a snapshot, whose entries are applied to an empty side
-  module _ (h : o .snapshot ≡ true) (none none′ : Levels) (e : held none ≡ []) (e′ : held none′ ≡ []) (bids asks : Applied)
+  module _ (h : o .snapshot ≡ true) (none none′ : Levels) (e : held none ≡ []) (e′ : held none′ ≡ []) (bids asks : SideAfter)
       (wb : Worked (isM d) Bids (b .settings .depth) (editsAt (isM d) s (o .«bids_at») (o .bids)) none bids)
       (wa : Worked (isM d) Asks (b .settings .depth) (editsAt (isM d) s (o .«asks_at») (o .asks)) none′ asks) where
     is-snapshot : m .snapshot ≡ true
@@ -432,7 +431,7 @@ module _ (b : Book) (s : List ℕ) (o : Outline) (k : Passed b s o) where
       pub update-is-old : (isM d && leb (o .number) (b .number)) ≡ true → Told (hear p s) (refusedStep b OldNumber)
       update-is-old x = refuse-as OldNumber (eleven p m (update-names-once m is-update) lacks-none (old-is ∙ x))
 
-      module _ (new : (isM d && leb (o .number) (b .number)) ≡ false) (bids asks : Applied)
+      module _ (new : (isM d && leb (o .number) (b .number)) ≡ false) (bids asks : SideAfter)
           (wb : Worked (isM d) Bids (b .settings .depth) (editsAt (isM d) s (o .«bids_at») (o .bids)) (b .bids) bids)
           (wa : Worked (isM d) Asks (b .settings .depth) (editsAt (isM d) s (o .«asks_at») (o .asks)) (b .asks) asks) where
         many-is : hasTooMany p m ≡ (isM d && (ltb 100 (bids .count) || ltb 100 (asks .count)))
@@ -495,7 +494,7 @@ module _ (b : Book) (s : List ℕ) (o : Outline) (k : Passed b s o) where
   unfolding held All Sorted
   before-asked side kept z n = at (o .snapshot)
     where
-      at : (t : Bool) → Sound (isM d) side (record { items = kept .items; count = cond t 0 (kept .count) }) × (length (held (record { items = kept .items; count = cond t 0 (kept .count) })) ≤ b .settings .depth)
+      at : (t : Bool) → Sound (isM d) side (record { words = kept .words; count = cond t 0 (kept .count) }) × (length (held (record { words = kept .words; count = cond t 0 (kept .count) })) ≤ b .settings .depth)
       at true = (record { good = record { few = omega arith; room = z .good .room; sorted = tt; within = tt }; carried = tt; sized = tt }, omega arith)
       at false = (z, n)
 
@@ -516,16 +515,16 @@ module _ (b : Book) (s : List ℕ) (o : Outline) (k : Passed b s o) where
 
   module _ (t : Bool) (is : t ≡ isM d) (side : Side) (kept : Levels) (n : ℕ) (counts : n ≡ cond (o .snapshot) 0 (kept .count)) (at count : ℕ) where
     pub asked-as : Ready (isM d) s at count → Sound (isM d) side kept → length (held kept) ≤ b .settings .depth
-        → Sound t side (record { items = kept .items; count = n }) × Ready t s at count × (b .settings .depth ≤ 100) × (length (held (record { items = kept .items; count = n })) ≤ b .settings .depth)
+        → Sound t side (record { words = kept .words; count = n }) × Ready t s at count × (b .settings .depth ≤ 100) × (length (held (record { words = kept .words; count = n })) ≤ b .settings .depth)
     asked-as r z f = let y = before-asked side kept z f in rw (is, counts) (y .0, r, depth-most, y .1)
 
-    pub worked-as : (a : Applied) → Worked t side (b .settings .depth) (editsAt t s at count) (record { items = kept .items; count = n }) a
+    pub worked-as : (a : SideAfter) → Worked t side (b .settings .depth) (editsAt t s at count) (record { words = kept .words; count = n }) a
         → Worked (isM d) side (b .settings .depth) (editsAt (isM d) s at count) (before o kept) a
     worked-as a w = rw (is, counts) at w
 
   -- ---- the whole of checks 9, 12 and 13
 
-  module _ (judged : judgedUpdate (b .standing .state) (isM d) (b .number) o ≡ Passes o) (bids asks : Applied)
+  module _ (judged : judgedUpdate (b .standing .state) (isM d) (b .number) o ≡ Passes o) (bids asks : SideAfter)
       (wb : Worked (isM d) Bids (b .settings .depth) (editsAt (isM d) s (o .«bids_at») (o .bids)) (before o (b .bids)) bids)
       (wa : Worked (isM d) Asks (b .settings .depth) (editsAt (isM d) s (o .«asks_at») (o .asks)) (before o (b .asks)) asks) where
     abbrev found : Answer

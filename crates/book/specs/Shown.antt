@@ -8,7 +8,7 @@ use Rattle.decimal.specs.Decimal.{number}
 use Rattle.decimal.specs.declared.Decimal.{Decimal}
 use Rattle.settings.specs.Settings.{Terms, good, termsOf}
 use Rattle.side.specs.Level.{shown}
-use Rattle.side.specs.Kept.{held}
+use Rattle.side.specs.Kept.{keptIn, held}
 use Rattle.side.specs.declared.Side.{Side}
 use Rattle.side.specs.declared.Side.the-variants.{Bids, Asks}
 use Rattle.sides.specs.Worked.{Sound}
@@ -18,6 +18,9 @@ use Rattle.book.specs.declared.Scope.{Scope}
 use Rattle.book.specs.declared.State.{State}
 use Rattle.book.specs.declared.State.the-variants.{Shut, Waiting, Live}
 use Rattle.book.specs.declared.Book.{Book}
+use Rattle.book.specs.declared.Header.{Header}
+use Rattle.book.specs.declared.Answered.{Answered}
+use Rattle.book.specs.declared.Counts.{Counts}
 use Rattle.book.specs.declared.Step.{Step}
 use Rattle.book.specs.declared.Counted.{Counted}
 use Rattle.book.specs.declared.Levelled.{Levelled}
@@ -39,6 +42,34 @@ shows b =
       updates = b .updates;
       ever = b .standing .ever;
     }
+
+-- ---- a book whose words are lent
+
+-- The book of a header and the words of its bids and of its asks.
+abbrev pub bookOf : List ℕ → List ℕ → Header → Book
+bookOf bids asks h =
+    record {
+      bids = keptIn bids (h .bids);
+      asks = keptIn asks (h .asks);
+      settings = h .settings;
+      number = h .number;
+      updates = h .updates;
+      standing = h .standing;
+    }
+
+abbrev pub headerOf : Book → Header
+headerOf b =
+    record {
+      bids = b .bids .count;
+      asks = b .asks .count;
+      settings = b .settings;
+      number = b .number;
+      updates = b .updates;
+      standing = b .standing;
+    }
+
+abbrev pub stepOf : List ℕ → List ℕ → Answered → Step
+stepOf bids asks r = record { book = bookOf bids asks (r .header); answer = r .answer }
 
 -- What holds of every book that `open` or a method hands out.
 pub record Good (b : Book) : Type 0 where
@@ -69,6 +100,10 @@ pub record AnswersCounts (b : Book) (scope : Scope) (r : Counted) : Type 0 where
   pub book : r .book ≡ b
   pub answer : (buffer : List ℕ) → r .answer ≡ does (shows b) (howMany scope) buffer .answer
   pub value : (buffer : List ℕ) → counts (r .bids) (r .asks) ≡ does (shows b) (howMany scope) buffer .value
+
+-- The same of a header, whatever the words of the sides are.
+pub record CountsAnswered (h : Header) (scope : Scope) (r : Counts) : Type 0 where
+  pub of : (bids asks : List ℕ) → Good (bookOf bids asks h) → AnswersCounts (bookOf bids asks h) scope (record { book = bookOf bids asks h; answer = r .answer; bids = r .bids; asks = r .asks })
 
 pub record AnswersLevel (b : Book) (scope : Scope) (side : Side) (i : ℕ) (r : Levelled) : Type 0 where
   pub book : r .book ≡ b

@@ -1,14 +1,16 @@
 -- What the functions that take a message give, in terms of the code's book. Assumes nothing: these are definitions.
-use Prim.Native.Nat.{ℕ}
+use Prim.Native.Nat.{ℕ, _≤_}
 use mathlib.Core.Path.{_≡_}
-use mathlib.Core.Bool.{Bool, false, _&&_, _||_, not, cond}
+use mathlib.Core.Bool.{Bool, true, false, _&&_, _||_, not, cond}
 use mathlib.Core.List.{List, map}
-use lib.Dec.{eqb, leb}
+use lib.Dec.{eqb, leb, ltb}
+use lib.ListN.{length}
 use Rattle.decimal.specs.Digits.{reads}
-use Rattle.settings.specs.Settings.{isM, termsOf}
+use Rattle.settings.specs.Settings.{isM, termsOf, good}
 use Rattle.settings.specs.declared.Dialect.{Dialect}
 use Rattle.side.specs.Level.{shown}
 use Rattle.side.specs.Kept.{held}
+use Rattle.sides.specs.Worked.{SideAfter}
 use Rattle.side.specs.declared.Levels.{Levels}
 use Rattle.layout.specs.Layout.{Layout}
 use Rattle.layout.specs.Told.{outlineOf}
@@ -18,11 +20,12 @@ use Rattle.message.specs.declared.Answer.{Answer}
 use Rattle.message.specs.declared.Answer.the-variants.{Taken, PriceTwice, NoSnapshot, OldNumber, TooManyLevels, WrongChecksum}
 use Rattle.message.specs.declared.Verdict.{Verdict}
 use Rattle.message.specs.declared.Verdict.the-variants.{Fails, Passes}
-use Rattle.book.specs.Reference.{isShut, isLive, checksumOf, leavesStatus, oneMore, hear}
-use Rattle.book.specs.Shown.{statusOf, shows, Good, Told}
+use Rattle.book.specs.Reference.{maxLevels, isShut, isLive, checksumOf, leavesStatus, oneMore, hear}
+use Rattle.book.specs.Shown.{statusOf, shows, bookOf, Good, Told}
 use Rattle.book.specs.declared.State.{State}
 use Rattle.book.specs.declared.State.the-variants.{Waiting, Live}
 use Rattle.book.specs.declared.Book.{Book}
+use Rattle.book.specs.declared.Header.{Header}
 use Rattle.book.specs.declared.Standing.{Standing}
 use Rattle.book.specs.declared.Step.{Step}
 
@@ -41,6 +44,17 @@ liveStanding now snapshot = record { state = Live; ever = snapshot || now .ever 
 unfoldable pub refusedStanding : Standing → Answer → Standing
 refusedStanding now a = record { state = cond (leavesStatus a) (now .state) Waiting; ever = now .ever }
 
+abbrev pub refusedHeader : Header → Answer → Header
+refusedHeader h a =
+    record {
+      bids = h .bids;
+      asks = h .asks;
+      settings = h .settings;
+      number = h .number;
+      updates = h .updates;
+      standing = refusedStanding (h .standing) a;
+    }
+
 unfoldable pub refusedStep : Book → Answer → Step
 refusedStep b a =
     record {
@@ -56,6 +70,18 @@ keptStep b o bids asks =
       answer = Taken;
     }
 
+-- .. and its header, where so many bids and asks are left.
+abbrev pub takenHeader : Header → Outline → ℕ → ℕ → Header
+takenHeader h o bids asks =
+    record {
+      bids = bids;
+      asks = asks;
+      settings = h .settings;
+      number = o .number;
+      updates = cond (o .snapshot) 0 (oneMore (h .updates));
+      standing = liveStanding (h .standing) (o .snapshot);
+    }
+
 -- Checks 10 and 11.
 unfoldable pub judgedUpdate : State → Bool → ℕ → Outline → Verdict
 judgedUpdate state m number o =
@@ -69,9 +95,24 @@ unfoldable pub Judged : Book → List ℕ → Verdict → Type 0
 Judged b s (Fails a) = Told (hear (shows b) s) (refusedStep b a)
 Judged b s (Passes o) = Passed b s o × (judgedUpdate (b .standing .state) (isM (b .settings .dialect)) (b .number) o ≡ Passes o)
 
+-- What a message may be read with: of a book that is not shut the settings are good.
+pub record Ruled (h : Header) : Type 0 where
+  pub room : length (h .settings .name) ≡ 16
+  pub short : h .settings .length ≤ 16
+  pub terms : isShut (statusOf (h .standing .state)) ≡ false → good (termsOf (h .settings)) ≡ true
+
+-- What the same checks find of a header, whatever the words of the sides are.
+pub record JudgedWith (h : Header) (s : List ℕ) (v : Verdict) : Type 0 where
+  pub of : (bids asks : List ℕ) → Good (bookOf bids asks h) → Judged (bookOf bids asks h) s v
+
 -- Checks 9, 12 and 13.
 unfoldable pub weighed : Outline → Dialect → Bool → Bool → Levels → Levels → Answer
 weighed o d met over bids asks =
     cond (o .snapshot && met) PriceTwice
     (cond (not (o .snapshot) && (isM d && over)) TooManyLevels
     (cond (o .printed && not (eqb (o .checksum) (checksumOf d (map shown (held bids)) (map shown (held asks))))) WrongChecksum Taken))
+
+-- .. of what the entries made of the sides.
+abbrev pub weighedSides : Outline → Dialect → SideAfter → SideAfter → Answer
+weighedSides o d bids asks =
+    weighed o d (bids .met || asks .met) (ltb maxLevels (bids .count) || ltb maxLevels (asks .count)) (bids .levels) (asks .levels)

@@ -5,7 +5,11 @@
 //     book = step.book;
 //     let best = book.level(Scope::Current, Side::Bids, 0);
 //
-// A method takes the book by value and hands it back with its answer.
+// A method takes the book by value and hands it back with its answer. Who hands a book many messages lends it the words of its
+// sides instead, and passes only its header:
+//
+//     let answered = header.take(&mut bids, &mut asks, message);
+//     header = answered.header;
 mod taking;
 mod writing;
 
@@ -16,10 +20,11 @@ use settings::Dialect;
 use settings::Settings;
 use side::Found;
 use side::Levels;
+use side::MAX_WORDS;
 use side::Side;
 ghost use mathlib.Core.Path.{_≡_};
 ghost use Rattle.book.specs.Reference.{hear, whichNumber, howManyUpdates};
-ghost use Rattle.book.specs.Shown.{statusOf, shows, Good, Opened, Told, AnswersCounts, AnswersLevel, AnswersAmount, Wrote};
+ghost use Rattle.book.specs.Shown.{statusOf, shows, bookOf, headerOf, stepOf, Good, Opened, Told, CountsAnswered, AnswersCounts, AnswersLevel, AnswersAmount, Wrote};
 ghost use Rattle.book.specs.Asking.{firstState, answers, refusalOf, levelIn};
 
 // What a question is about.
@@ -46,14 +51,38 @@ pub struct Standing {
 }
 
 pub struct Book {
-    bids: Levels,
-    asks: Levels,
+    pub bids: Levels,
+    pub asks: Levels,
     settings: Settings,
     // The sequence number.
     number: u64,
     // How many updates were taken since the last snapshot.
     updates: u64,
     standing: Standing,
+}
+
+// A book but for the words of its sides.
+pub struct Header {
+    // How many bids and asks there are.
+    bids: usize,
+    asks: usize,
+    settings: Settings,
+    number: u64,
+    updates: u64,
+    standing: Standing,
+}
+
+// The answer to a message, where the words of the sides are lent.
+pub struct Answered {
+    pub header: Header,
+    pub answer: Answer,
+}
+
+// The answer to the question how many bids and asks there are.
+pub struct Counts {
+    pub answer: Answer,
+    pub bids: usize,
+    pub asks: usize,
 }
 
 // The answer to a message.
@@ -115,13 +144,88 @@ fn first_state(dialect: Dialect) -> State
     }
 }
 
+// The book of a header and the words of its sides.
+pub fn join(bids: [u64; MAX_WORDS], asks: [u64; MAX_WORDS], header: Header) -> Book
+    ensures { λ r. ⌜ r ≡ bookOf bids asks header ⌝ }
+{
+    let settings = header.settings;
+    let standing = header.standing;
+    Book {
+        bids: Levels {
+            words: bids,
+            count: header.bids,
+        },
+        asks: Levels {
+            words: asks,
+            count: header.asks,
+        },
+        settings,
+        number: header.number,
+        updates: header.updates,
+        standing,
+    }
+}
+
+impl Header {
+    // The book after a message, in the words that are lent: the first bids and asks of them are the book's.
+    pub fn take(self, bids: &mut [u64; MAX_WORDS], asks: &mut [u64; MAX_WORDS], s: &[u8]) -> Answered
+        requires { ⌜ Good (bookOf (now bids) (now asks) self) ⌝ }
+        ensures { λ r. ⌜ Told (hear (shows (bookOf (now (bids .entry)) (now (asks .entry)) self)) (now (s .entry))) (stepOf (now (bids .exit)) (now (asks .exit)) r) ⌝ }
+    {
+        taking::hear(self, bids, asks, s)
+    }
+
+    // How many bids and asks there are.
+    pub fn counts(self, scope: Scope) -> Counts
+        ensures { λ r. ⌜ CountsAnswered self scope r ⌝ }
+    {
+        let standing = self.standing;
+        if stands(standing, scope) {
+            return Counts {
+                answer: Answer::Taken,
+                bids: self.bids,
+                asks: self.asks,
+            };
+        }
+        Counts {
+            answer: refusal(standing),
+            bids: 0,
+            asks: 0,
+        }
+    }
+}
+
 impl Book {
+    // The book but for the words of its sides.
+    pub fn header(self) -> Header
+        ensures { λ r. ⌜ r ≡ headerOf self ⌝ }
+    {
+        let settings = self.settings;
+        let standing = self.standing;
+        Header {
+            bids: self.bids.count,
+            asks: self.asks.count,
+            settings,
+            number: self.number,
+            updates: self.updates,
+            standing,
+        }
+    }
+
     // The book after a message.
     pub fn take(self, s: &[u8]) -> Step
         requires { ⌜ Good self ⌝ }
         ensures { λ r. ⌜ Told (hear (shows self) (now (s .entry))) r ⌝ }
     {
-        taking::hear(self, s)
+        let mut bids = self.bids.words;
+        let mut asks = self.asks.words;
+        let answered = self.header().take(&mut bids, &mut asks, s);
+        let header = answered.header;
+        let answer = answered.answer;
+        Step {
+            book: join(bids, asks, header),
+            answer,
+        }
     }
 
     // How many bids and asks there are.
@@ -129,22 +233,13 @@ impl Book {
         requires { ⌜ Good self ⌝ }
         ensures { λ r. ⌜ AnswersCounts self scope r ⌝ }
     {
-        let standing = self.standing;
-        if stands(standing, scope) {
-            let bids = self.bids;
-            let asks = self.asks;
-            return Counted {
-                book: self,
-                answer: Answer::Taken,
-                bids: bids.count,
-                asks: asks.count,
-            };
-        }
+        let counts = self.header().counts(scope);
+        let answer = counts.answer;
         Counted {
             book: self,
-            answer: refusal(standing),
-            bids: 0,
-            asks: 0,
+            answer,
+            bids: counts.bids,
+            asks: counts.asks,
         }
     }
 

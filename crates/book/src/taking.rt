@@ -4,24 +4,24 @@ ghost use mathlib.Core.Bool.{_&&_, _||_, not, cond};
 ghost use mathlib.Core.List.{map};
 ghost use lib.Dec.{leb};
 ghost use Rattle.side.specs.Level.{shown};
-ghost use Rattle.side.specs.Kept.{held};
+ghost use Rattle.side.specs.Kept.{keptIn, held};
 ghost use Rattle.side.specs.declared.Side.the-variants.{Bids, Asks};
 ghost use Rattle.settings.specs.Settings.{isM};
-ghost use Rattle.sides.specs.Worked.{Sound};
+ghost use Rattle.sides.specs.Worked.{Sound, sideAfter};
 ghost use Rattle.book.specs.Reference.{isShut, isTaken, leavesStatus, checksumOf, hear, oneMore};
-ghost use Rattle.book.specs.Shown.{statusOf, shows, Good, Told};
-ghost use Rattle.book.specs.Taking.{Judged, judgedUpdate, weighed, liveStanding, refusedStanding};
-use crate::Book;
+ghost use Rattle.book.specs.Shown.{statusOf, shows, bookOf, stepOf, Good, Told};
+ghost use Rattle.book.specs.Taking.{Ruled, JudgedWith, judgedUpdate, weighedSides, takenHeader, refusedHeader, liveStanding, refusedStanding};
+use crate::Answered;
+use crate::Header;
 use crate::Standing;
 use crate::State;
-use crate::Step;
 use layout::Outline;
 use message::Answer;
 use message::Verdict;
 use settings::Dialect;
 use settings::is_m;
 use side::Applied;
-use side::Levels;
+use side::MAX_WORDS;
 use side::Side;
 use sides::apply_entries;
 
@@ -29,90 +29,93 @@ const MAX_LEVELS: usize = 100;
 
 const MAX_UPDATES: u64 = 4294967295;
 
-// The book after a message. One function owns the book after it, so that a side is copied only where entries change it.
-pub fn hear(book: Book, s: &[u8]) -> Step
-    requires { ⌜ Good book ⌝ }
-    ensures { λ r. ⌜ Told (hear (shows book) (now (s .entry))) r ⌝ }
+// The book after a message, in the words of its sides that are lent. A refusal gives the words back as they were.
+pub fn hear(
+    header: Header,
+    bids: &mut [u64; MAX_WORDS],
+    asks: &mut [u64; MAX_WORDS],
+    s: &[u8],
+) -> Answered
+    requires { ⌜ Good (bookOf (now bids) (now asks) header) ⌝ }
+    ensures { λ r. ⌜ Told (hear (shows (bookOf (now (bids .entry)) (now (asks .entry)) header)) (now (s .entry))) (stepOf (now (bids .exit)) (now (asks .exit)) r) ⌝ }
 {
-    let mut after = book;
-    let standing = after.standing;
-    let answer = match judge(after, s) {
-        Verdict::Fails(refusal) => {
-            after.standing = refused(standing, refusal);
-            refusal
-        }
+    match judge(header, s) {
+        Verdict::Fails(refusal) => Answered {
+            header: refuse(header, refusal),
+            answer: refusal,
+        },
         Verdict::Passes(outline) => {
-            let last = after;
-            let settings = last.settings;
+            let last_bids = *bids;
+            let last_asks = *asks;
+            let settings = header.settings;
             let depth = settings.depth;
             let dialect = settings.dialect;
             let m = is_m(dialect);
-            let bids_before = count_before(outline.snapshot, last.bids.count);
-            after.bids.count = bids_before;
-            let asks_before = count_before(outline.snapshot, last.asks.count);
-            after.asks.count = asks_before;
-            let mut met = false;
-            let mut over = false;
-            if 0 < outline.bids {
-                let old = after.bids;
-                let at = outline.bids_at;
-                let done = apply_entries(old, Side::Bids, depth, m, s, at, outline.bids);
-                after.bids = levels_of(done);
-                met = done.met;
-                over = MAX_LEVELS < done.count;
+            let bids_before = count_before(outline.snapshot, header.bids);
+            let bid_side = apply_entries(bids, bids_before, Side::Bids, depth, m, s, outline.bids_at, outline.bids);
+            let asks_before = count_before(outline.snapshot, header.asks);
+            let ask_side = apply_entries(asks, asks_before, Side::Asks, depth, m, s, outline.asks_at, outline.asks);
+            let answer = weigh(outline, dialect, bid_side, ask_side, bids, asks);
+            if is_taken(answer) {
+                return Answered {
+                    header: renew(header, outline, bid_side.left, ask_side.left),
+                    answer,
+                };
             }
-            if 0 < outline.asks {
-                let old = after.asks;
-                let at = outline.asks_at;
-                let done = apply_entries(old, Side::Asks, depth, m, s, at, outline.asks);
-                after.asks = levels_of(done);
-                met = either(met, done.met);
-                over = either(over, MAX_LEVELS < done.count);
+            *bids = last_bids;
+            *asks = last_asks;
+            Answered {
+                header: refuse(header, answer),
+                answer,
             }
-            let bids = after.bids;
-            let asks = after.asks;
-            let verdict = weigh(outline, dialect, met, over, bids, asks);
-            if is_taken(verdict) {
-                after.number = outline.number;
-                after.updates = updates_after(outline.snapshot, last.updates);
-                after.standing = live(standing, outline.snapshot);
-            } else {
-                after = last;
-                after.standing = refused(standing, verdict);
-            }
-            verdict
         }
-    };
-    Step {
-        book: after,
-        answer,
     }
 }
 
-fn levels_of(applied: Applied) -> Levels
-    ensures { λ r. ⌜ r ≡ applied .levels ⌝ }
+// The header after a message that is taken, which leaves so many bids and asks.
+fn renew(header: Header, outline: Outline, bids: usize, asks: usize) -> Header
+    ensures { λ r. ⌜ r ≡ takenHeader header outline bids asks ⌝ }
 {
-    applied.levels
+    let settings = header.settings;
+    let standing = header.standing;
+    Header {
+        bids,
+        asks,
+        settings,
+        number: outline.number,
+        updates: updates_after(outline.snapshot, header.updates),
+        standing: live(standing, outline.snapshot),
+    }
+}
+
+// The header after a refusal.
+fn refuse(header: Header, answer: Answer) -> Header
+    ensures { λ r. ⌜ r ≡ refusedHeader header answer ⌝ }
+{
+    let mut after = header;
+    let standing = header.standing;
+    after.standing = refused(standing, answer);
+    after
 }
 
 // Checks 1 to 8, 10 and 11.
-fn judge(book: Book, s: &[u8]) -> Verdict
-    requires { ⌜ Good book ⌝ }
-    ensures { λ r. ⌜ Judged book (now (s .entry)) r ⌝ }
+fn judge(header: Header, s: &[u8]) -> Verdict
+    requires { ⌜ Ruled header ⌝ }
+    ensures { λ r. ⌜ JudgedWith header (now (s .entry)) r ⌝ }
 {
-    let standing = book.standing;
+    let standing = header.standing;
     let state = standing.state;
     if is_shut(state) {
         return Verdict::Fails(Answer::Shut);
     }
-    let settings = book.settings;
+    let settings = header.settings;
     let dialect = settings.dialect;
     let depth = settings.depth;
     let name = settings.name;
     let n = settings.length;
     match message::read_open(dialect, depth, &name[..n], s) {
         Verdict::Fails(answer) => Verdict::Fails(answer),
-        Verdict::Passes(outline) => judge_update(state, is_m(dialect), book.number, outline),
+        Verdict::Passes(outline) => judge_update(state, is_m(dialect), header.number, outline),
     }
 }
 
@@ -136,38 +139,45 @@ fn judge_update(state: State, m: bool, number: u64, outline: Outline) -> Verdict
 }
 
 // Checks 9, 12 and 13, by what the entries made of the sides: whether some price was met twice, and whether levels are over the limit.
-fn weigh(
+fn weigh<'a>(
     outline: Outline,
     dialect: Dialect,
-    met: bool,
-    over: bool,
-    bids: Levels,
-    asks: Levels,
+    bid_side: Applied,
+    ask_side: Applied,
+    bids: &'a [u64; MAX_WORDS],
+    asks: &'a [u64; MAX_WORDS],
 ) -> Answer
-    requires { ⌜ Sound (isM dialect) Bids bids × Sound (isM dialect) Asks asks ⌝ }
-    ensures { λ r. ⌜ r ≡ weighed outline dialect met over bids asks ⌝ }
+    requires { ⌜ Sound (isM dialect) Bids (keptIn (now bids) («bid_side» .left)) × Sound (isM dialect) Asks (keptIn (now asks) («ask_side» .left)) ⌝ }
+    ensures { λ r. ⌜ r ≡ weighedSides outline dialect (sideAfter (now (bids .entry)) «bid_side») (sideAfter (now (asks .entry)) «ask_side») ⌝ }
 {
-    if both(outline.snapshot, met) {
+    if both(outline.snapshot, either(bid_side.met, ask_side.met)) {
         return Answer::PriceTwice;
     }
+    let over = either(MAX_LEVELS < bid_side.count, MAX_LEVELS < ask_side.count);
     if is_over(outline.snapshot, is_m(dialect), over) {
         return Answer::TooManyLevels;
     }
     if outline.printed {
-        if outline.checksum != checksum_of(dialect, bids, asks) {
+        if outline.checksum != checksum_of(dialect, bids, bid_side.left, asks, ask_side.left) {
             return Answer::WrongChecksum;
         }
     }
     Answer::Taken
 }
 
-fn checksum_of(dialect: Dialect, bids: Levels, asks: Levels) -> u32
-    requires { ⌜ Sound (isM dialect) Bids bids × Sound (isM dialect) Asks asks ⌝ }
-    ensures { λ r. ⌜ r ≡ checksumOf dialect (map shown (held bids)) (map shown (held asks)) ⌝ }
+fn checksum_of<'a>(
+    dialect: Dialect,
+    bids: &'a [u64; MAX_WORDS],
+    bid_count: usize,
+    asks: &'a [u64; MAX_WORDS],
+    ask_count: usize,
+) -> u32
+    requires { ⌜ Sound (isM dialect) Bids (keptIn (now bids) «bid_count») × Sound (isM dialect) Asks (keptIn (now asks) «ask_count») ⌝ }
+    ensures { λ r. ⌜ r ≡ checksumOf dialect (map shown (held (keptIn (now (bids .entry)) «bid_count»))) (map shown (held (keptIn (now (asks .entry)) «ask_count»))) ⌝ }
 {
     match dialect {
-        Dialect::K => checksum::k_checksum(bids, asks),
-        Dialect::M => checksum::m_checksum(bids, asks),
+        Dialect::K => checksum::k_checksum(bids, bid_count, asks, ask_count),
+        Dialect::M => checksum::m_checksum(bids, bid_count, asks, ask_count),
         Dialect::Unknown => 0,
     }
 }

@@ -22,7 +22,7 @@ pub fn lay(book: Book, buffer: &mut [u8]) -> Written
     match dialect {
         Dialect::K => writer::k_write(depth, &name[..n], bids, asks, buffer),
         Dialect::M => {
-            let sum = checksum::m_checksum(bids, asks);
+            let sum = checksum::m_checksum(&bids.words, bids.count, &asks.words, asks.count);
             writer::m_write(&name[..n], bids, asks, sum, book.number, buffer)
         }
         Dialect::Unknown => Written::To(0),

@@ -7,6 +7,7 @@ ghost use Rattle.book.specs.Shown.{Good, Opened, shows};
 ghost use Rattle.feed.specs.Feed.{HeardLines};
 use book::Book;
 use book::Scope;
+use book::join;
 use line_text::MAX_REPLY;
 use lines::LINE_END;
 use lines::find;
@@ -34,29 +35,31 @@ pub fn hear_lines(book: Book, s: &[u8], buffer: &mut [u8]) -> Heard
     requires { ⌜ Good book ⌝ }
     ensures { λ r. ⌜ HeardLines (now (s .entry)) (shows book) (now (buffer .entry)) r (now (buffer .exit)) ⌝ }
 {
-    let mut now = book;
+    let mut bids = book.bids.words;
+    let mut asks = book.asks.words;
+    let mut header = book.header();
     let mut next = 0;
     let mut written = 0;
     while MAX_REPLY <= buffer.len() - written {
         let end = find(s, next, LINE_END);
         if s.len() <= end {
             return Heard {
-                book: now,
+                book: join(bids, asks, header),
                 next,
                 written,
             };
         }
-        let step = now.take(&s[next..end]);
-        let answer = step.answer;
-        now = step.book;
-        let counted = now.counts(Scope::Current);
-        let asked = counted.answer;
+        let answered = header.take(&mut bids, &mut asks, &s[next..end]);
+        let answer = answered.answer;
+        header = answered.header;
+        let counts = header.counts(Scope::Current);
+        let asked = counts.answer;
         let live = message::number_of(asked) == 0;
-        written = line_text::write_reply(answer, live, counted.bids, counted.asks, buffer, written);
+        written = line_text::write_reply(answer, live, counts.bids, counts.asks, buffer, written);
         next = end + 1;
     }
     Heard {
-        book: now,
+        book: join(bids, asks, header),
         next,
         written,
     }

@@ -29,7 +29,7 @@ use Rattle.side.proofs.Mapping.{shown-afterMessage, applied-levels, applied-cou
 use Rattle.checksum.specs.Carried.{Carries}
 use Rattle.loader.specs.Loaded.{editFor, editAt, rowsAt, Loaded}
 use Rattle.loader.specs.Reading.{entryFor, pieceFor}
-use Rattle.sides.specs.Worked.{Sound, editsAt, Worked}
+use Rattle.sides.specs.Worked.{Sound, editsAt, sideAfter, Worked}
 
 -- ---- sizes keep the limits of decimals
 
@@ -80,7 +80,7 @@ module _ (m : Bool) (side : Side) (depth : ℕ) (kept : Levels) (s : List ℕ) (
   unchanged g few = sym (ap (take depth) (sorted-ranked levelPrice side (held kept) (g .sorted)) ∙ take-all depth (held kept) few)
 
   pub none-worked : count ≡ 0 → Sound m side kept → length (held kept) ≤ depth
-      → Worked m side depth (editsAt m s at count) kept (kept .words) (record { left = kept .count; count = kept .count; met = false })
+      → Worked m side depth (editsAt m s at count) kept (record { levels = kept; count = kept .count; met = false })
   unfolding applyAll met
   none-worked h k few =
       let z = no-edits h in
@@ -98,7 +98,7 @@ module _ (m : Bool) (side : Side) (depth : ℕ) (kept : Levels) (s : List ℕ) (
     es = entriesOf (take n prices) (take n sizes) (take n rests)
 
     pub some-worked : (count ≡ 0 → ⊥) → Sound m side kept → Loaded (pieceFor m) (drop at s) (rowsAt (entryFor m) (drop at s)) prices sizes rests n
-        → AfterEntries side depth es kept words r → Worked m side depth (editsAt m s at count) kept words r
+        → AfterEntries side depth es kept words r → Worked m side depth (editsAt m s at count) kept (sideAfter words r)
     some-worked h k l a =
         let q : map (mapEdit shown) es ≡ editsAt m s at count = l .edits ∙ sym (edits-are h) in
         record {

@@ -26,8 +26,18 @@ pub record Sound (m : Bool) (side : Side) (kept : Levels) : Type 0 where
 unfoldable pub editsAt : Bool → List ℕ → ℕ → ℕ → List (Edit PriceLevel)
 editsAt m s at count = cond (eqb count 0) [] (map (editAt (drop at s)) (rowsAt (entryFor m) (drop at s)))
 
-pub record Worked (m : Bool) (side : Side) (depth : ℕ) (edits : List (Edit PriceLevel)) (kept : Levels) (words : List ℕ) (r : Applied) : Type 0 where
-  pub sound : Sound m side (keptIn words (r .left))
-  pub levels : map shown (held (keptIn words (r .left))) ≡ afterMessage shownPrice side depth edits (map shown (held kept))
+-- A side after entries: its levels, how many stood before the cut, and whether some entry set a level at a price where one stood by then.
+pub record SideAfter : Type 0 where
+  pub levels : Levels
+  pub count : ℕ
+  pub met : Bool
+
+-- What `apply_entries` leaves in the words, and answers.
+abbrev pub sideAfter : List ℕ → Applied → SideAfter
+sideAfter words r = record { levels = keptIn words (r .left); count = r .count; met = r .met }
+
+pub record Worked (m : Bool) (side : Side) (depth : ℕ) (edits : List (Edit PriceLevel)) (kept : Levels) (r : SideAfter) : Type 0 where
+  pub sound : Sound m side (r .levels)
+  pub levels : map shown (held (r .levels)) ≡ afterMessage shownPrice side depth edits (map shown (held kept))
   pub count : r .count ≡ length (applyAll shownPrice edits (map shown (held kept)))
   pub met : r .met ≡ met shownPrice edits (map shown (held kept))

@@ -4,7 +4,7 @@ ghost use Prim.Native.Nat.{_≤_};
 ghost use lib.ListN.{length};
 ghost use Rattle.side.specs.Kept.{keptIn, held};
 ghost use Rattle.loader.specs.Reading.{Ready};
-ghost use Rattle.sides.specs.Worked.{Sound, editsAt, Worked};
+ghost use Rattle.sides.specs.Worked.{Sound, editsAt, sideAfter, Worked};
 use loader::MAX_ENTRIES;
 use side::Applied;
 use side::MAX_WORDS;
@@ -23,7 +23,7 @@ pub fn apply_entries(
     count: usize,
 ) -> Applied
     requires { ⌜ Sound m side (keptIn (now words) kept) × Ready m (now s) at count × (depth ≤ 100) × (length (held (keptIn (now words) kept)) ≤ depth) ⌝ }
-    ensures { λ r. ⌜ Worked m side depth (editsAt m (now (s .entry)) at count) (keptIn (now (words .entry)) kept) (now (words .exit)) r ⌝ }
+    ensures { λ r. ⌜ Worked m side depth (editsAt m (now (s .entry)) at count) (keptIn (now (words .entry)) kept) (sideAfter (now (words .exit)) r) ⌝ }
 {
     if count == 0 {
         return Applied {

@@ -13,9 +13,10 @@ use Rattle.decimal.proofs.Text.{length-text}
 use Rattle.side.specs.declared.Level.{Level}
 use Rattle.side.specs.declared.Levels.{Levels}
 use Rattle.side.specs.Level.{levelPrice, levelSize, shown}
-use Rattle.side.specs.Kept.{held}
+use Rattle.side.specs.Words.{levelsIn, noLevel}
+use Rattle.side.specs.Kept.{maxLevels, held}
 use Rattle.side.proofs.All.{all-at}
-use Rattle.side.proofs.Entries.{none}
+use Rattle.side.proofs.Stored.{length-levels}
 use Rattle.writer.specs.Snapshot.{quoted, commaJoined, array, kEntry, mEntry}
 use Rattle.writer.specs.Parts.{entry, nextEntry, entries, Writable, WritableSide, maxEntry}
 
@@ -77,40 +78,47 @@ length-joined stamped (level ∷ levels) = let e = ap length (joined stamped lev
 
 -- ---- the entries of a side from a place on
 
+-- The level at a place, as the code reads it.
+abbrev pub levelIn : Levels → ℕ → Level
+levelIn kept i = getD (levelsIn (kept .words)) i noLevel
+
 module _ (stamped : Bool) (kept : Levels) (writable : WritableSide kept) where
   count-held : length (held kept) ≡ kept .count
   unfolding held
-  count-held = let f = writable .few in let r = writable .room in length-take-le (kept .count) (kept .items) (omega arith)
+  count-held =
+      let f = writable .few in
+      let l = length-levels maxLevels (kept .words) (writable .room) in
+      length-take-le (kept .count) (levelsIn (kept .words)) (omega arith)
 
   module _ (i : ℕ) (inside : i < kept .count) where
-    at-place : getD (held kept) i none ≡ getD (kept .items) i none
+    at-place : getD (held kept) i noLevel ≡ levelIn kept i
     unfolding held
-    at-place = getD-take (kept .count) (kept .items) i none inside
+    at-place = getD-take (kept .count) (levelsIn (kept .words)) i noLevel inside
 
-    from-place : drop i (held kept) ≡ getD (kept .items) i none ∷ drop (i + 1) (held kept)
+    from-place : drop i (held kept) ≡ levelIn kept i ∷ drop (i + 1) (held kept)
     from-place =
         let n = count-held in
-        drop-cons (held kept) i none (omega arith)
+        drop-cons (held kept) i noLevel (omega arith)
         ∙ ap₂ (λ (x : Level) (k : ℕ). x ∷ drop k (held kept)) at-place (sym (add-one i))
 
-    pub writable-at : Writable (getD (kept .items) i none)
-    writable-at = let n = count-held in subst Writable at-place (all-at Writable (held kept) i none (omega arith) (writable .levels))
+    pub writable-at : Writable (levelIn kept i)
+    writable-at = let n = count-held in subst Writable at-place (all-at Writable (held kept) i noLevel (omega arith) (writable .levels))
 
-    pub led-next : led stamped (drop i (held kept)) ≡ nextEntry stamped (getD (kept .items) i none) ++ led stamped (drop (i + 1) (held kept))
+    pub led-next : led stamped (drop i (held kept)) ≡ nextEntry stamped (levelIn kept i) ++ led stamped (drop (i + 1) (held kept))
     unfolding led
     led-next = ap (led stamped) from-place
 
-    pub length-led : length (led stamped (drop i (held kept))) ≡ 1 + length (entry stamped (getD (kept .items) i none)) + length (led stamped (drop (i + 1) (held kept)))
+    pub length-led : length (led stamped (drop i (held kept))) ≡ 1 + length (entry stamped (levelIn kept i)) + length (led stamped (drop (i + 1) (held kept)))
     unfolding nextEntry
-    length-led = let e = ap length led-next ∙ length-append (nextEntry stamped (getD (kept .items) i none)) (led stamped (drop (i + 1) (held kept))) in omega arith
+    length-led = let e = ap length led-next ∙ length-append (nextEntry stamped (levelIn kept i)) (led stamped (drop (i + 1) (held kept))) in omega arith
 
   pub led-end : (i : ℕ) → kept .count ≤ i → led stamped (drop i (held kept)) ≡ []
   unfolding led
   led-end i past = let n = count-held in ap (led stamped) (drop-of-length-le (held kept) {i = i} (omega arith))
 
-  pub entries-some : 0 < kept .count → entries stamped kept ≡ entry stamped (getD (kept .items) 0 none) ++ led stamped (drop 1 (held kept))
+  pub entries-some : 0 < kept .count → entries stamped kept ≡ entry stamped (levelIn kept 0) ++ led stamped (drop 1 (held kept))
   unfolding entries
-  entries-some some = ap (λ (l : List Level). commaJoined (map (entry stamped) l)) (from-place 0 some) ∙ joined stamped (getD (kept .items) 0 none) (drop 1 (held kept))
+  entries-some some = ap (λ (l : List Level). commaJoined (map (entry stamped) l)) (from-place 0 some) ∙ joined stamped (levelIn kept 0) (drop 1 (held kept))
 
   pub entries-none : kept .count ≡ 0 → entries stamped kept ≡ []
   unfolding entries commaJoined held

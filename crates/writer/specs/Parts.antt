@@ -11,7 +11,7 @@ use Rattle.side.specs.declared.Level.{Level}
 use Rattle.side.specs.declared.Levels.{Levels}
 use Rattle.side.specs.Level.{levelPrice, levelSize, shown}
 use Rattle.side.specs.Side.{All}
-use Rattle.side.specs.Kept.{maxLevels, held}
+use Rattle.side.specs.Kept.{maxLevels, maxWords, held}
 use Rattle.writer.specs.Snapshot.{commaJoined, kEntry, mEntry, kSnapshot, mSnapshot}
 
 -- ---- the parts
@@ -43,7 +43,7 @@ pub record Writable (level : Level) : Type 0 where
 
 pub record WritableSide (kept : Levels) : Type 0 where
   pub few : kept .count ≤ maxLevels
-  pub room : length (kept .items) ≡ maxLevels
+  pub room : length (kept .words) ≡ maxWords
   pub levels : All Writable (held kept)
 
 -- The sizes of a side's levels keep the limits of decimals; of its prices `Good` says so.

@@ -7,6 +7,7 @@ use decimal::Decimal;
 use decimal::Written;
 use side::Level;
 use side::Levels;
+use side::level_in;
 
 // Lays a text into a buffer at a position, and answers the position past it.
 pub fn lay(bytes: &[u8], buffer: &mut [u8], at: usize) -> usize
@@ -56,10 +57,10 @@ fn lay_side(stamped: bool, levels: Levels, buffer: &mut [u8], at: usize) -> usiz
     if count == 0 {
         return at;
     }
-    let mut end = lay_entry(stamped, levels.items[0], buffer, at);
+    let mut end = lay_entry(stamped, level_in(&levels.words, 0), buffer, at);
     let mut i = 1;
     while i < count {
-        end = lay_next(stamped, levels.items[i], buffer, end);
+        end = lay_next(stamped, level_in(&levels.words, i), buffer, end);
         i += 1;
     }
     end

@@ -5,6 +5,7 @@ ghost use lib.ListN.{length};
 ghost use Rattle.writer.specs.Parts.{Writable, WritableSide, entry, entries, kText, mText, maxEntry, maxSide, maxName};
 use side::Level;
 use side::Levels;
+use side::level_in;
 
 // The bytes of an entry other than those of its price and size, with a timestamp and without.
 const STAMPED: usize = 18;
@@ -44,7 +45,7 @@ fn side_length(stamped: bool, levels: Levels) -> usize
     let mut n = 0;
     let mut i = 0;
     while i < count {
-        n += 1 + entry_length(stamped, levels.items[i]);
+        n += 1 + entry_length(stamped, level_in(&levels.words, i));
         i += 1;
     }
     if n == 0 {

@@ -1,12 +1,13 @@
 -- `side_length` meets its contract: a comma and an entry at each turn, and the first has no comma.
 use Prim.Native.Nat.{_+_, _-_, _*_, _≤_}
-use mathlib.Core.Path.{_≡_, ap}
+use mathlib.Core.Path.{_≡_, sym, ap, _∙_, subst}
 use native.Mathlib.Nat.{zero-add}
 use native.Mathlib.Omega.{arith}
 use borrow.Author.Needs.{needs}
 use lib.ListN.{length, drop}
+use Rattle.side.specs.declared.Level.{Level}
 use Rattle.side.specs.Kept.{held}
-use Rattle.writer.specs.Parts.{entries, maxEntry, maxSide}
+use Rattle.writer.specs.Parts.{entry, entries, Writable, maxEntry, maxSide}
 use Rattle.writer.proofs.Entries.{led, length-led, led-end, writable-at, length-entries}
 use Rattle.writer.proofs.measuring.side_length.Statement.{statement}
 use Rattle.writer.proofs.measuring.side_length.Tie as tie
@@ -20,16 +21,21 @@ abbrev μ-loop : tie.MeasureT-loop
 
 -- ---- a turn, and the end
 
+abbrev turn : tie.After-level-in Inv-loop μ-loop → tie.In-loop Inv-loop μ-loop
+turn c = c .before .before .before
+
 turned : (c : tie.After-entry-length Inv-loop μ-loop) →
-    let s = c .before .before .before .before in
-    let i = c .before .before .before .loop .i in
-    let n = c .before .before .before .loop .n + (1 + c .entry-length .result) in
-    (n + length (led (s .args .stamped) (drop (i + 1) (held (s .args .t2)))) ≡ length (led (s .args .stamped) (held (s .args .t2)))) × (n ≤ (maxEntry + 1) * (i + 1)) × (i + 1 ≤ s .args .t2 .count)
+    let t = turn (c .before) .before in
+    let a = t .before .args in
+    let n = t .loop .n + (1 + c .entry-length .result) in
+    (n + length (led (a .stamped) (drop (t .loop .i + 1) (held (a .t2)))) ≡ length (led (a .stamped) (held (a .t2)))) × (n ≤ (maxEntry + 1) * (t .loop .i + 1)) × (t .loop .i + 1 ≤ a .t2 .count)
 turned c =
-    let s = c .before .before .before .before in
-    let l = length-led (s .args .stamped) (s .args .t2) (s .pre) (c .before .before .before .loop .i) (c .before .before .loop-test .taken) in
-    let e = c .entry-length .ensures in
-    let v = c .before .before .before .loop .inv in
+    let t = turn (c .before) in
+    let s = t .before .before in
+    let l = length-led (s .args .stamped) (s .args .t2) (s .pre) (t .before .loop .i) (t .loop-test .taken) in
+    let e = c .entry-length .ensures .0 ∙ ap (λ (level : Level). length (entry (s .args .stamped) level)) (c .before .level-in .ensures) in
+    let m = c .entry-length .ensures .1 in
+    let v = t .before .loop .inv in
     (omega arith, omega arith, omega arith)
 
 counted : (c : tie.After-loop Inv-loop μ-loop) →
@@ -49,23 +55,23 @@ counted c =
 loop-holds : tie.Need-loop-holds Inv-loop μ-loop
 loop-holds c = (zero-add (length (led (c .args .stamped) (held (c .args .t2)))), search needs, search needs)
 
-mul-entry-length : tie.Need-mul-entry-length Inv-loop μ-loop
-mul-entry-length c = let f = c .before .before .pre .few in omega arith
-
-element-copy-out-entry-length : tie.Need-element-copy-out-entry-length Inv-loop μ-loop
-element-copy-out-entry-length c = let f = c .before .before .pre .few in omega arith
+level-in-requires : tie.Need-level-in-requires Inv-loop μ-loop
+level-in-requires c κs = let p = c .before .before .before .before .pre in (omega (arith, p .few), p .room)
 
 entry-length-requires : tie.Need-entry-length-requires Inv-loop μ-loop
-entry-length-requires c κs = let s = c .before .before .before in writable-at (s .args .stamped) (s .args .t2) (s .pre) (c .before .before .loop .i) (c .before .loop-test .taken)
+entry-length-requires c κs =
+    let t = turn c in
+    let s = t .before .before in
+    subst Writable (sym (c .level-in .ensures)) (writable-at (s .args .stamped) (s .args .t2) (s .pre) (t .before .loop .i) (t .loop-test .taken))
 
 add-n : tie.Need-add-n Inv-loop μ-loop
 add-n c = search needs
 
 add-n-2 : tie.Need-add-n-2 Inv-loop μ-loop
-add-n-2 c = let t = turned c in let f = c .before .before .before .before .pre .few in omega arith
+add-n-2 c = let t = turned c in let f = turn (c .before) .before .before .pre .few in omega arith
 
 add-i : tie.Need-add-i Inv-loop μ-loop
-add-i c = let t = turned c in let f = c .before .before .before .before .pre .few in omega arith
+add-i c = let t = turned c in let f = turn (c .before) .before .before .pre .few in omega arith
 
 loop-less : tie.Need-loop-less Inv-loop μ-loop
 loop-less c = omega arith
@@ -89,8 +95,7 @@ side-length-spec =
     Inv-loop
     μ-loop
     loop-holds
-    mul-entry-length
-    element-copy-out-entry-length
+    level-in-requires
     entry-length-requires
     add-n
     add-n-2

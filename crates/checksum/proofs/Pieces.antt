@@ -18,6 +18,9 @@ use Rattle.piece.specs.Piece.{kPiece, mPiece, SumsTo}
 use Rattle.piece.specs.declared.Piece.{Piece}
 use Rattle.side.specs.Level.{PriceLevel, levelPrice, levelSize, shown}
 use Rattle.side.specs.Side.{All}
+use Rattle.side.specs.Words.{levelsIn}
+use Rattle.side.specs.Kept.{maxLevels, maxWords}
+use Rattle.side.proofs.Stored.{length-levels}
 use Rattle.side.specs.declared.Level.{Level}
 use Rattle.checksum.specs.Text.{joined, kLevel, kText, kLevels, kChecksum, mLevel, interleaved, colonJoined, mText, mLevels, mChecksum, colon}
 use Rattle.checksum.specs.Carried.{Carries, Made, MadeOf, summed}
@@ -136,6 +139,10 @@ module _ {A : Type 0} where
       ap (λ (l : List A). x ∷ (y ∷ l)) (interleaved-all n k xs ys (le-of-suc-le-suc hx) (le-of-suc-le-suc hy) (omega arith))
 
 -- ---- a turn of the loops that sum
+
+-- the words of a side hold as many levels as it may have
+pub enough : (n : ℕ) (words : List ℕ) → n ≤ maxLevels → length words ≡ maxWords → n ≤ length (levelsIn words)
+enough n words h e = omega (arith, length-levels maxLevels words e)
 
 -- what stands past the end of an array of levels
 abbrev pub nowhere : Level

@@ -2,10 +2,10 @@
 //
 // A level carries the CRC and the length of its own piece of checksum text, made once, when the level is made
 // (`k_level`, `m_level`). The book's checksum is put together from them, so an update costs no digit of a level that it
-// does not touch.
+// does not touch. A side is lent as its words and the number of its levels, and is not copied.
 //
 //     let level = checksum::k_level(price, size);
-//     checksum::k_checksum(bids, asks)        // of the ten best asks, then the ten best bids
+//     checksum::k_checksum(&bids.words, bids.count, &asks.words, asks.count)  // of the ten best asks, then the ten best bids
 ghost use mathlib.Core.Path.{_≡_};
 ghost use mathlib.Core.List.{map};
 ghost use Prim.Native.Nat.{_≤_, _<_, _^_, min};
@@ -15,13 +15,14 @@ ghost use Rattle.piece.specs.Piece.{kPiece, mPiece};
 ghost use Rattle.side.specs.declared.Side.the-variants.{Bids, Asks};
 ghost use Rattle.side.specs.Level.{shown};
 ghost use Rattle.side.specs.Side.{All};
-ghost use Rattle.side.specs.Kept.{held, Good};
+ghost use Rattle.side.specs.Words.{levelsIn};
+ghost use Rattle.side.specs.Kept.{maxLevels, maxWords, held, Good};
 ghost use Rattle.checksum.specs.Text.{kChecksum, mChecksum, interleaved};
 ghost use Rattle.checksum.specs.Carried.{Carries, Made, MadeOf, summed};
 use decimal::Decimal;
 use piece::Piece;
 use side::Level;
-use side::Levels;
+use side::MAX_WORDS;
 
 // How many levels a side K sums.
 const K_LEVELS: usize = 10;
@@ -61,28 +62,38 @@ fn level_of(price: Decimal, size: Decimal, piece: Piece) -> Level
 }
 
 // The checksum of a K book.
-pub fn k_checksum(bids: Levels, asks: Levels) -> u32
-    requires { ⌜ Good Bids bids × Good Asks asks × All (Carries kPiece) (held bids) × All (Carries kPiece) (held asks) ⌝ }
-    ensures { λ r. ⌜ r ≡ kChecksum (map shown (held bids)) (map shown (held asks)) ⌝ }
+pub fn k_checksum<'a>(
+    bids: &'a [u64; MAX_WORDS],
+    bid_count: usize,
+    asks: &'a [u64; MAX_WORDS],
+    ask_count: usize,
+) -> u32
+    requires { ⌜ Good Bids (record { words = now bids; count = «bid_count» }) × Good Asks (record { words = now asks; count = «ask_count» }) × All (Carries kPiece) (held (record { words = now bids; count = «bid_count» })) × All (Carries kPiece) (held (record { words = now asks; count = «ask_count» })) ⌝ }
+    ensures { λ r. ⌜ r ≡ kChecksum (map shown (held (record { words = now (bids .entry); count = «bid_count» }))) (map shown (held (record { words = now (asks .entry); count = «ask_count» }))) ⌝ }
 {
-    let after_asks = sum_levels(crc32::START, asks, 0, at_most(asks.count, K_LEVELS));
-    sum_levels(after_asks, bids, 0, at_most(bids.count, K_LEVELS)) ^ crc32::START
+    let after_asks = sum_levels(crc32::START, asks, 0, at_most(ask_count, K_LEVELS));
+    sum_levels(after_asks, bids, 0, at_most(bid_count, K_LEVELS)) ^ crc32::START
 }
 
 // The checksum of an M book.
-pub fn m_checksum(bids: Levels, asks: Levels) -> u32
-    requires { ⌜ Good Bids bids × Good Asks asks × All (Carries mPiece) (held bids) × All (Carries mPiece) (held asks) ⌝ }
-    ensures { λ r. ⌜ r ≡ mChecksum (map shown (held bids)) (map shown (held asks)) ⌝ }
+pub fn m_checksum<'a>(
+    bids: &'a [u64; MAX_WORDS],
+    bid_count: usize,
+    asks: &'a [u64; MAX_WORDS],
+    ask_count: usize,
+) -> u32
+    requires { ⌜ Good Bids (record { words = now bids; count = «bid_count» }) × Good Asks (record { words = now asks; count = «ask_count» }) × All (Carries mPiece) (held (record { words = now bids; count = «bid_count» })) × All (Carries mPiece) (held (record { words = now asks; count = «ask_count» })) ⌝ }
+    ensures { λ r. ⌜ r ≡ mChecksum (map shown (held (record { words = now (bids .entry); count = «bid_count» }))) (map shown (held (record { words = now (asks .entry); count = «ask_count» }))) ⌝ }
 {
-    if bids.count == 0 {
-        if asks.count == 0 {
+    if bid_count == 0 {
+        if ask_count == 0 {
             return 0;
         }
     }
-    let both = at_most(bids.count, asks.count);
+    let both = at_most(bid_count, ask_count);
     let paired = sum_pairs(M_START, bids, asks, both);
-    let after_bids = sum_levels(paired, bids, both, bids.count);
-    sum_levels(after_bids, asks, both, asks.count) ^ crc32::START
+    let after_bids = sum_levels(paired, bids, both, bid_count);
+    sum_levels(after_bids, asks, both, ask_count) ^ crc32::START
 }
 
 fn at_most(n: usize, most: usize) -> usize
@@ -92,14 +103,14 @@ fn at_most(n: usize, most: usize) -> usize
 }
 
 // The state after the pieces of the levels from one place to another.
-fn sum_levels(state: u32, levels: Levels, from: usize, to: usize) -> u32
-    requires { ⌜ (from ≤ to) × (to ≤ 100) × (100 ≡ length (levels .items)) ⌝ }
-    ensures { λ r. ⌜ r ≡ summed state (drop from (take to (levels .items))) ⌝ }
+fn sum_levels(state: u32, words: &[u64; MAX_WORDS], from: usize, to: usize) -> u32
+    requires { ⌜ (from ≤ to) × (to ≤ maxLevels) × (length (now words) ≡ maxWords) ⌝ }
+    ensures { λ r. ⌜ r ≡ summed state (drop from (take to (levelsIn (now (words .entry))))) ⌝ }
 {
     let mut sum = state;
     let mut i = from;
     while i < to {
-        let level = levels.items[i];
+        let level = side::level_in(words, i);
         sum = crc32::combine(sum, level.sum, level.length as u64);
         i += 1;
     }
@@ -108,15 +119,20 @@ fn sum_levels(state: u32, levels: Levels, from: usize, to: usize) -> u32
 
 // The state after the pieces of the first n bids and asks in turn. The two of a turn are put together first, so that a
 // turn waits for one step of the turn before it and not for two.
-fn sum_pairs(state: u32, bids: Levels, asks: Levels, n: usize) -> u32
-    requires { ⌜ (n ≤ 100) × (100 ≡ length (bids .items)) × (100 ≡ length (asks .items)) ⌝ }
-    ensures { λ r. ⌜ r ≡ summed state (interleaved n (take n (bids .items)) (take n (asks .items))) ⌝ }
+fn sum_pairs<'a>(
+    state: u32,
+    bids: &'a [u64; MAX_WORDS],
+    asks: &'a [u64; MAX_WORDS],
+    n: usize,
+) -> u32
+    requires { ⌜ (n ≤ maxLevels) × (length (now bids) ≡ maxWords) × (length (now asks) ≡ maxWords) ⌝ }
+    ensures { λ r. ⌜ r ≡ summed state (interleaved n (take n (levelsIn (now (bids .entry)))) (take n (levelsIn (now (asks .entry))))) ⌝ }
 {
     let mut sum = state;
     let mut i = 0;
     while i < n {
-        let bid = bids.items[i];
-        let ask = asks.items[i];
+        let bid = side::level_in(bids, i);
+        let ask = side::level_in(asks, i);
         let bid_length = bid.length as u64;
         let ask_length = ask.length as u64;
         let pair = crc32::combine(bid.sum, ask.sum, ask_length);

@@ -1,9 +1,9 @@
 -- `k_checksum` meets its contract: the sums of the ten best asks, then of the ten best bids, are those of their joined text.
-use Prim.Native.Nat.{ℕ, zero-le}
-use mathlib.Core.Path.{_≡_, sym, ap, ap₂, _∙_}
-use native.Mathlib.Omega.{arith}
+use Prim.Native.Nat.{ℕ}
+use mathlib.Core.Path.{_≡_, ap, ap₂, _∙_}
 use lib.ListN.{take}
 use Rattle.crc32_spec.specs.Crc.{start, finish}
+use Rattle.side.specs.Words.{levelsIn}
 use Rattle.side.specs.Kept.{held}
 use Rattle.checksum.specs.Text.{kLevels}
 use Rattle.checksum.specs.Carried.{summed}
@@ -16,25 +16,27 @@ at-most-requires : tie.Need-at-most-requires
 at-most-requires c κs = search needs
 
 sum-levels-requires : tie.Need-sum-levels-requires
-sum-levels-requires c κs = let m = c .at-most .ensures in (zero-le, omega arith, sym (c .before .pre .1 .room))
+sum-levels-requires c κs = search needs
 
 at-most-requires-2 : tie.Need-at-most-requires-2
 at-most-requires-2 c κs = search needs
 
 sum-levels-requires-2 : tie.Need-sum-levels-requires-2
-sum-levels-requires-2 c κs = let m = c .at-most2 .ensures in (zero-le, omega arith, sym (c .before .before .before .pre .0 .room))
+sum-levels-requires-2 c κs = search needs
 
 returns : tie.Need-returns
 unfolding held
 returns c =
-    let bids = c .before .before .before .before .args .bids in
-    let asks = c .before .before .before .before .args .asks in
-    let first = c .before .before .sum-levels .ensures ∙ ap (λ (n : ℕ). summed start (take n (asks .items))) (c .before .before .before .at-most .ensures) ∙ ap (summed start) (take-min (asks .count) kLevels (asks .items)) in
+    let s = c .before .before .before .before in
+    let a = s .args in
+    let bids = levelsIn (a .bids .now) in
+    let asks = levelsIn (a .asks .now) in
+    let first = c .before .before .sum-levels .ensures ∙ ap (λ (n : ℕ). summed start (take n asks)) (c .before .before .before .at-most .ensures) ∙ ap (summed start) (take-min (a .ask-count) kLevels asks) in
     ap finish
     (c .sum-levels2 .ensures
-    ∙ ap₂ (λ (s n : ℕ). summed s (take n (bids .items))) first (c .before .at-most2 .ensures)
-    ∙ ap (summed (summed start (take kLevels (take (asks .count) (asks .items))))) (take-min (bids .count) kLevels (bids .items)))
-    ∙ k-summed (held bids) (held asks) (c .before .before .before .before .pre .2) (c .before .before .before .before .pre .3)
+    ∙ ap₂ (λ (sum n : ℕ). summed sum (take n bids)) first (c .before .at-most2 .ensures)
+    ∙ ap (summed (summed start (take kLevels (take (a .ask-count) asks)))) (take-min (a .bid-count) kLevels bids))
+    ∙ k-summed (take (a .bid-count) bids) (take (a .ask-count) asks) (s .pre .2) (s .pre .3)
 
 pub k-checksum-spec : {M : Type 1} → statement M
 k-checksum-spec =

@@ -1,43 +1,39 @@
 -- `sum_pairs` meets its contract: what is left to sum, from a turn on, gives what the whole gives.
-use Prim.Native.Nat.{ℕ, zero-le}
+use Prim.Native.Nat.{ℕ, _+_, _*_, _-_, _≤_, zero-le}
+use mathlib.Core.Path.{_≡_, sym, ap, ap₂, _∙_}
 use native.Mathlib.Nat.{sub-zero}
 use native.Mathlib.Omega.{arith}
-use Rattle.checksum.proofs.Pieces.{pairs-turn, pairs-done}
-use borrow.Author.Needs.{needs}
-use Prim.Native.Nat.{_≤_, _-_}
-use mathlib.Core.Path.{_≡_, refl, sym, ap, _∙_}
-use lib.ListN.{length, take, drop}
+use lib.Bits.{bitXor}
+use lib.ListN.{take, drop}
+use Rattle.crc32_spec.specs.Crc.{bits}
+use Rattle.side.specs.declared.Level.{Level}
+use Rattle.side.specs.Words.{levelsIn}
 use Rattle.checksum.specs.Text.{interleaved}
 use Rattle.checksum.specs.Carried.{summed}
+use Rattle.checksum.proofs.Pieces.{enough, pairs-turn, pairs-done}
+use borrow.Author.Needs.{needs}
 use Rattle.checksum.proofs.sum_pairs.Statement.{statement}
 use Rattle.checksum.proofs.sum_pairs.Tie as tie
 
 abbrev Inv-loop : tie.InvT-loop
-Inv-loop state n bids asks sum₀ i₀ sum i =
-    (summed sum (interleaved (n - i) (drop i (take n (bids .items))) (drop i (take n (asks .items))))
-    ≡ summed state (interleaved n (take n (bids .items)) (take n (asks .items))))
+Inv-loop state bids asks n sum₀ i₀ sum i =
+    (summed sum (interleaved (n - i) (drop i (take n (levelsIn bids))) (drop i (take n (levelsIn asks))))
+    ≡ summed state (interleaved n (take n (levelsIn bids)) (take n (levelsIn asks))))
     × (i ≤ n)
-    × (n ≤ 100)
-    × (100 ≡ length (bids .items))
-    × (100 ≡ length (asks .items))
 
 abbrev μ-loop : tie.MeasureT-loop
-μ-loop state n bids asks sum₀ i₀ sum i = n - i
+μ-loop state bids asks n sum₀ i₀ sum i = n - i
 
 loop-holds : tie.Need-loop-holds Inv-loop μ-loop
-loop-holds c = (ap (λ (m : ℕ). summed (c .args .state) (interleaved m (take (c .args .n) (c .args .t2 .items)) (take (c .args .n) (c .args .t3 .items)))) (sub-zero (c .args .n)), zero-le, c .pre .0, c .pre .1, c .pre .2)
+loop-holds c =
+    let a = c .args in
+    (ap (λ (m : ℕ). summed (a .state) (interleaved m (take (a .n) (levelsIn (a .bids .now))) (take (a .n) (levelsIn (a .asks .now))))) (sub-zero (a .n)), zero-le)
 
-mul-bid : tie.Need-mul-bid Inv-loop μ-loop
-mul-bid c = search needs
+level-in-requires : tie.Need-level-in-requires Inv-loop μ-loop
+level-in-requires c κs = search needs
 
-element-copy-out-bid : tie.Need-element-copy-out-bid Inv-loop μ-loop
-element-copy-out-bid c = search needs
-
-mul-ask : tie.Need-mul-ask Inv-loop μ-loop
-mul-ask c = search needs
-
-element-copy-out-ask : tie.Need-element-copy-out-ask Inv-loop μ-loop
-element-copy-out-ask c = search needs
+level-in-requires-2 : tie.Need-level-in-requires-2 Inv-loop μ-loop
+level-in-requires-2 c κs = search needs
 
 cast-bid-length : tie.Need-cast-bid-length Inv-loop μ-loop
 cast-bid-length c = search needs
@@ -62,19 +58,26 @@ loop-less c = search needs
 
 loop-again : tie.Need-loop-again Inv-loop μ-loop
 loop-again c =
-    let inv = c .before .before .before .before .before .before .before .loop .inv in
+    let w = c .before .before .before .before .before .before .before in
+    let s = w .before in
+    let a = s .args in
     let l = c .before .before .before .before .before .before .loop-test .taken in
-    let hb : c .before .before .before .before .before .before .before .before .args .n ≤ length (c .before .before .before .before .before .before .before .before .args .t2 .items) = omega arith in
-    let ha : c .before .before .before .before .before .before .before .before .args .n ≤ length (c .before .before .before .before .before .before .before .before .args .t3 .items) = omega arith in (
-      pairs-turn (c .before .before .before .before .before .before .before .before .args .t2 .items) (c .before .before .before .before .before .before .before .before .args .t3 .items) (c .before .before .before .before .before .before .before .loop .i) (c .before .before .before .before .before .before .before .before .args .n) (c .before .before .before .before .before .before .before .loop .sum) (c .combine2 .result) (c .before .combine .result) l hb ha (c .before .combine .ensures) (c .combine2 .ensures) ∙ inv .0,
+    let bid = c .before .before .before .before .before .level-in .ensures in
+    let ask = c .before .before .before .before .level-in2 .ensures in (
+      pairs-turn (levelsIn (a .bids .now)) (levelsIn (a .asks .now)) (w .loop .i) (a .n) (w .loop .sum) (c .combine2 .result) (c .before .combine .result) l
+          (enough (a .n) (a .bids .now) (s .pre .0) (s .pre .1))
+          (enough (a .n) (a .asks .now) (s .pre .0) (s .pre .2))
+          (c .before .combine .ensures ∙ ap₂ (λ (b k : Level). bitXor (bits (8 * k .length) (b .sum)) (k .sum)) bid ask)
+          (c .combine2 .ensures ∙ ap₂ (λ (b k : Level). bitXor (bits (8 * (b .length + k .length)) (w .loop .sum)) (c .before .combine .result)) bid ask)
+          ∙ w .loop .inv .0,
       omega arith,
-      inv .2,
-      inv .3,
-      inv .4,
     )
 
 returns : tie.Need-returns Inv-loop μ-loop
-returns c = sym (pairs-done (c .before .before .args .t2 .items) (c .before .before .args .t3 .items) (c .before .loop .i) (c .before .before .args .n) (c .before .loop .sum) (c .loop-test .left)) ∙ c .before .loop .inv .0
+returns c =
+    let w = c .before in
+    let a = w .before .args in
+    sym (pairs-done (levelsIn (a .bids .now)) (levelsIn (a .asks .now)) (w .loop .i) (a .n) (w .loop .sum) (c .loop-test .left)) ∙ w .loop .inv .0
 
 pub sum-pairs-spec : {M : Type 1} → statement M
 sum-pairs-spec =
@@ -83,10 +86,8 @@ sum-pairs-spec =
     Inv-loop
     μ-loop
     loop-holds
-    mul-bid
-    element-copy-out-bid
-    mul-ask
-    element-copy-out-ask
+    level-in-requires
+    level-in-requires-2
     cast-bid-length
     cast-ask-length
     combine-requires

@@ -5,6 +5,7 @@ use mathlib.Core.Path.{refl}
 use native.Mathlib.Omega.{arith}
 use lib.ListN.{length-take}
 use denote.Ref.{now}
+use Rattle.side.specs.Kept.{keptIn}
 use borrow.Author.Needs.{needs}
 use Rattle.sides.proofs.apply_entries.Statement.{statement}
 use Rattle.sides.proofs.apply_entries.Tie as tie
@@ -35,9 +36,9 @@ array-share-prefix-prices c = search needs
 
 slice-aggregate-apply : tie.Need-slice-aggregate-apply
 slice-aggregate-apply c =
-    let r = c .before .load .ensures .room .prices-long in
-    let l = length-take (c .before .load .result) (c .before .load .last .1 .1 .0) in
-    let f = c .before .load .ensures .few in
+    let r = c .before .before .load .ensures .room .prices-long in
+    let l = length-take (c .before .before .load .result) (c .before .before .load .last .1 .1 .0) in
+    let f = c .before .before .load .ensures .few in
     omega arith
 
 array-share-prefix-sizes : tie.Need-array-share-prefix-sizes
@@ -45,9 +46,9 @@ array-share-prefix-sizes c = search needs
 
 slice-aggregate-apply-2 : tie.Need-slice-aggregate-apply-2
 slice-aggregate-apply-2 c =
-    let r = c .before .before .load .ensures .room .sizes-long in
-    let l = length-take (c .before .before .load .result) (c .before .before .load .last .1 .1 .1 .0) in
-    let f = c .before .before .load .ensures .few in
+    let r = c .before .before .before .load .ensures .room .sizes-long in
+    let l = length-take (c .before .before .before .load .result) (c .before .before .before .load .last .1 .1 .1 .0) in
+    let f = c .before .before .before .load .ensures .few in
     omega arith
 
 array-share-prefix-rests : tie.Need-array-share-prefix-rests
@@ -55,23 +56,23 @@ array-share-prefix-rests c = search needs
 
 slice-aggregate-apply-3 : tie.Need-slice-aggregate-apply-3
 slice-aggregate-apply-3 c =
-    let r = c .before .before .before .load .ensures .room .rests-long in
-    let l = length-take (c .before .before .before .load .result) (c .before .before .before .load .last .1 .1 .1 .1 .0) in
-    let f = c .before .before .before .load .ensures .few in
+    let r = c .before .before .before .before .load .ensures .room .rests-long in
+    let l = length-take (c .before .before .before .before .load .result) (c .before .before .before .before .load .last .1 .1 .1 .1 .0) in
+    let f = c .before .before .before .before .load .ensures .few in
     omega arith
 
 apply-requires : tie.Need-apply-requires
 apply-requires c κs =
-    let a = c .before .before .before .before .before .before .before .before .before .before .args in
-    let p = c .before .before .before .before .before .before .before .before .before .before .pre in
-    (p .0 .good, c .before .before .before .load .ensures .given, p .2)
+    let a = c .before .before .before .before .before .before .before .before .before .before .before .args in
+    let p = c .before .before .before .before .before .before .before .before .before .before .before .pre in
+    (p .0 .good, c .before .before .before .before .load .ensures .given, p .2)
 
 returns-2 : tie.Need-returns-2
 returns-2 c =
-    let a = c .before .before .before .before .before .before .before .before .before .before .before .args in
-    let p = c .before .before .before .before .before .before .before .before .before .before .before .pre in
-    let l = c .before .before .before .before .load in
-    some-worked (a .m) (a .side) (a .depth) (keptIn (now (a .words)) (a .kept)) (now (a .s)) (a .at) (a .count) (l .last .1 .1 .0) (l .last .1 .1 .1 .0) (l .last .1 .1 .1 .1 .0) (l .result) (c .apply .result) (c .before .before .before .before .before .before .before .before .before .if1 .left) (p .0) (rw (part-is (a .at) (now (a .s))) at (l .ensures)) (c .apply .ensures)
+    let a = c .before .before .before .before .before .before .before .before .before .before .before .before .args in
+    let p = c .before .before .before .before .before .before .before .before .before .before .before .before .pre in
+    let l = c .before .before .before .before .before .load in
+    some-worked (a .m) (a .side) (a .depth) (keptIn (now (a .words)) (a .kept)) (now (a .s)) (a .at) (a .count) (l .last .1 .1 .0) (l .last .1 .1 .1 .0) (l .last .1 .1 .1 .1 .0) (l .result) (c .apply .last .0) (c .apply .result) (c .before .before .before .before .before .before .before .before .before .before .if1 .left) (p .0) (rw (part-is (a .at) (now (a .s))) at (l .ensures)) (c .apply .ensures)
 
 pub apply-entries-spec : {M : Type 1} → statement M
 apply-entries-spec =

@@ -144,7 +144,7 @@ module _ {A : Type 0} where
 pub enough : (n : ℕ) (words : List ℕ) → n ≤ maxLevels → length words ≡ maxWords → n ≤ length (levelsIn words)
 enough n words h e = omega (arith, length-levels maxLevels words e)
 
--- what stands past the end of an array of levels
+-- what stands past the end of a list of levels
 abbrev pub nowhere : Level
 nowhere = record { price = 0; size = 0; sum = 0; length = 0; «price_decimals» = 0; «size_decimals» = 0 }
 

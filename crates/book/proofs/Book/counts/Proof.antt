@@ -1,25 +1,23 @@
--- `counts` meets its contract: by whether the question is answered.
-use Rattle.book.proofs.Asking.{counts-yes, counts-no}
-use mathlib.Core.Path.{sym, _∙_}
+-- `counts` meets its contract: it asks the book's header.
+use mathlib.Core.Path.{sym, subst}
+use Rattle.book.specs.Shown.{bookOf, Good, AnswersCounts}
+use Rattle.book.specs.declared.Header.{Header}
 use borrow.Author.Needs.{needs}
 use Rattle.book.proofs.Book.counts.Statement.{statement}
 use Rattle.book.proofs.Book.counts.Tie as tie
 
-stands-requires : tie.Need-stands-requires
-stands-requires c κs = search needs
+header-requires : tie.Need-header-requires
+header-requires c κs = search needs
+
+counts-requires : tie.Need-counts-requires
+counts-requires c κs = search needs
 
 returns : tie.Need-returns
 returns c =
-    let a = c .before .before .before .before .before .args in
-    counts-yes (a .self) (a .scope) (c .before .before .before .before .before .pre) (sym (c .before .before .before .stands .ensures) ∙ c .before .before .if1 .taken)
-
-refusal-requires : tie.Need-refusal-requires
-refusal-requires c κs = search needs
-
-returns-2 : tie.Need-returns-2
-returns-2 c =
-    let a = c .before .before .before .before .args in
-    counts-no (a .self) (a .scope) (sym (c .before .before .stands .ensures) ∙ c .before .if1 .left) (c .refusal .result) (c .refusal .ensures)
+    let a = c .before .before .args in
+    let b = a .self in
+    subst (λ (h : Header). AnswersCounts (bookOf (b .bids .words) (b .asks .words) h) (a .scope) (record { book = bookOf (b .bids .words) (b .asks .words) h; answer = c .counts .result .answer; bids = c .counts .result .bids; asks = c .counts .result .asks })) (c .before .header .ensures)
+    (c .counts .ensures .of (b .bids .words) (b .asks .words) (subst (λ (h : Header). Good (bookOf (b .bids .words) (b .asks .words) h)) (sym (c .before .header .ensures)) (c .before .before .pre)))
 
 pub counts-spec : {M : Type 1} → statement M
-counts-spec = tie.close (tie.spec stands-requires returns refusal-requires returns-2)
+counts-spec = tie.close (tie.spec header-requires counts-requires returns)

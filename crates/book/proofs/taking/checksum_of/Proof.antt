@@ -1,6 +1,8 @@
 -- `checksum_of` meets its contract: dialect by dialect.
 use Rattle.book.proofs.Settling.{k-sums, m-sums}
 use Rattle.book.specs.Reference.{checksumOf}
+use denote.Ref.{now}
+use Rattle.side.specs.Kept.{keptIn}
 use borrow.Author.Needs.{needs}
 use Rattle.book.proofs.taking.checksum_of.Statement.{statement}
 use Rattle.book.proofs.taking.checksum_of.Tie as tie
@@ -12,7 +14,7 @@ k-checksum-requires : tie.Need-k-checksum-requires
 k-checksum-requires c κs =
     let a = c .before .before .args in
     let p = c .before .before .pre in
-    k-sums (a .dialect) (a .bids) (a .asks) (c .enum-told .given .1) (p .0) (p .1)
+    k-sums (a .dialect) (keptIn (now (a .bids)) (a .bid-count)) (keptIn (now (a .asks)) (a .ask-count)) (c .enum-told .given .1) (p .0) (p .1)
 
 enum-told-2 : tie.Need-enum-told-2
 enum-told-2 c = search needs
@@ -21,7 +23,7 @@ m-checksum-requires : tie.Need-m-checksum-requires
 m-checksum-requires c κs =
     let a = c .before .before .args in
     let p = c .before .before .pre in
-    m-sums (a .dialect) (a .bids) (a .asks) (c .enum-told2 .given .1) (p .0) (p .1)
+    m-sums (a .dialect) (keptIn (now (a .bids)) (a .bid-count)) (keptIn (now (a .asks)) (a .ask-count)) (c .enum-told2 .given .1) (p .0) (p .1)
 
 enum-told-3 : tie.Need-enum-told-3
 enum-told-3 c = search needs

@@ -6,7 +6,7 @@ use native.Mathlib.Omega.{arith}
 use lib.ListN.{length-take}
 use Rattle.settings.specs.Settings.{termsOf}
 use Rattle.message.specs.Meaning.{checked}
-use Rattle.book.specs.Shown.{shows}
+use Rattle.book.specs.Shown.{shows, bookOf}
 use Rattle.book.specs.Taking.{refusedStep, judgedUpdate, Judged}
 use Rattle.book.proofs.Refusing.{shut-told, verdict-passes, verdict-fails, hear-fails, told-as, refused-told}
 use Rattle.book.proofs.Settling.{judged-told}
@@ -19,8 +19,11 @@ is-shut-requires c κs = search needs
 
 returns : tie.Need-returns
 unfolding Judged
-returns c =
-    shut-told (c .before .before .before .before .args .book) (now (c .before .before .before .before .args .s)) (c .before .before .before .before .pre) (sym (c .before .is-shut .ensures) ∙ c .if1 .taken)
+returns c = record {
+  of = λ bids asks g.
+      let a = c .before .before .before .before .args in
+      shut-told (bookOf bids asks (a .header)) (now (a .s)) g (sym (c .before .is-shut .ensures) ∙ c .if1 .taken);
+}
 
 array-share-prefix-name : tie.Need-array-share-prefix-name
 array-share-prefix-name c = search needs
@@ -31,7 +34,7 @@ slice-aggregate-read-open c =
     let g = c .before .before .before .before .before .before .before .pre in
     let r = g .room in
     let s = g .short in
-    let l = length-take (a .book .settings .length) (a .book .settings .name) in
+    let l = length-take (a .header .settings .length) (a .header .settings .name) in
     omega arith
 
 read-open-requires : tie.Need-read-open-requires
@@ -53,20 +56,26 @@ judge-update-requires c κs = search needs
 
 returns-2 : tie.Need-returns-2
 unfolding termsOf shows Judged
-returns-2 c =
-    let a = c .before .before .before .before .before .before .before .before .before .before .before .args in
-    let u = sym (c .before .before .before .before .before .before .before .before .is-shut .ensures) ∙ c .before .before .before .before .before .before .before .if1 .left in
-    let x = c .before .answer .given .0 .0 in
-    told-as (refusedStep (a .book) x) (hear-fails (shows (a .book)) (now (a .s)) u x (verdict-fails (now (a .s)) (checked (termsOf (a .book .settings)) (now (a .s))) (c .before .before .before .read-open .result) (c .before .before .before .read-open .ensures) x (c .before .answer .given .1))) (refused-told (a .book) (c .before .before .before .before .before .before .before .before .before .before .before .pre) u x)
+returns-2 c = record {
+  of = λ bids asks g.
+      let a = c .before .before .before .before .before .before .before .before .before .before .before .args in
+      let b = bookOf bids asks (a .header) in
+      let u = sym (c .before .before .before .before .before .before .before .before .is-shut .ensures) ∙ c .before .before .before .before .before .before .before .if1 .left in
+      let x = c .before .answer .given .0 .0 in
+      told-as (refusedStep b x) (hear-fails (shows b) (now (a .s)) u x (verdict-fails (now (a .s)) (checked (termsOf (b .settings)) (now (a .s))) (c .before .before .before .read-open .result) (c .before .before .before .read-open .ensures) x (c .before .answer .given .1))) (refused-told b g u x);
+}
 
 returns-3 : tie.Need-returns-3
 unfolding termsOf
-returns-3 c =
-    let a = c .before .before .before .before .before .before .before .before .before .before .before .before .before .args in
-    let u = sym (c .before .before .before .before .before .before .before .before .before .before .is-shut .ensures) ∙ c .before .before .before .before .before .before .before .before .before .if1 .left in
-    let o = c .before .before .before .outline .given .0 .0 in
-    let v = verdict-passes (now (a .s)) (checked (termsOf (a .book .settings)) (now (a .s))) (c .before .before .before .before .before .read-open .result) (c .before .before .before .before .before .read-open .ensures) o (c .before .before .before .outline .given .1) in
-    judged-told (a .book) (now (a .s)) o (record { good = c .before .before .before .before .before .before .before .before .before .before .before .before .before .pre; unshut = u; layout = v .0; fair = v .1; told = v .2 }) (c .judge-update .result) (c .judge-update .ensures ∙ ap (λ (x : Bool). judgedUpdate (a .book .standing .state) x (a .book .number) o) (c .before .is-m .ensures))
+returns-3 c = record {
+  of = λ bids asks g.
+      let a = c .before .before .before .before .before .before .before .before .before .before .before .before .before .args in
+      let b = bookOf bids asks (a .header) in
+      let u = sym (c .before .before .before .before .before .before .before .before .before .before .is-shut .ensures) ∙ c .before .before .before .before .before .before .before .before .before .if1 .left in
+      let o = c .before .before .before .outline .given .0 .0 in
+      let v = verdict-passes (now (a .s)) (checked (termsOf (b .settings)) (now (a .s))) (c .before .before .before .before .before .read-open .result) (c .before .before .before .before .before .read-open .ensures) o (c .before .before .before .outline .given .1) in
+      judged-told b (now (a .s)) o (record { good = g; unshut = u; layout = v .0; fair = v .1; told = v .2 }) (c .judge-update .result) (c .judge-update .ensures ∙ ap (λ (x : Bool). judgedUpdate (b .standing .state) x (b .number) o) (c .before .is-m .ensures));
+}
 
 pub judge-spec : {M : Type 1} → statement M
 judge-spec =

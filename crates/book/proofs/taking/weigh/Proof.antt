@@ -1,18 +1,51 @@
 -- `weigh` meets its contract: check by check.
-use mathlib.Core.Path.{sym, ap, _∙_}
-use mathlib.Core.Bool.{Bool, _&&_, not}
+use mathlib.Core.Path.{_≡_, sym, ap, ap₂, _∙_}
+use mathlib.Core.Bool.{Bool, false, _&&_, _||_, not}
+use lib.Dec.{ltb}
+use denote.Ref.{now}
+use Rattle.settings.specs.Settings.{isM}
+use Rattle.sides.specs.Worked.{SideAfter, sideAfter}
 use Rattle.book.proofs.Refusing.{weighed-twice, weighed-over, weighed-unprinted, weighed-right, weighed-wrong}
 use borrow.Author.Needs.{needs}
 use Rattle.book.proofs.taking.weigh.Statement.{statement}
 use Rattle.book.proofs.taking.weigh.Tie as tie
+
+-- ---- the sides, and what the first two checks find of them
+
+abbrev bidsOf : tie.Start → SideAfter
+bidsOf s = sideAfter (now (s .args .bids)) (s .args .bid-side)
+
+abbrev asksOf : tie.Start → SideAfter
+asksOf s = sideAfter (now (s .args .asks)) (s .args .ask-side)
+
+abbrev isMet : tie.Start → Bool
+isMet s = bidsOf s .met || asksOf s .met
+
+abbrev isOver : tie.Start → Bool
+isOver s = ltb 100 (bidsOf s .count) || ltb 100 (asksOf s .count)
+
+tested-twice : (c : tie.After-both) → c .both .result ≡ (c .before .before .args .outline .snapshot && isMet (c .before .before))
+tested-twice c = c .both .ensures ∙ ap (λ (x : Bool). c .before .before .args .outline .snapshot && x) (c .before .either .ensures)
+
+tested-over : (c : tie.After-is-over) → let s = c .before .before .before .before .before .before .before .before in c .is-over .result ≡ (not (s .args .outline .snapshot) && (isM (s .args .dialect) && isOver s))
+tested-over c =
+    c .is-over .ensures
+    ∙ ap₂ (λ (m over : Bool). not (c .before .before .before .before .before .before .before .before .args .outline .snapshot) && (m && over)) (c .before .is-m .ensures) (c .before .before .either2 .ensures)
+
+either-requires : tie.Need-either-requires
+either-requires c κs = search needs
 
 both-requires : tie.Need-both-requires
 both-requires c κs = search needs
 
 returns : tie.Need-returns
 returns c =
-    let a = c .before .before .args in
-    weighed-twice (a .outline) (a .dialect) (a .met) (a .over) (a .bids) (a .asks) (sym (c .before .both .ensures) ∙ c .if1 .taken)
+    let s = c .before .before .before in
+    weighed-twice (s .args .outline) (s .args .dialect) (isMet s) (isOver s) (bidsOf s .levels) (asksOf s .levels)
+    (sym (tested-twice (c .before)) ∙ c .if1 .taken)
+
+either-requires-2 : tie.Need-either-requires-2
+either-requires-2 c κs = search needs
 
 is-m-requires : tie.Need-is-m-requires
 is-m-requires c κs = search needs
@@ -22,33 +55,39 @@ is-over-requires c κs = search needs
 
 returns-2 : tie.Need-returns-2
 returns-2 c =
-    let a = c .before .before .before .before .before .args in
-    weighed-over (a .outline) (a .dialect) (a .met) (a .over) (a .bids) (a .asks) (sym (c .before .before .before .before .both .ensures) ∙ c .before .before .before .if1 .left) (sym (c .before .is-over .ensures ∙ ap (λ (x : Bool). not (a .outline .snapshot) && (x && a .over)) (c .before .before .is-m .ensures)) ∙ c .if2 .taken)
+    let s = c .before .before .before .before .before .before .before .before .before in
+    weighed-over (s .args .outline) (s .args .dialect) (isMet s) (isOver s) (bidsOf s .levels) (asksOf s .levels)
+    (sym (tested-twice (c .before .before .before .before .before .before .before)) ∙ c .before .before .before .before .before .before .if1 .left) (sym (tested-over (c .before)) ∙ c .if2 .taken)
 
 checksum-of-requires : tie.Need-checksum-of-requires
 checksum-of-requires c κs = search needs
 
 returns-3 : tie.Need-returns-3
 returns-3 c =
-    let a = c .before .before .before .before .before .before .before .before .before .args in
-    weighed-wrong (a .outline) (a .dialect) (a .met) (a .over) (a .bids) (a .asks) (sym (c .before .before .before .before .before .before .before .before .both .ensures) ∙ c .before .before .before .before .before .before .before .if1 .left) (sym (c .before .before .before .before .before .is-over .ensures ∙ ap (λ (x : Bool). not (a .outline .snapshot) && (x && a .over)) (c .before .before .before .before .before .before .is-m .ensures)) ∙ c .before .before .before .before .if2 .left) (c .before .before .before .if3 .taken) (λ q. c .if4 .taken (q ∙ sym (c .before .before .checksum-of .ensures)))
+    let s = c .before .before .before .before .before .before .before .before .before .before .before .before .before in
+    weighed-wrong (s .args .outline) (s .args .dialect) (isMet s) (isOver s) (bidsOf s .levels) (asksOf s .levels)
+    (sym (tested-twice (c .before .before .before .before .before .before .before .before .before .before .before)) ∙ c .before .before .before .before .before .before .before .before .before .before .if1 .left) (sym (tested-over (c .before .before .before .before .before)) ∙ c .before .before .before .before .if2 .left) (c .before .before .before .if3 .taken) (λ q. c .if4 .taken (q ∙ sym (c .before .before .checksum-of .ensures)))
 
 returns-4 : tie.Need-returns-4
 returns-4 c =
-    let a = c .before .before .before .before .before .before .before .before .before .args in
-    weighed-right (a .outline) (a .dialect) (a .met) (a .over) (a .bids) (a .asks) (sym (c .before .before .before .before .before .before .before .before .both .ensures) ∙ c .before .before .before .before .before .before .before .if1 .left) (sym (c .before .before .before .before .before .is-over .ensures ∙ ap (λ (x : Bool). not (a .outline .snapshot) && (x && a .over)) (c .before .before .before .before .before .before .is-m .ensures)) ∙ c .before .before .before .before .if2 .left) (c .before .before .before .if3 .taken) (c .if4 .left ∙ c .before .before .checksum-of .ensures)
+    let s = c .before .before .before .before .before .before .before .before .before .before .before .before .before in
+    weighed-right (s .args .outline) (s .args .dialect) (isMet s) (isOver s) (bidsOf s .levels) (asksOf s .levels)
+    (sym (tested-twice (c .before .before .before .before .before .before .before .before .before .before .before)) ∙ c .before .before .before .before .before .before .before .before .before .before .if1 .left) (sym (tested-over (c .before .before .before .before .before)) ∙ c .before .before .before .before .if2 .left) (c .before .before .before .if3 .taken) (c .if4 .left ∙ c .before .before .checksum-of .ensures)
 
 returns-5 : tie.Need-returns-5
 returns-5 c =
-    let a = c .before .before .before .before .before .before .args in
-    weighed-unprinted (a .outline) (a .dialect) (a .met) (a .over) (a .bids) (a .asks) (sym (c .before .before .before .before .before .both .ensures) ∙ c .before .before .before .before .if1 .left) (sym (c .before .before .is-over .ensures ∙ ap (λ (x : Bool). not (a .outline .snapshot) && (x && a .over)) (c .before .before .before .is-m .ensures)) ∙ c .before .if2 .left) (c .if3 .left)
+    let s = c .before .before .before .before .before .before .before .before .before .before in
+    weighed-unprinted (s .args .outline) (s .args .dialect) (isMet s) (isOver s) (bidsOf s .levels) (asksOf s .levels)
+    (sym (tested-twice (c .before .before .before .before .before .before .before .before)) ∙ c .before .before .before .before .before .before .before .if1 .left) (sym (tested-over (c .before .before)) ∙ c .before .if2 .left) (c .if3 .left)
 
 pub weigh-spec : {M : Type 1} → statement M
 weigh-spec =
     tie.close
     (tie.spec
+    either-requires
     both-requires
     returns
+    either-requires-2
     is-m-requires
     is-over-requires
     returns-2

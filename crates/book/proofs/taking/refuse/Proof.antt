@@ -1,0 +1,16 @@
+-- `refuse` meets its contract: all but how the book stands stays.
+use mathlib.Core.Path.{_≡_, ap}
+use Rattle.book.specs.declared.Header.{Header}
+use Rattle.book.specs.declared.Standing.{Standing}
+use borrow.Author.Needs.{needs}
+use Rattle.book.proofs.taking.refuse.Statement.{statement}
+use Rattle.book.proofs.taking.refuse.Tie as tie
+
+refused-requires : tie.Need-refused-requires
+refused-requires c κs = search needs
+
+returns : tie.Need-returns
+returns c = rw (c .refused .ensures)
+
+pub refuse-spec : {M : Type 1} → statement M
+refuse-spec = tie.close (tie.spec refused-requires returns)

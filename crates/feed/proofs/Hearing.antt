@@ -91,6 +91,14 @@ module _ {s : List ℕ} {p : Reference} {buffer₀ buffer : List ℕ} {now : Boo
           ∙ ap (λ (t : List ℕ). hearing (complete (drop (e + 1) s)) (shows book) (overlaid buffer written t) (written + length t)) (sym reply)
           ∙ ap₂ (hearing (complete (drop (e + 1) s)) (shows book)) (sym (put .bytes)) (sym (put .end))
 
+-- the same, of an equal book
+pub heard-as : {s buffer₀ buffer : List ℕ} {p q : Reference} {b c : Book} {next written : ℕ} → p ≡ q → c ≡ b
+    → HeardLines s p buffer₀ (record { book = b; next = next; written = written }) buffer
+    → HeardLines s q buffer₀ (record { book = c; next = next; written = written }) buffer
+heard-as {s} {buffer₀} {buffer} {p} {q} {b} {c} {next} {written} e f h =
+    subst (λ (x : Reference). HeardLines s x buffer₀ (record { book = c; next = next; written = written }) buffer) e
+    (subst (λ (x : Book). HeardLines s p buffer₀ (record { book = x; next = next; written = written }) buffer) (sym f) h)
+
 -- ---- where all lines were heard, the buffer has the replies
 
 -- what follows the first line

@@ -1,6 +1,6 @@
 -- `hear_lines` meets its contract: at each turn the rest of the text gives what the whole gives.
 use Prim.Native.Nat.{ℕ, _+_, _-_, _≤_}
-use mathlib.Core.Path.{_≡_}
+use mathlib.Core.Path.{_≡_, sym, ap, subst}
 use native.Mathlib.Omega.{arith}
 use borrow.Author.Needs.{needs}
 use lib.Dec.{eqb}
@@ -11,39 +11,52 @@ use Rattle.line_text.proofs.Length.{length-reply}
 use Rattle.book.specs.Reference.{hear}
 use Rattle.feed.specs.Feed.{replyTo}
 use Rattle.feed.proofs.Replying.{reply-is}
-use Rattle.book.specs.Shown.{shows}
-use Rattle.feed.proofs.Hearing.{Walk, begun, ended-lines, ended-room, went-on}
+use Rattle.book.specs.Shown.{Good, shows, bookOf}
+use Rattle.book.specs.declared.Book.{Book}
+use Rattle.book.specs.declared.Header.{Header}
+use Rattle.feed.proofs.Hearing.{Walk, begun, ended-lines, ended-room, went-on, heard-as}
 use Rattle.feed.proofs.hear_lines.Statement.{statement}
 use Rattle.feed.proofs.hear_lines.Tie as tie
 
 abbrev Inv-loop : tie.InvT-loop
-Inv-loop s buffer₀ now₀ next₀ written₀ buffer now next written = Walk s (shows now₀) buffer₀ buffer now next written
+Inv-loop s buffer₀ bids₀ asks₀ header₀ next₀ written₀ buffer bids asks header next written = Walk s (shows (bookOf bids₀ asks₀ header₀)) buffer₀ buffer (bookOf bids asks header) next written
 
 abbrev μ-loop : tie.MeasureT-loop
-μ-loop s buffer₀ now₀ next₀ written₀ buffer now next written = length s - next
+μ-loop s buffer₀ bids₀ asks₀ header₀ next₀ written₀ buffer bids asks header next written = length s - next
 
 -- ---- the line, and the reply to it
 
 abbrev line : tie.After-number-of Inv-loop μ-loop → List ℕ
-line c = take (c .before .before .before .before .before .before .find .result - c .before .before .before .before .before .before .before .before .loop .next) (drop (c .before .before .before .before .before .before .before .before .loop .next) (c .before .before .before .before .before .before .before .before .before .before .before .args .s .now))
+line c = take (c .before .before .before .before .before .before .before .before .find .result - c .before .before .before .before .before .before .before .before .before .before .loop .next) (drop (c .before .before .before .before .before .before .before .before .before .before .loop .next) (c .before .before .before .before .before .before .before .before .before .before .before .before .before .before .before .before .args .s .now))
 
 abbrev text : tie.After-number-of Inv-loop μ-loop → List ℕ
 text c = replyText (c .before .before .before .take .result .answer) (eqb (c .number-of .result) 0) (c .before .counts .result .bids) (c .before .counts .result .asks)
 
-reply : (c : tie.After-number-of Inv-loop μ-loop) → text c ≡ replyTo (hear (shows (c .before .before .before .before .before .before .before .before .loop .now)) (line c))
-reply c = reply-is (shows (c .before .before .before .before .before .before .before .before .loop .now)) (line c) (c .before .before .before .take .ensures) (c .before .counts .ensures) (c .number-of .ensures)
+abbrev bookAt : tie.After-number-of Inv-loop μ-loop → Book
+bookAt c = let l = c .before .before .before .before .before .before .before .before .before .before .loop in bookOf (l .bids) (l .asks) (l .header)
 
-fits : (c : tie.After-number-of Inv-loop μ-loop) → c .before .before .before .before .before .before .before .before .loop .written + length (text c) ≤ length (c .before .before .before .before .before .before .before .before .loop .buffer)
+reply : (c : tie.After-number-of Inv-loop μ-loop) → text c ≡ replyTo (hear (shows (bookAt c)) (line c))
+reply c =
+    let t = c .before .before .before .take in
+    reply-is (shows (bookAt c)) (line c) (t .ensures) (c .before .counts .ensures .of (t .last .1 .0) (t .last .1 .1 .0) (t .ensures .good)) (c .number-of .ensures)
+
+fits : (c : tie.After-number-of Inv-loop μ-loop) → c .before .before .before .before .before .before .before .before .before .before .loop .written + length (text c) ≤ length (c .before .before .before .before .before .before .before .before .before .before .loop .buffer)
 fits c =
     let l = length-reply (c .before .before .before .take .result .answer) (eqb (c .number-of .result) 0) (c .before .counts .result .bids) (c .before .counts .result .asks) (search needs) (search needs) in
-    let r = c .before .before .before .before .before .before .before .before .loop .inv .room in
-    let t = c .before .before .before .before .before .before .before .loop-test .taken in
+    let r = c .before .before .before .before .before .before .before .before .before .before .loop .inv .room in
+    let t = c .before .before .before .before .before .before .before .before .before .loop-test .taken in
     omega arith
 
 -- ---- needs
 
+header-requires : tie.Need-header-requires Inv-loop μ-loop
+header-requires c κs = search needs
+
 loop-holds : tie.Need-loop-holds Inv-loop μ-loop
-loop-holds c = begun (c .before .before .args .s .now) (c .before .before .args .buffer .now) (c .before .before .pre)
+loop-holds c =
+    let s = c .before .before .before .before .before in
+    let b = s .args .book in
+    begun (s .args .s .now) (s .args .buffer .now) (subst (λ (h : Header). Good (bookOf (b .bids .words) (b .asks .words) h)) (sym (c .header .ensures)) (s .pre))
 
 sub-loop : tie.Need-sub-loop Inv-loop μ-loop
 sub-loop c = c .loop .inv .room
@@ -51,11 +64,17 @@ sub-loop c = c .loop .inv .room
 find-requires : tie.Need-find-requires Inv-loop μ-loop
 find-requires c κs = c .before .loop .inv .within
 
+join-requires : tie.Need-join-requires Inv-loop μ-loop
+join-requires c κs = search needs
+
 same-length : tie.Need-same-length Inv-loop μ-loop
 same-length c = search needs
 
 returns : tie.Need-returns Inv-loop μ-loop
-returns c = ended-lines (c .before .before .before .loop .inv) (c .before .find .ensures .2) (c .if1 .taken)
+returns c =
+    let b = c .before .before .before .before .before .before .before .before .before .before .args .book in
+    heard-as (ap (λ (h : Header). shows (bookOf (b .bids .words) (b .asks .words) h)) (c .before .before .before .before .before .header .ensures)) (c .join .ensures)
+    (ended-lines (c .before .before .before .before .loop .inv) (c .before .before .find .ensures .2) (c .before .if1 .taken))
 
 sub-take : tie.Need-sub-take Inv-loop μ-loop
 sub-take c = search needs
@@ -67,10 +86,10 @@ part-take-end : tie.Need-part-take-end Inv-loop μ-loop
 part-take-end c = search needs
 
 take-requires : tie.Need-take-requires Inv-loop μ-loop
-take-requires c κs = c .before .before .before .before .loop .inv .good
+take-requires c κs = c .before .before .before .before .before .before .loop .inv .good
 
 counts-requires : tie.Need-counts-requires Inv-loop μ-loop
-counts-requires c κs = c .before .take .ensures .good
+counts-requires c κs = search needs
 
 number-of-requires : tie.Need-number-of-requires Inv-loop μ-loop
 number-of-requires c κs = search needs
@@ -79,22 +98,28 @@ write-reply-requires : tie.Need-write-reply-requires Inv-loop μ-loop
 write-reply-requires c κs = fits (c .before)
 
 add-next : tie.Need-add-next Inv-loop μ-loop
-add-next c = let h = c .before .before .before .before .before .before .before .before .before .if1 .left in let g = c .before .before .before .before .before .before .before .before .before .before .before .before .before .before .before .good in omega arith
+add-next c = let h = c .before .before .before .before .before .before .before .before .before .before .before .if1 .left in let g = c .before .before .before .before .before .before .before .before .before .before .before .before .before .before .before .before .before .before .before .before .good in omega arith
 
 loop-less : tie.Need-loop-less Inv-loop μ-loop
-loop-less c = let w = c .before .before .before .before .before .before .before .before .before .before .find .ensures in omega arith
+loop-less c = let w = c .before .before .before .before .before .before .before .before .before .before .before .before .find .ensures in omega arith
 
 loop-again : tie.Need-loop-again Inv-loop μ-loop
 loop-again c =
     let n = c .before .before .before .before in
-    let find = c .before .before .before .before .before .before .before .before .before .before .find in
-    went-on (c .before .before .before .before .before .before .before .before .before .before .before .before .loop .inv) (find .ensures .2) (c .before .before .before .before .before .before .before .before .before .if1 .left) (c .before .before .before .before .before .before .before .before .before .before .before .loop-test .taken) (c .before .before .before .before .before .before .before .take .ensures .good) (c .before .before .before .before .before .before .before .take .ensures .same) (reply n) (fits n) (c .before .before .write-reply .ensures)
+    let find = c .before .before .before .before .before .before .before .before .before .before .before .before .find in
+    went-on (c .before .before .before .before .before .before .before .before .before .before .before .before .before .before .loop .inv) (find .ensures .2) (c .before .before .before .before .before .before .before .before .before .before .before .if1 .left) (c .before .before .before .before .before .before .before .before .before .before .before .before .before .loop-test .taken) (c .before .before .before .before .before .before .before .take .ensures .good) (c .before .before .before .before .before .before .before .take .ensures .same) (reply n) (fits n) (c .before .before .write-reply .ensures)
+
+join-requires-2 : tie.Need-join-requires-2 Inv-loop μ-loop
+join-requires-2 c κs = search needs
 
 same-length-2 : tie.Need-same-length-2 Inv-loop μ-loop
 same-length-2 c = search needs
 
 returns-2 : tie.Need-returns-2 Inv-loop μ-loop
-returns-2 c = ended-room (c .before .loop .inv) (c .loop-test .left)
+returns-2 c =
+    let b = c .before .before .before .before .before .before .before .before .args .book in
+    heard-as (ap (λ (h : Header). shows (bookOf (b .bids .words) (b .asks .words) h)) (c .before .before .before .header .ensures)) (c .join2 .ensures)
+    (ended-room (c .before .before .loop .inv) (c .before .loop-test .left))
 
 pub hear-lines-spec : {M : Type 1} → statement M
 hear-lines-spec =
@@ -102,9 +127,11 @@ hear-lines-spec =
     (tie.spec
     Inv-loop
     μ-loop
+    header-requires
     loop-holds
     sub-loop
     find-requires
+    join-requires
     same-length
     returns
     sub-take
@@ -117,5 +144,6 @@ hear-lines-spec =
     add-next
     loop-less
     loop-again
+    join-requires-2
     same-length-2
     returns-2)

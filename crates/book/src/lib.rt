@@ -168,7 +168,12 @@ pub fn join(bids: [u64; MAX_WORDS], asks: [u64; MAX_WORDS], header: Header) -> B
 
 impl Header {
     // The book after a message, in the words that are lent: the first bids and asks of them are the book's.
-    pub fn take(self, bids: &mut [u64; MAX_WORDS], asks: &mut [u64; MAX_WORDS], s: &[u8]) -> Answered
+    pub fn take(
+        self,
+        bids: &mut [u64; MAX_WORDS],
+        asks: &mut [u64; MAX_WORDS],
+        s: &[u8],
+    ) -> Answered
         requires { ⌜ Good (bookOf (now bids) (now asks) self) ⌝ }
         ensures { λ r. ⌜ Told (hear (shows (bookOf (now (bids .entry)) (now (asks .entry)) self)) (now (s .entry))) (stepOf (now (bids .exit)) (now (asks .exit)) r) ⌝ }
     {

@@ -52,9 +52,27 @@ pub fn hear(
             let dialect = settings.dialect;
             let m = is_m(dialect);
             let bids_before = count_before(outline.snapshot, header.bids);
-            let bid_side = apply_entries(bids, bids_before, Side::Bids, depth, m, s, outline.bids_at, outline.bids);
+            let bid_side = apply_entries(
+                bids,
+                bids_before,
+                Side::Bids,
+                depth,
+                m,
+                s,
+                outline.bids_at,
+                outline.bids,
+            );
             let asks_before = count_before(outline.snapshot, header.asks);
-            let ask_side = apply_entries(asks, asks_before, Side::Asks, depth, m, s, outline.asks_at, outline.asks);
+            let ask_side = apply_entries(
+                asks,
+                asks_before,
+                Side::Asks,
+                depth,
+                m,
+                s,
+                outline.asks_at,
+                outline.asks,
+            );
             let answer = weigh(outline, dialect, bid_side, ask_side, bids, asks);
             if is_taken(answer) {
                 return Answered {

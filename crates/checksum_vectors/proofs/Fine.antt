@@ -14,7 +14,7 @@ use Rattle.decimal.specs.declared.Decimal.{Decimal}
 use Rattle.side.specs.Level.{PriceLevel, levelPrice, levelSize, shown}
 use Rattle.side.specs.Side.{Edit, sets, removes, All, IfSet, named}
 use Rattle.side.specs.Words.{Packed, packed, editOf, entriesOf}
-use Rattle.side.specs.Kept.{Good, Given, AfterEntries, held}
+use Rattle.side.specs.Kept.{keptIn, Good, Given, AfterEntries, held}
 use Rattle.side.specs.declared.Side.{Side}
 use Rattle.side.specs.declared.Level.{Level}
 use Rattle.side.specs.declared.Levels.{Levels}
@@ -34,8 +34,8 @@ unfolding All
 none-carried m levels e = subst (All (Carries (pieceFor m))) (sym e) tt
 
 -- a side that entries were applied to is as fine as it was
-pub applied-fine : (m : Bool) (side : Side) (depth : ℕ) (entries : List (Edit Level)) (levels : Levels) {applied : Applied} →
-    FineSide m side levels → All (IfSet (Carries (pieceFor m))) entries → AfterEntries side depth entries levels applied → FineSide m side (applied .levels)
+pub applied-fine : (m : Bool) (side : Side) (depth : ℕ) (entries : List (Edit Level)) (levels : Levels) {words : List ℕ} {applied : Applied} →
+    FineSide m side levels → All (IfSet (Carries (pieceFor m))) entries → AfterEntries side depth entries levels words applied → FineSide m side (keptIn words (applied .left))
 applied-fine m side depth entries levels f c a = record {
   good = a .good;
   carried = subst (All (Carries (pieceFor m))) (sym (a .levels)) (all-afterMessage levelPrice (Carries (pieceFor m)) side depth entries (held levels) c (f .carried));

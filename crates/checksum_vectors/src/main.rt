@@ -146,14 +146,26 @@ fn run_side(levels: Levels, side: Side, m: bool, depth: usize, s: &[u8]) -> Leve
     let mut sizes = [0u64; 100];
     let mut rests = [0u64; 100];
     let n = read_entries(s, m, &mut prices, &mut sizes, &mut rests);
-    let applied = side::apply(levels, side, depth, &prices[..n], &sizes[..n], &rests[..n]);
+    let mut words = levels.words;
+    let applied = side::apply(
+        &mut words,
+        levels.count,
+        side,
+        depth,
+        &prices[..n],
+        &sizes[..n],
+        &rests[..n],
+    );
     say_number(applied.count as u64);
     if applied.met {
         say(b" 1\n");
     } else {
         say(b" 0\n");
     }
-    applied.levels
+    Levels {
+        words,
+        count: applied.left,
+    }
 }
 
 // The entries of a line as words, as many as stand there and can be read.
@@ -240,18 +252,20 @@ fn show(book: Book)
 fn sum_of(book: Book) -> u32
     requires { ⌜ Fine book ⌝ }
 {
+    let bids = book.bids;
+    let asks = book.asks;
     if book.m {
-        return checksum::m_checksum(book.bids, book.asks);
+        return checksum::m_checksum(&bids.words, bids.count, &asks.words, asks.count);
     }
-    checksum::k_checksum(book.bids, book.asks)
+    checksum::k_checksum(&bids.words, bids.count, &asks.words, asks.count)
 }
 
 fn show_levels(levels: Levels)
-    requires { ⌜ levels .count ≤ 100 ⌝ }
+    requires { ⌜ (levels .count ≤ 100) × (length (levels .words) ≡ 300) ⌝ }
 {
     let mut i = 0;
     while i < levels.count {
-        show_level(levels.items[i]);
+        show_level(side::level_in(&levels.words, i));
         i += 1;
     }
 }

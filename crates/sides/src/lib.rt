@@ -36,5 +36,13 @@ pub fn apply_entries(
     let mut sizes = [0; MAX_ENTRIES];
     let mut rests = [0; MAX_ENTRIES];
     let n = loader::load(&s[at..], m, &mut prices, &mut sizes, &mut rests);
-    side::apply(words, kept, side, depth, &prices[..n], &sizes[..n], &rests[..n])
+    side::apply(
+        words,
+        kept,
+        side,
+        depth,
+        &prices[..n],
+        &sizes[..n],
+        &rests[..n],
+    )
 }

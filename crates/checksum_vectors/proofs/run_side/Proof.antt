@@ -4,31 +4,40 @@ use native.Mathlib.Omega.{arith}
 use lib.ListN.{take}
 use lib.Seq.{length-take-le}
 use Rattle.side.specs.Words.{entriesOf}
+use Rattle.side.specs.Kept.{keptIn}
+use Rattle.checksum_vectors.specs.Book.{FineSide}
 use Rattle.checksum_vectors.proofs.Fine.{applied-fine}
 use borrow.Author.Needs.{needs}
 use Rattle.checksum_vectors.proofs.run_side.Statement.{statement}
 use Rattle.checksum_vectors.proofs.run_side.Tie as tie
 
+-- the side after the entries
+side-fine : (c : tie.After-apply) → FineSide (c .before .before .before .before .before .before .before .before .before .before .before .args .m) (c .before .before .before .before .before .before .before .before .before .before .before .args .side) (keptIn (c .apply .last .0) (c .apply .result .left))
+side-fine c =
+    let s = c .before .before .before .before .before .before .before .before .before .before .before in
+    let r = c .before .before .before .before .before .before .read-entries in
+    applied-fine (s .args .m) (s .args .side) (s .args .depth) (entriesOf (take (r .result) (r .last .1 .1 .0)) (take (r .result) (r .last .1 .1 .1 .0)) (take (r .result) (r .last .1 .1 .1 .1 .0))) (s .args .levels) (s .pre .0) (r .ensures .carried) (c .apply .ensures)
+
 read-entries-requires : tie.Need-read-entries-requires
 read-entries-requires c κs = search needs
 
 array-share-prefix-prices : tie.Need-array-share-prefix-prices
-array-share-prefix-prices c = let e = c .read-entries .ensures .prices-long in let f = c .read-entries .ensures .few in omega arith
+array-share-prefix-prices c = search needs
 
 slice-aggregate-apply : tie.Need-slice-aggregate-apply
-slice-aggregate-apply c = let e = c .before .read-entries .ensures .prices-long in let f = c .before .read-entries .ensures .few in sym (length-take-le (c .before .read-entries .result) (c .before .read-entries .last .1 .1 .0) (omega arith))
+slice-aggregate-apply c = let r = c .before .before .before .read-entries in let e = r .ensures .prices-long in let f = r .ensures .few in sym (length-take-le (r .result) (r .last .1 .1 .0) (omega arith))
 
 array-share-prefix-sizes : tie.Need-array-share-prefix-sizes
-array-share-prefix-sizes c = let e = c .before .read-entries .ensures .sizes-long in let f = c .before .read-entries .ensures .few in omega arith
+array-share-prefix-sizes c = search needs
 
 slice-aggregate-apply-2 : tie.Need-slice-aggregate-apply-2
-slice-aggregate-apply-2 c = let e = c .before .before .read-entries .ensures .sizes-long in let f = c .before .before .read-entries .ensures .few in sym (length-take-le (c .before .before .read-entries .result) (c .before .before .read-entries .last .1 .1 .1 .0) (omega arith))
+slice-aggregate-apply-2 c = let r = c .before .before .before .before .read-entries in let e = r .ensures .sizes-long in let f = r .ensures .few in sym (length-take-le (r .result) (r .last .1 .1 .1 .0) (omega arith))
 
 array-share-prefix-rests : tie.Need-array-share-prefix-rests
-array-share-prefix-rests c = let e = c .before .before .read-entries .ensures .rests-long in let f = c .before .before .read-entries .ensures .few in omega arith
+array-share-prefix-rests c = search needs
 
 slice-aggregate-apply-3 : tie.Need-slice-aggregate-apply-3
-slice-aggregate-apply-3 c = let e = c .before .before .before .read-entries .ensures .rests-long in let f = c .before .before .before .read-entries .ensures .few in sym (length-take-le (c .before .before .before .read-entries .result) (c .before .before .before .read-entries .last .1 .1 .1 .1 .0) (omega arith))
+slice-aggregate-apply-3 c = let r = c .before .before .before .before .before .read-entries in let e = r .ensures .rests-long in let f = r .ensures .few in sym (length-take-le (r .result) (r .last .1 .1 .1 .1 .0) (omega arith))
 
 apply-requires : tie.Need-apply-requires
 apply-requires c κs = search needs
@@ -49,7 +58,10 @@ say-requires-2 : tie.Need-say-requires-2
 say-requires-2 c κs = search needs
 
 returns : tie.Need-returns
-returns c = applied-fine (c .before .before .before .before .before .before .before .before .before .before .before .before .args .m) (c .before .before .before .before .before .before .before .before .before .before .before .before .args .side) (c .before .before .before .before .before .before .before .before .before .before .before .before .args .depth) (entriesOf (take (c .before .before .before .before .before .before .before .read-entries .result) (c .before .before .before .before .before .before .before .read-entries .last .1 .1 .0)) (take (c .before .before .before .before .before .before .before .read-entries .result) (c .before .before .before .before .before .before .before .read-entries .last .1 .1 .1 .0)) (take (c .before .before .before .before .before .before .before .read-entries .result) (c .before .before .before .before .before .before .before .read-entries .last .1 .1 .1 .1 .0))) (c .before .before .before .before .before .before .before .before .before .before .before .before .args .levels) (c .before .before .before .before .before .before .before .before .before .before .before .before .pre .0) (c .before .before .before .before .before .before .before .read-entries .ensures .carried) (c .before .before .before .apply .ensures)
+returns c = side-fine (c .before .before .before .before)
+
+returns-2 : tie.Need-returns-2
+returns-2 c = side-fine (c .before .before .before .before)
 
 pub run-side-spec : {M : Type 1} → statement M
 run-side-spec =
@@ -68,4 +80,5 @@ run-side-spec =
     say-requires
     slice-aggregate-say-2
     say-requires-2
-    returns)
+    returns
+    returns-2)

@@ -1,11 +1,12 @@
 -- `show_levels` ends: it goes through the levels of a side.
-use borrow.Author.Needs.{needs}
 use Prim.Native.Nat.{_≤_, _-_}
+use native.Mathlib.Omega.{arith}
+use borrow.Author.Needs.{needs}
 use Rattle.checksum_vectors.proofs.show_levels.Statement.{statement}
 use Rattle.checksum_vectors.proofs.show_levels.Tie as tie
 
 abbrev Inv-loop : tie.InvT-loop
-Inv-loop levels i₀ i = (i ≤ levels .count) × (levels .count ≤ 100)
+Inv-loop levels i₀ i = i ≤ levels .count
 
 abbrev μ-loop : tie.MeasureT-loop
 μ-loop levels i₀ i = levels .count - i
@@ -13,11 +14,8 @@ abbrev μ-loop : tie.MeasureT-loop
 loop-holds : tie.Need-loop-holds Inv-loop μ-loop
 loop-holds c = search needs
 
-mul-show-level : tie.Need-mul-show-level Inv-loop μ-loop
-mul-show-level c = search needs
-
-element-copy-out-show-level : tie.Need-element-copy-out-show-level Inv-loop μ-loop
-element-copy-out-show-level c = search needs
+level-in-requires : tie.Need-level-in-requires Inv-loop μ-loop
+level-in-requires c κs = let p = c .before .before .before .before .pre in let u = c .before .before .loop-test .taken in (omega (arith, p .0), p .1)
 
 show-level-requires : tie.Need-show-level-requires Inv-loop μ-loop
 show-level-requires c κs = search needs
@@ -41,8 +39,7 @@ show-levels-spec =
     Inv-loop
     μ-loop
     loop-holds
-    mul-show-level
-    element-copy-out-show-level
+    level-in-requires
     show-level-requires
     add-i
     loop-less

@@ -10,13 +10,21 @@ use Rattle.checksum_vectors.proofs.sum_of.Statement.{statement}
 use Rattle.checksum_vectors.proofs.sum_of.Tie as tie
 
 m-checksum-requires : tie.Need-m-checksum-requires
-m-checksum-requires c κs = let b = c .before .pre in (b .bids .good, b .asks .good, subst (λ (m : Bool). All (Carries (pieceFor m)) (held (c .before .args .book .bids))) (c .if1 .taken) (b .bids .carried), subst (λ (m : Bool). All (Carries (pieceFor m)) (held (c .before .args .book .asks))) (c .if1 .taken) (b .asks .carried))
+m-checksum-requires c κs =
+    let a = c .before .before .before .before .before .before .before .args .book in
+    let b = c .before .before .before .before .before .before .before .pre in
+    let is = c .before .before .before .before .if1 .taken in
+    (b .bids .good, b .asks .good, subst (λ (m : Bool). All (Carries (pieceFor m)) (held (a .bids))) is (b .bids .carried), subst (λ (m : Bool). All (Carries (pieceFor m)) (held (a .asks))) is (b .asks .carried))
 
 returns : tie.Need-returns
 returns c = search needs
 
 k-checksum-requires : tie.Need-k-checksum-requires
-k-checksum-requires c κs = let b = c .before .pre in (b .bids .good, b .asks .good, subst (λ (m : Bool). All (Carries (pieceFor m)) (held (c .before .args .book .bids))) (c .if1 .left) (b .bids .carried), subst (λ (m : Bool). All (Carries (pieceFor m)) (held (c .before .args .book .asks))) (c .if1 .left) (b .asks .carried))
+k-checksum-requires c κs =
+    let a = c .before .before .before .before .before .before .before .args .book in
+    let b = c .before .before .before .before .before .before .before .pre in
+    let is = c .before .before .before .before .if1 .left in
+    (b .bids .good, b .asks .good, subst (λ (m : Bool). All (Carries (pieceFor m)) (held (a .bids))) is (b .bids .carried), subst (λ (m : Bool). All (Carries (pieceFor m)) (held (a .asks))) is (b .asks .carried))
 
 returns-2 : tie.Need-returns-2
 returns-2 c = search needs

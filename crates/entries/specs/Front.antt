@@ -5,11 +5,12 @@ use mathlib.Core.Path.{_≡_}
 use mathlib.Core.Bool.{true, false}
 use mathlib.Core.List.{List}
 use lib.ListN.{length}
-use Rattle.decimal.specs.Digits.{refused}
+use Rattle.decimal.specs.Digits.{Reading, reads, refused}
 use Rattle.json_tokens.specs.Bytes.{byteAt, openArray, comma, closeArray}
 use Rattle.json_tokens.specs.Tokens.{End, At, Broken, blanks, separator, string}
-use Rattle.json.specs.Json.{list, itemsEnd, element, value}
-use Rattle.entries.specs.Rows.{entryK, entryM}
+use Rattle.json.specs.Json.{Span, list, itemsEnd, element, value}
+use Rattle.entries.specs.Rows.{Row, entryK, entryM}
+use Rattle.entries.specs.Summary.{foundOf, foundAt}
 use Rattle.entries.specs.declared.Found.{Found}
 
 -- Arrays and objects in an entry.
@@ -38,3 +39,9 @@ endIn (suc n) = At (suc n)
 -- The array whose element ends at `at` ends at r, in however many steps, if they are enough.
 abbrev pub RestEnd : List ℕ → ℕ → ℕ → Type 0
 RestEnd s at r = (n : ℕ) → length s ≤ n + at → itemsEnd (list (element (value elementDepth s)) closeArray s (suc n) false at) ≡ endIn r
+
+-- An entry whose two strings end at `at` ends at r, if r is not 0.
+abbrev pub EntryEnd : (List ℕ → Span → Reading Row) → List ℕ → ℕ → ℕ → Type 0
+EntryEnd entry s at r =
+    (r ≡ 0 → ⊥) → (from : ℕ) (f : Found) → Two s from f → f .end ≡ at
+    → foundAt entry s from ≡ foundOf r (reads (record { price = record { from = f .«price_from»; to = f .«price_to» }; size = record { from = f .«size_from»; to = f .«size_to» } }))

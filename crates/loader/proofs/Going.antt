@@ -45,9 +45,12 @@ module _ (entry : List ℕ → Span → Reading Row) {piece : Number → Number 
   going-end {at} {k} g z =
       subst (λ (rows : List Row). Loaded piece s rows prices sizes rests k) (sym (g .whole ∙ ap (λ (x : List Row). g .done ++ x) (g .over z) ∙ append-nil (g .done))) (g .loaded)
 
-  module _ {at k : ℕ} (g : Going entry piece s prices sizes rests at k) (n : 0 < at) (f : Found) (told : f ≡ foundAt entry s at) where
+  module _ {at k : ℕ} (g : Going entry piece s prices sizes rests at k) (n : 0 < at) where
+    abbrev f : Found
+    f = foundAt entry s at
+
     here : Here entry s (g .left) f
-    here = left-here entry s at (g .left) (g .on (λ z. omega arith)) f told
+    here = left-here entry s at (g .left) (g .on (λ z. omega arith)) f refl
 
     pub going-below : k < 100
     going-below =
@@ -60,16 +63,16 @@ module _ (entry : List ℕ → Span → Reading Row) {piece : Number → Number 
 
     pub going-placed : Sound entry s → Placed s f
     unfolding foundOf
-    going-placed sound = found-laid entry s at f told sound (ap (λ (x : Found). x .fair) (here .is-row))
+    going-placed sound = found-laid entry s at f refl sound (ap (λ (x : Found). x .fair) (here .is-row))
 
     row-is : here .row ≡ rowOf f
     unfolding foundOf
     row-is = sym (ap rowOf (here .is-row))
 
-    pub going-more : (level : Level) (rest : ℕ) → Packed level rest → LevelAt piece s f level → (j : ℕ) → j ≡ endOf (separator 44 s (f .end))
+    pub going-more : (level : Level) (rest : ℕ) → Packed level rest → LevelAt piece s f level → (end j : ℕ) → end ≡ f .end → j ≡ endOf (separator 44 s end)
         → Going entry piece s (set prices k (level .price)) (set sizes k (level .size)) (set rests k rest) j (k + 1)
-    going-more level rest p l j h =
-        let o = here .onwards j h in
+    going-more level rest p l end j e h =
+        let o = here .onwards j (h ∙ ap (λ (i : ℕ). endOf (separator 44 s i)) e) in
         record {
           done = g .done ++ (rowOf f ∷ []);
           left = here .later;

@@ -5,19 +5,39 @@
 //     side::apply(bids, Side::Bids, depth, &prices[..n], &sizes[..n], &rests[..n])
 ghost use mathlib.Core.Path.{_≡_};
 ghost use Rattle.entries.specs.Counting.{Quoted};
+ghost use Rattle.entries.specs.Front.{EntryEnd};
 ghost use Rattle.entries.specs.Summary.{foundAt};
+ghost use Rattle.decimal.specs.Decimal.{number, Within};
+ghost use Rattle.checksum.specs.Carried.{Made};
 ghost use Rattle.loader.specs.Loaded.{Loadable, Loaded, Room, rowsAt};
-ghost use Rattle.loader.specs.Reading.{entryFor, pieceFor, firstAt, LevelAt, Placed, NumberOf};
+ghost use Rattle.loader.specs.Reading.{entryFor, pieceFor, firstAt, Placed, NumberOf, EntryAt, FirstAmount, NextAmount, AmountAt};
 use decimal::Decimal;
 use decimal::Parsed;
+use decimal::ParsedFront;
 use entries::Found;
+use json_tokens::OPEN_ARRAY;
+use json_tokens::QUOTE;
 use json_tokens::array_close_end;
+use json_tokens::byte_at;
 use json_tokens::comma_end;
 use json_tokens::skip_blanks;
 use side::Level;
 
 // How many entries a message may have for one side.
 pub const MAX_ENTRIES: usize = 100;
+
+// The price and the size of an entry, and the position past it.
+struct Entry {
+    price: Decimal,
+    size: Decimal,
+    end: usize,
+}
+
+// A decimal in quotes, and the position past them. An end of 0 says that none is there.
+struct Amount {
+    decimal: Decimal,
+    end: usize,
+}
 
 // The entries in the array that the text begins with, a word of each array for each entry, from place 0 on; how many there are.
 // `m` says that the dialect is M, else it is K.
@@ -34,13 +54,13 @@ pub fn load(
     let mut at = first_at(s);
     let mut k = 0;
     while 0 < at {
-        let found = entry_at(s, at, m);
-        let level = level_at(s, found, m);
+        let entry = read_entry(s, at, m);
+        let level = level_of(entry.price, entry.size, m);
         prices[k] = level.price;
         sizes[k] = level.size;
         rests[k] = side::pack(level);
         k += 1;
-        at = comma_end(s, found.end);
+        at = comma_end(s, entry.end);
     }
     k
 }
@@ -65,13 +85,111 @@ pub fn entry_at(s: &[u8], at: usize, m: bool) -> Found
     entries::k_entry(s, at)
 }
 
-// The level of an entry, also of one that removes it.
-fn level_at(s: &[u8], found: Found, m: bool) -> Level
-    requires { ⌜ Placed (now s) found ⌝ }
-    ensures { λ r. ⌜ LevelAt (pieceFor m) (now (s .entry)) found r ⌝ }
+// The entry at `at`, of dialect M, or else K. Its price and size are most often decimals, read on the way to its end.
+fn read_entry(s: &[u8], at: usize, m: bool) -> Entry
+    requires { ⌜ Placed (now s) (foundAt (entryFor m) (now s) at) ⌝ }
+    ensures { λ r. ⌜ EntryAt m (now (s .entry)) at r ⌝ }
 {
+    let first = first_amount(s, at);
+    if 0 < first.end {
+        let second = next_amount(s, first.end);
+        if 0 < second.end {
+            let end = entry_end(s, second.end, m);
+            if 0 < end {
+                let price = first.decimal;
+                let size = second.decimal;
+                return Entry { price, size, end };
+            }
+        }
+    }
+    any_entry(s, at, m)
+}
+
+// The same, whatever its strings hold.
+fn any_entry(s: &[u8], at: usize, m: bool) -> Entry
+    requires { ⌜ Placed (now s) (foundAt (entryFor m) (now s) at) ⌝ }
+    ensures { λ r. ⌜ EntryAt m (now (s .entry)) at r ⌝ }
+{
+    let found = entry_at(s, at, m);
     let price = number_at(s, found.price_from, found.price_to);
     let size = number_at(s, found.size_from, found.size_to);
+    Entry {
+        price,
+        size,
+        end: found.end,
+    }
+}
+
+// The decimal in quotes that the array at `at` begins with.
+fn first_amount(s: &[u8], at: usize) -> Amount
+    ensures { λ r. ⌜ FirstAmount (now (s .entry)) at r ⌝ }
+{
+    if byte_at(s, at) != OPEN_ARRAY {
+        return no_amount();
+    }
+    amount_at(s, skip_blanks(s, at + 1))
+}
+
+// The decimal in quotes past the comma that follows an element which ends at `at`.
+fn next_amount(s: &[u8], at: usize) -> Amount
+    ensures { λ r. ⌜ NextAmount (now (s .entry)) at r ⌝ }
+{
+    let next = comma_end(s, at);
+    if next == 0 {
+        return no_amount();
+    }
+    amount_at(s, next)
+}
+
+// The decimal in quotes at `at`. Digits and a point stand for themselves in a string, so that it is read in one go.
+fn amount_at(s: &[u8], at: usize) -> Amount
+    ensures { λ r. ⌜ AmountAt (now (s .entry)) at r ⌝ }
+{
+    if byte_at(s, at) != QUOTE {
+        return no_amount();
+    }
+    match decimal::parse_at(s, at + 1) {
+        ParsedFront::Number(decimal, end) => {
+            if byte_at(s, end) != QUOTE {
+                return no_amount();
+            }
+            Amount {
+                decimal,
+                end: end + 1,
+            }
+        }
+        ParsedFront::Refused => no_amount(),
+    }
+}
+
+// No decimal in quotes.
+fn no_amount() -> Amount
+    ensures { λ r. ⌜ r .end ≡ 0 ⌝ }
+{
+    Amount {
+        decimal: Decimal {
+            digits: 0,
+            decimals: 0,
+        },
+        end: 0,
+    }
+}
+
+// Past the entry whose second string ends at `at`, or 0 where what follows does not fit.
+fn entry_end(s: &[u8], at: usize, m: bool) -> usize
+    ensures { λ r. ⌜ EntryEnd (entryFor m) (now (s .entry)) at r ⌝ }
+{
+    if m {
+        return array_close_end(s, at);
+    }
+    entries::k_rest_end(s, at)
+}
+
+// The level of a price and a size.
+fn level_of(price: Decimal, size: Decimal, m: bool) -> Level
+    requires { ⌜ Within (number price) × Within (number size) ⌝ }
+    ensures { λ r. ⌜ Made (pieceFor m) price size r ⌝ }
+{
     if m {
         return checksum::m_level(price, size);
     }

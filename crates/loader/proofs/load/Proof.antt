@@ -2,7 +2,9 @@
 use borrow.Author.Needs.{needs}
 use Prim.Native.Nat.{_-_}
 use native.Mathlib.Omega.{arith}
+use Rattle.entries.specs.Summary.{foundAt}
 use Rattle.loader.specs.Reading.{entryFor, pieceFor}
+use Rattle.loader.proofs.Words.{level-made}
 use Rattle.loader.proofs.Going.{Going, sound-for, going-start, going-end, going-below, going-placed, going-more}
 use Rattle.loader.proofs.load.Statement.{statement}
 use Rattle.loader.proofs.load.Tie as tie
@@ -23,27 +25,27 @@ loop-holds c =
     let s = a .s .now in
     going-start (entryFor (a .m)) s (c .first-at .result) (c .first-at .ensures) (c .before .before .pre .0) (c .before .before .pre .1)
 
-entry-at-requires : tie.Need-entry-at-requires Inv-loop μ-loop
-entry-at-requires c κs = search needs
-
-level-at-requires : tie.Need-level-at-requires Inv-loop μ-loop
-level-at-requires c κs =
-    let a = c .before .before .before .before .before .args in
+read-entry-requires : tie.Need-read-entry-requires Inv-loop μ-loop
+read-entry-requires c κs =
+    let a = c .before .before .before .before .args in
     let s = a .s .now in
-    going-placed (entryFor (a .m)) s (c .before .before .loop .inv) (c .before .loop-test .taken) (c .entry-at .result) (c .entry-at .ensures) (sound-for (a .m) s)
+    going-placed (entryFor (a .m)) s (c .before .loop .inv) (c .loop-test .taken) (sound-for (a .m) s)
+
+level-of-requires : tie.Need-level-of-requires Inv-loop μ-loop
+level-of-requires c κs = (c .read-entry .ensures .price .within, c .read-entry .ensures .size .within)
 
 mul-prices : tie.Need-mul-prices Inv-loop μ-loop
 mul-prices c =
     let a = c .before .before .before .before .before .before .args in
     let s = a .s .now in
-    let k = going-below (entryFor (a .m)) s (c .before .before .before .loop .inv) (c .before .before .loop-test .taken) (c .before .entry-at .result) (c .before .entry-at .ensures) in
+    let k = going-below (entryFor (a .m)) s (c .before .before .before .loop .inv) (c .before .before .loop-test .taken) in
     omega arith
 
 element-write-prices : tie.Need-element-write-prices Inv-loop μ-loop
 element-write-prices c =
     let a = c .before .before .before .before .before .before .args in
     let s = a .s .now in
-    let k = going-below (entryFor (a .m)) s (c .before .before .before .loop .inv) (c .before .before .loop-test .taken) (c .before .entry-at .result) (c .before .entry-at .ensures) in
+    let k = going-below (entryFor (a .m)) s (c .before .before .before .loop .inv) (c .before .before .loop-test .taken) in
     let r = c .before .before .before .loop .inv .loaded .room in
     omega arith
 
@@ -51,14 +53,14 @@ mul-sizes : tie.Need-mul-sizes Inv-loop μ-loop
 mul-sizes c =
     let a = c .before .before .before .before .before .before .args in
     let s = a .s .now in
-    let k = going-below (entryFor (a .m)) s (c .before .before .before .loop .inv) (c .before .before .loop-test .taken) (c .before .entry-at .result) (c .before .entry-at .ensures) in
+    let k = going-below (entryFor (a .m)) s (c .before .before .before .loop .inv) (c .before .before .loop-test .taken) in
     omega arith
 
 element-write-sizes : tie.Need-element-write-sizes Inv-loop μ-loop
 element-write-sizes c =
     let a = c .before .before .before .before .before .before .args in
     let s = a .s .now in
-    let k = going-below (entryFor (a .m)) s (c .before .before .before .loop .inv) (c .before .before .loop-test .taken) (c .before .entry-at .result) (c .before .entry-at .ensures) in
+    let k = going-below (entryFor (a .m)) s (c .before .before .before .loop .inv) (c .before .before .loop-test .taken) in
     let r = c .before .before .before .loop .inv .loaded .room in
     omega arith
 
@@ -69,14 +71,14 @@ mul-rests : tie.Need-mul-rests Inv-loop μ-loop
 mul-rests c =
     let a = c .before .before .before .before .before .before .before .args in
     let s = a .s .now in
-    let k = going-below (entryFor (a .m)) s (c .before .before .before .before .loop .inv) (c .before .before .before .loop-test .taken) (c .before .before .entry-at .result) (c .before .before .entry-at .ensures) in
+    let k = going-below (entryFor (a .m)) s (c .before .before .before .before .loop .inv) (c .before .before .before .loop-test .taken) in
     omega arith
 
 element-write-rests : tie.Need-element-write-rests Inv-loop μ-loop
 element-write-rests c =
     let a = c .before .before .before .before .before .before .before .args in
     let s = a .s .now in
-    let k = going-below (entryFor (a .m)) s (c .before .before .before .before .loop .inv) (c .before .before .before .loop-test .taken) (c .before .before .entry-at .result) (c .before .before .entry-at .ensures) in
+    let k = going-below (entryFor (a .m)) s (c .before .before .before .before .loop .inv) (c .before .before .before .loop-test .taken) in
     let r = c .before .before .before .before .loop .inv .loaded .room in
     omega arith
 
@@ -84,7 +86,7 @@ add-k : tie.Need-add-k Inv-loop μ-loop
 add-k c =
     let a = c .before .before .before .before .before .before .before .args in
     let s = a .s .now in
-    let k = going-below (entryFor (a .m)) s (c .before .before .before .before .loop .inv) (c .before .before .before .loop-test .taken) (c .before .before .entry-at .result) (c .before .before .entry-at .ensures) in
+    let k = going-below (entryFor (a .m)) s (c .before .before .before .before .loop .inv) (c .before .before .before .loop-test .taken) in
     omega arith
 
 comma-end-requires : tie.Need-comma-end-requires Inv-loop μ-loop
@@ -94,14 +96,19 @@ loop-less : tie.Need-loop-less Inv-loop μ-loop
 loop-less c =
     let a = c .before .before .before .before .before .before .before .before .args in
     let s = a .s .now in
-    let k = going-below (entryFor (a .m)) s (c .before .before .before .before .before .loop .inv) (c .before .before .before .before .loop-test .taken) (c .before .before .before .entry-at .result) (c .before .before .before .entry-at .ensures) in
+    let k = going-below (entryFor (a .m)) s (c .before .before .before .before .before .loop .inv) (c .before .before .before .before .loop-test .taken) in
     omega arith
 
 loop-again : tie.Need-loop-again Inv-loop μ-loop
 loop-again c =
-    let a = c .before .before .before .before .before .before .before .before .args in
+    let b = c .before .before .before in
+    let a = b .before .before .before .before .before .args in
     let s = a .s .now in
-    going-more (entryFor (a .m)) s (c .before .before .before .before .before .loop .inv) (c .before .before .before .before .loop-test .taken) (c .before .before .before .entry-at .result) (c .before .before .before .entry-at .ensures) (c .before .before .level-at .result) (c .before .pack .result) (c .before .pack .ensures) (c .before .before .level-at .ensures) (c .comma-end .result) (c .comma-end .ensures)
+    let e = b .read-entry .ensures in
+    let level = c .before .before .level-of in
+    going-more (entryFor (a .m)) s (b .before .before .loop .inv) (b .before .loop-test .taken) (level .result) (c .before .pack .result) (c .before .pack .ensures)
+    (level-made s (foundAt (entryFor (a .m)) s (b .before .before .loop .at)) (e .price) (e .size) (level .ensures)) (b .read-entry .result .end) (c .comma-end .result) (e .end)
+    (c .comma-end .ensures)
 
 returns : tie.Need-returns Inv-loop μ-loop
 returns c =
@@ -118,8 +125,8 @@ load-spec =
     μ-loop
     first-at-requires
     loop-holds
-    entry-at-requires
-    level-at-requires
+    read-entry-requires
+    level-of-requires
     mul-prices
     element-write-prices
     mul-sizes

@@ -1,0 +1,34 @@
+-- `any_entry` meets its contract: the two numbers are those of the texts that were found.
+use mathlib.Core.Path.{ap, sym, subst}
+use Rattle.entries.specs.declared.Found.{Found}
+use Rattle.loader.specs.Reading.{priceSpan, sizeSpan, Placed, NumberOf}
+use borrow.Author.Needs.{needs}
+use Rattle.loader.proofs.any_entry.Statement.{statement}
+use Rattle.loader.proofs.any_entry.Tie as tie
+
+entry-at-requires : tie.Need-entry-at-requires
+entry-at-requires c κs = search needs
+
+number-at-requires : tie.Need-number-at-requires
+number-at-requires c κs =
+    let b = c .before .before in
+    subst (Placed (b .args .s .now)) (sym (c .entry-at .ensures)) (b .pre) .0
+
+number-at-requires-2 : tie.Need-number-at-requires-2
+number-at-requires-2 c κs =
+    let b = c .before .before .before in
+    subst (Placed (b .args .s .now)) (sym (c .before .entry-at .ensures)) (b .pre) .1
+
+returns : tie.Need-returns
+returns c =
+    let s = c .before .before .before .before .args .s .now in
+    let f = c .before .before .entry-at .ensures in
+    record {
+      end = ap (λ (x : Found). x .end) f;
+      price = subst (λ (x : Found). NumberOf s (priceSpan x) (c .before .number-at .result)) f (c .before .number-at .ensures);
+      size = subst (λ (x : Found). NumberOf s (sizeSpan x) (c .number-at2 .result)) f (c .number-at2 .ensures);
+    }
+
+pub any-entry-spec : {M : Type 1} → statement M
+any-entry-spec =
+    tie.close (tie.spec entry-at-requires number-at-requires number-at-requires-2 returns)

@@ -1,0 +1,40 @@
+-- `entry_end` meets its contract: an entry of dialect M closes past its two strings, and one of dialect K past a third string and the rest.
+use Prim.Native.Nat.{ℕ}
+use mathlib.Core.Path.{_≡_, _∙_, ap, sym, subst}
+use mathlib.Core.Bool.{Bool}
+use mathlib.Core.List.{List}
+use Rattle.json_tokens.specs.Tokens.{endOf, closing}
+use Rattle.json_tokens.proofs.Laws.{end-at}
+use Rattle.entries.specs.Rows.{entryM}
+use Rattle.entries.specs.Summary.{foundOf}
+use Rattle.entries.specs.Front.{EntryEnd}
+use Rattle.entries.proofs.Entry.{m-is}
+use Rattle.loader.specs.Reading.{entryFor}
+use borrow.Author.Needs.{needs}
+use Rattle.loader.proofs.entry_end.Statement.{statement}
+use Rattle.loader.proofs.entry_end.Tie as tie
+
+m-end : (s : List ℕ) (at r : ℕ) → r ≡ endOf (closing 93 s at) → EntryEnd entryM s at r
+unfolding foundOf
+m-end s at r h some from f two ends = sym (m-is s from f two r (ap (closing 93 s) ends ∙ end-at (closing 93 s at) r h some))
+
+array-close-end-requires : tie.Need-array-close-end-requires
+array-close-end-requires c κs = search needs
+
+returns : tie.Need-returns
+returns c =
+    let a = c .before .before .before .args in
+    let r = c .array-close-end .result in
+    subst (λ (m : Bool). EntryEnd (entryFor m) (a .s .now) (a .at) r) (sym (c .before .if1 .taken)) (m-end (a .s .now) (a .at) r (c .array-close-end .ensures))
+
+k-rest-end-requires : tie.Need-k-rest-end-requires
+k-rest-end-requires c κs = search needs
+
+returns-2 : tie.Need-returns-2
+returns-2 c =
+    let a = c .before .before .before .args in
+    subst (λ (m : Bool). EntryEnd (entryFor m) (a .s .now) (a .at) (c .k-rest-end .result)) (sym (c .before .if1 .left)) (c .k-rest-end .ensures)
+
+pub entry-end-spec : {M : Type 1} → statement M
+entry-end-spec =
+    tie.close (tie.spec array-close-end-requires returns k-rest-end-requires returns-2)

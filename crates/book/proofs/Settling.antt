@@ -30,7 +30,6 @@ use Rattle.side.specs.declared.Levels.{Levels}
 use Rattle.side.proofs.Lengths.{length-ranked, length-applyAll, afterMessage-whole}
 use Rattle.side.proofs.Meeting.{met-snapshot}
 use Rattle.sides.specs.Worked.{SideAfter, Sound, editsAt, Worked}
-use Rattle.sides.proofs.Working.{none-worked}
 use Rattle.loader.specs.Reading.{Ready}
 use Rattle.layout.specs.Layout.{Layout}
 use Rattle.layout.specs.Told.{isPrinted, sumOf, outlineOf}
@@ -45,7 +44,7 @@ use Rattle.message.proofs.Where.{entryIn, LieIn, framed-lies}
 use Rattle.book.specs.Reference.{isLive, Reference, editOf, cut, afterQuotes, bidsAfter, asksAfter, pricesOf, checksumOf, namesPriceTwice, lacksSnapshot, isOld, hasTooMany, hasWrongChecksum, verdict, taken, refusedBy, isTaken, answered, hear}
 use Rattle.settings.specs.Settings.{isM}
 use Rattle.book.specs.Shown.{statusOf, shows, Good, Told}
-use Rattle.book.specs.Taking.{Passed, liveStanding, refusedStep, keptStep, judgedUpdate, Judged, weighed}
+use Rattle.book.specs.Taking.{before, Passed, liveStanding, refusedStep, keptStep, judgedUpdate, Judged, weighed}
 use Rattle.book.specs.declared.Book.{Book}
 use Rattle.book.specs.declared.State.{State}
 use Rattle.book.specs.declared.Step.{Step}
@@ -158,14 +157,6 @@ update-passed state m n o h j = at (o .snapshot) (isLive (statusOf state)) (m &&
     at false true true g e = let z : _≡_ {A = ℕ} 0 1 = cc in absurd (omega arith)
     at false true false g e = (refl, refl)
     at false false y g e = let z : _≡_ {A = ℕ} 0 1 = cc in absurd (omega arith)
-
--- a side before the entries: the book's own, and with no level before those of a snapshot
-abbrev pub before : Outline → Levels → Levels
-before o kept = record { words = kept .words; count = cond (o .snapshot) 0 (kept .count) }
-
--- what becomes of a side for which the message has no entries
-abbrev pub idle : Outline → Levels → SideAfter
-idle o kept = record { levels = before o kept; count = before o kept .count; met = false }
 
 -- ---- a message that passes
 
@@ -497,19 +488,6 @@ module _ (b : Book) (s : List ℕ) (o : Outline) (k : Passed b s o) where
       at : (t : Bool) → Sound (isM d) side (record { words = kept .words; count = cond t 0 (kept .count) }) × (length (held (record { words = kept .words; count = cond t 0 (kept .count) })) ≤ b .settings .depth)
       at true = (record { good = record { few = omega arith; room = z .good .room; sorted = tt; within = tt }; carried = tt; sized = tt }, omega arith)
       at false = (z, n)
-
-  pub idle-worked : (side : Side) (kept : Levels) (at count : ℕ) → count ≡ 0 → Sound (isM d) side kept → length (held kept) ≤ b .settings .depth
-      → Worked (isM d) side (b .settings .depth) (editsAt (isM d) s at count) (before o kept) (idle o kept)
-  idle-worked side kept at count e z n =
-      let y = before-asked side kept z n in
-      none-worked (isM d) side (b .settings .depth) (before o kept) s at count e (y .0) (y .1)
-
-  pub idle-within : (side : Side) (kept : Levels) → Sound (isM d) side kept → ltb 100 (idle o kept .count) ≡ false
-  idle-within side kept z = at (o .snapshot)
-    where
-      at : (t : Bool) → ltb 100 (cond t 0 (kept .count)) ≡ false
-      at true = le-ltb 100 0 (omega arith)
-      at false = let f = z .good .few in le-ltb 100 (kept .count) f
 
   -- ---- what `apply_entries` requires and gives, t being whether the dialect is M, and n the count of a side before the entries
 

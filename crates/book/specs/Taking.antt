@@ -10,7 +10,8 @@ use Rattle.settings.specs.Settings.{isM, termsOf, good}
 use Rattle.settings.specs.declared.Dialect.{Dialect}
 use Rattle.side.specs.Level.{shown}
 use Rattle.side.specs.Kept.{held}
-use Rattle.sides.specs.Worked.{SideAfter}
+use Rattle.side.specs.declared.Side.the-variants.{Bids, Asks}
+use Rattle.sides.specs.Worked.{SideAfter, editsAt, Worked}
 use Rattle.side.specs.declared.Levels.{Levels}
 use Rattle.layout.specs.Layout.{Layout}
 use Rattle.layout.specs.Told.{outlineOf}
@@ -104,6 +105,15 @@ pub record Ruled (h : Header) : Type 0 where
 -- What the same checks find of a header, whatever the words of the sides are.
 pub record JudgedWith (h : Header) (s : List ℕ) (v : Verdict) : Type 0 where
   pub of : (bids asks : List ℕ) → Good (bookOf bids asks h) → Judged (bookOf bids asks h) s v
+
+-- A side before the entries: the book's own, and with no level before those of a snapshot.
+abbrev pub before : Outline → Levels → Levels
+before o kept = record { words = kept .words; count = cond (o .snapshot) 0 (kept .count) }
+
+-- What the entries of a message make of the sides of a book.
+pub record SidesAfter (b : Book) (s : List ℕ) (o : Outline) (bids asks : SideAfter) : Type 0 where
+  pub bids-worked : Worked (isM (b .settings .dialect)) Bids (b .settings .depth) (editsAt (isM (b .settings .dialect)) s (o .«bids_at») (o .bids)) (before o (b .bids)) bids
+  pub asks-worked : Worked (isM (b .settings .dialect)) Asks (b .settings .depth) (editsAt (isM (b .settings .dialect)) s (o .«asks_at») (o .asks)) (before o (b .asks)) asks
 
 -- Checks 9, 12 and 13.
 unfoldable pub weighed : Outline → Dialect → Bool → Bool → Levels → Levels → Answer

@@ -10,7 +10,7 @@ ghost use Rattle.settings.specs.Settings.{isM};
 ghost use Rattle.sides.specs.Worked.{Sound, sideAfter};
 ghost use Rattle.book.specs.Reference.{isShut, isTaken, leavesStatus, checksumOf, hear, oneMore};
 ghost use Rattle.book.specs.Shown.{statusOf, shows, bookOf, stepOf, Good, Told};
-ghost use Rattle.book.specs.Taking.{Ruled, JudgedWith, judgedUpdate, weighedSides, takenHeader, refusedHeader, liveStanding, refusedStanding};
+ghost use Rattle.book.specs.Taking.{Passed, SidesAfter, Ruled, JudgedWith, judgedUpdate, weighedSides, takenHeader, refusedHeader, liveStanding, refusedStanding};
 use crate::Answered;
 use crate::Header;
 use crate::Standing;
@@ -48,31 +48,10 @@ pub fn hear(
             let last_bids = *bids;
             let last_asks = *asks;
             let settings = header.settings;
-            let depth = settings.depth;
             let dialect = settings.dialect;
-            let m = is_m(dialect);
-            let bids_before = count_before(outline.snapshot, header.bids);
-            let bid_side = apply_entries(
-                bids,
-                bids_before,
-                Side::Bids,
-                depth,
-                m,
-                s,
-                outline.bids_at,
-                outline.bids,
-            );
-            let asks_before = count_before(outline.snapshot, header.asks);
-            let ask_side = apply_entries(
-                asks,
-                asks_before,
-                Side::Asks,
-                depth,
-                m,
-                s,
-                outline.asks_at,
-                outline.asks,
-            );
+            let entered = enter(header, outline, bids, asks, s);
+            let bid_side = entered.bids;
+            let ask_side = entered.asks;
             let answer = weigh(outline, dialect, bid_side, ask_side, bids, asks);
             if is_taken(answer) {
                 return Answered {
@@ -87,6 +66,55 @@ pub fn hear(
                 answer,
             }
         }
+    }
+}
+
+// What entries make of the bids and of the asks.
+struct Entered {
+    bids: Applied,
+    asks: Applied,
+}
+
+// Applies the entries of a message that passes the checks of its text.
+fn enter(
+    header: Header,
+    outline: Outline,
+    bids: &mut [u64; MAX_WORDS],
+    asks: &mut [u64; MAX_WORDS],
+    s: &[u8],
+) -> Entered
+    requires { ⌜ Passed (bookOf (now bids) (now asks) header) (now s) outline ⌝ }
+    ensures { λ r. ⌜ SidesAfter (bookOf (now (bids .entry)) (now (asks .entry)) header) (now (s .entry)) outline (sideAfter (now (bids .exit)) (r .bids)) (sideAfter (now (asks .exit)) (r .asks)) ⌝ }
+{
+    let settings = header.settings;
+    let depth = settings.depth;
+    let dialect = settings.dialect;
+    let m = is_m(dialect);
+    let bids_before = count_before(outline.snapshot, header.bids);
+    let bid_side = apply_entries(
+        bids,
+        bids_before,
+        Side::Bids,
+        depth,
+        m,
+        s,
+        outline.bids_at,
+        outline.bids,
+    );
+    let asks_before = count_before(outline.snapshot, header.asks);
+    let ask_side = apply_entries(
+        asks,
+        asks_before,
+        Side::Asks,
+        depth,
+        m,
+        s,
+        outline.asks_at,
+        outline.asks,
+    );
+    Entered {
+        bids: bid_side,
+        asks: ask_side,
     }
 }
 

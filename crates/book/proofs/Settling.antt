@@ -20,7 +20,7 @@ use Rattle.entries.specs.Summary.{zeroSize, anyBroken, anyZero}
 use Rattle.entries.proofs.Claims.{zero-none}
 use Rattle.side.specs.Level.{PriceLevel, shown, shownPrice}
 use Rattle.side.specs.Side.{Edit, sets, removes, All, IsSet, named, namesTwice, Sorted, applyAll, ranked, afterMessage, met}
-use Rattle.side.specs.Kept.{held}
+use Rattle.side.specs.Kept.{keptIn, held}
 use Rattle.side.specs.Kept as kept·
 use Rattle.piece.specs.Piece.{kPiece, mPiece}
 use Rattle.checksum.specs.Carried.{Carries}
@@ -485,7 +485,7 @@ module _ (b : Book) (s : List ℕ) (o : Outline) (k : Passed b s o) where
   unfolding held All Sorted
   before-asked side kept z n = at (o .snapshot)
     where
-      at : (t : Bool) → Sound (isM d) side (record { words = kept .words; count = cond t 0 (kept .count) }) × (length (held (record { words = kept .words; count = cond t 0 (kept .count) })) ≤ b .settings .depth)
+      at : (t : Bool) → Sound (isM d) side (keptIn (kept .words) (cond t 0 (kept .count))) × (length (held (keptIn (kept .words) (cond t 0 (kept .count)))) ≤ b .settings .depth)
       at true = (record { good = record { few = omega arith; room = z .good .room; sorted = tt; within = tt }; carried = tt; sized = tt }, omega arith)
       at false = (z, n)
 
@@ -493,10 +493,10 @@ module _ (b : Book) (s : List ℕ) (o : Outline) (k : Passed b s o) where
 
   module _ (t : Bool) (is : t ≡ isM d) (side : Side) (kept : Levels) (n : ℕ) (counts : n ≡ cond (o .snapshot) 0 (kept .count)) (at count : ℕ) where
     pub asked-as : Ready (isM d) s at count → Sound (isM d) side kept → length (held kept) ≤ b .settings .depth
-        → Sound t side (record { words = kept .words; count = n }) × Ready t s at count × (b .settings .depth ≤ 100) × (length (held (record { words = kept .words; count = n })) ≤ b .settings .depth)
+        → Sound t side (keptIn (kept .words) n) × Ready t s at count × (b .settings .depth ≤ 100) × (length (held (keptIn (kept .words) n)) ≤ b .settings .depth)
     asked-as r z f = let y = before-asked side kept z f in rw (is, counts) (y .0, r, depth-most, y .1)
 
-    pub worked-as : (a : SideAfter) → Worked t side (b .settings .depth) (editsAt t s at count) (record { words = kept .words; count = n }) a
+    pub worked-as : (a : SideAfter) → Worked t side (b .settings .depth) (editsAt t s at count) (keptIn (kept .words) n) a
         → Worked (isM d) side (b .settings .depth) (editsAt (isM d) s at count) (before o kept) a
     worked-as a w = rw (is, counts) at w
 

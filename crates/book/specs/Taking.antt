@@ -9,7 +9,7 @@ use Rattle.decimal.specs.Digits.{reads}
 use Rattle.settings.specs.Settings.{isM, termsOf, good}
 use Rattle.settings.specs.declared.Dialect.{Dialect}
 use Rattle.side.specs.Level.{shown}
-use Rattle.side.specs.Kept.{held}
+use Rattle.side.specs.Kept.{keptIn, held}
 use Rattle.side.specs.declared.Side.the-variants.{Bids, Asks}
 use Rattle.sides.specs.Worked.{SideAfter, editsAt, Worked}
 use Rattle.side.specs.declared.Levels.{Levels}
@@ -108,7 +108,7 @@ pub record JudgedWith (h : Header) (s : List ℕ) (v : Verdict) : Type 0 where
 
 -- A side before the entries: the book's own, and with no level before those of a snapshot.
 abbrev pub before : Outline → Levels → Levels
-before o kept = record { words = kept .words; count = cond (o .snapshot) 0 (kept .count) }
+before o kept = keptIn (kept .words) (cond (o .snapshot) 0 (kept .count))
 
 -- What the entries of a message make of the sides of a book.
 pub record SidesAfter (b : Book) (s : List ℕ) (o : Outline) (bids asks : SideAfter) : Type 0 where

@@ -18,7 +18,7 @@ use Rattle.piece.specs.Piece.{kPiece, mPiece, SumsTo}
 use Rattle.piece.specs.declared.Piece.{Piece}
 use Rattle.side.specs.Level.{PriceLevel, levelPrice, levelSize, shown}
 use Rattle.side.specs.Side.{All}
-use Rattle.side.specs.Words.{levelsIn}
+use Rattle.side.specs.Words.{levelsIn, noLevel}
 use Rattle.side.specs.Kept.{maxLevels, maxWords}
 use Rattle.side.proofs.Stored.{length-levels}
 use Rattle.side.specs.declared.Level.{Level}
@@ -144,18 +144,14 @@ module _ {A : Type 0} where
 pub enough : (n : ℕ) (words : List ℕ) → n ≤ maxLevels → length words ≡ maxWords → n ≤ length (levelsIn words)
 enough n words h e = omega (arith, length-levels maxLevels words e)
 
--- what stands past the end of a list of levels
-abbrev pub nowhere : Level
-nowhere = record { price = 0; size = 0; sum = 0; length = 0; «price_decimals» = 0; «size_decimals» = 0 }
-
-level-left : (items : List Level) (i to : ℕ) → i < to → to ≤ length items → drop i (take to items) ≡ getD items i nowhere ∷ drop (i + 1) (take to items)
+level-left : (items : List Level) (i to : ℕ) → i < to → to ≤ length items → drop i (take to items) ≡ getD items i noLevel ∷ drop (i + 1) (take to items)
 level-left items i to l h =
     let n : length (take to items) ≡ to = length-take-le to items h in
-    drop-cons (take to items) i nowhere (omega arith)
-    ∙ ap₂ (λ (x : Level) (k : ℕ). x ∷ drop k (take to items)) (getD-take to items i nowhere l) (sym (add-one i))
+    drop-cons (take to items) i noLevel (omega arith)
+    ∙ ap₂ (λ (x : Level) (k : ℕ). x ∷ drop k (take to items)) (getD-take to items i noLevel l) (sym (add-one i))
 
 pub summed-turn : (items : List Level) (i to s r : ℕ) → i < to → to ≤ length items →
-    r ≡ bitXor (bits (8 * getD items i nowhere .length) s) (getD items i nowhere .sum) → summed r (drop (i + 1) (take to items)) ≡ summed s (drop i (take to items))
+    r ≡ bitXor (bits (8 * getD items i noLevel .length) s) (getD items i noLevel .sum) → summed r (drop (i + 1) (take to items)) ≡ summed s (drop i (take to items))
 unfolding summed
 summed-turn items i to s r l h e =
     ap (λ (x : ℕ). summed x (drop (i + 1) (take to items))) e ∙ sym (ap (summed s) (level-left items i to l h))
@@ -167,15 +163,15 @@ summed-done items i to s l h =
     ap (summed s) (drop-of-length-le (take to items) {i = i} (omega arith))
 
 pub pairs-turn : (bids asks : List Level) (i n s r p : ℕ) → i < n → n ≤ length bids → n ≤ length asks →
-    p ≡ bitXor (bits (8 * getD asks i nowhere .length) (getD bids i nowhere .sum)) (getD asks i nowhere .sum) →
-    r ≡ bitXor (bits (8 * (getD bids i nowhere .length + getD asks i nowhere .length)) s) p →
+    p ≡ bitXor (bits (8 * getD asks i noLevel .length) (getD bids i noLevel .sum)) (getD asks i noLevel .sum) →
+    r ≡ bitXor (bits (8 * (getD bids i noLevel .length + getD asks i noLevel .length)) s) p →
     summed r (interleaved (n - (i + 1)) (drop (i + 1) (take n bids)) (drop (i + 1) (take n asks)))
     ≡ summed s (interleaved (n - i) (drop i (take n bids)) (drop i (take n asks)))
 unfolding summed interleaved
 pairs-turn bids asks i n s r p l hb ha e f =
     let k : n - i ≡ suc (n - (i + 1)) = omega arith in
     ap (λ (x : ℕ). summed x (interleaved (n - (i + 1)) (drop (i + 1) (take n bids)) (drop (i + 1) (take n asks))))
-    (f ∙ ap (bitXor (bits (8 * (getD bids i nowhere .length + getD asks i nowhere .length)) s)) e ∙ summed-pair (getD bids i nowhere) (getD asks i nowhere) s)
+    (f ∙ ap (bitXor (bits (8 * (getD bids i noLevel .length + getD asks i noLevel .length)) s)) e ∙ summed-pair (getD bids i noLevel) (getD asks i noLevel) s)
     ∙ sym (ap (summed s)
     (ap (λ (m : ℕ). interleaved m (drop i (take n bids)) (drop i (take n asks))) k
     ∙ ap₂ (interleaved (suc (n - (i + 1)))) (level-left bids i n l hb) (level-left asks i n l ha)))

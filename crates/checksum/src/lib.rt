@@ -16,7 +16,7 @@ ghost use Rattle.side.specs.declared.Side.the-variants.{Bids, Asks};
 ghost use Rattle.side.specs.Level.{shown};
 ghost use Rattle.side.specs.Side.{All};
 ghost use Rattle.side.specs.Words.{levelsIn};
-ghost use Rattle.side.specs.Kept.{maxLevels, maxWords, held, Good};
+ghost use Rattle.side.specs.Kept.{keptIn, maxLevels, maxWords, held, Good};
 ghost use Rattle.checksum.specs.Text.{kChecksum, mChecksum, interleaved};
 ghost use Rattle.checksum.specs.Carried.{Carries, Made, MadeOf, summed};
 use decimal::Decimal;
@@ -68,8 +68,8 @@ pub fn k_checksum<'a>(
     asks: &'a [u64; MAX_WORDS],
     ask_count: usize,
 ) -> u32
-    requires { ⌜ Good Bids (record { words = now bids; count = «bid_count» }) × Good Asks (record { words = now asks; count = «ask_count» }) × All (Carries kPiece) (held (record { words = now bids; count = «bid_count» })) × All (Carries kPiece) (held (record { words = now asks; count = «ask_count» })) ⌝ }
-    ensures { λ r. ⌜ r ≡ kChecksum (map shown (held (record { words = now (bids .entry); count = «bid_count» }))) (map shown (held (record { words = now (asks .entry); count = «ask_count» }))) ⌝ }
+    requires { ⌜ Good Bids (keptIn (now bids) «bid_count») × Good Asks (keptIn (now asks) «ask_count») × All (Carries kPiece) (held (keptIn (now bids) «bid_count»)) × All (Carries kPiece) (held (keptIn (now asks) «ask_count»)) ⌝ }
+    ensures { λ r. ⌜ r ≡ kChecksum (map shown (held (keptIn (now (bids .entry)) «bid_count»))) (map shown (held (keptIn (now (asks .entry)) «ask_count»))) ⌝ }
 {
     let after_asks = sum_levels(crc32::START, asks, 0, at_most(ask_count, K_LEVELS));
     sum_levels(after_asks, bids, 0, at_most(bid_count, K_LEVELS)) ^ crc32::START
@@ -82,8 +82,8 @@ pub fn m_checksum<'a>(
     asks: &'a [u64; MAX_WORDS],
     ask_count: usize,
 ) -> u32
-    requires { ⌜ Good Bids (record { words = now bids; count = «bid_count» }) × Good Asks (record { words = now asks; count = «ask_count» }) × All (Carries mPiece) (held (record { words = now bids; count = «bid_count» })) × All (Carries mPiece) (held (record { words = now asks; count = «ask_count» })) ⌝ }
-    ensures { λ r. ⌜ r ≡ mChecksum (map shown (held (record { words = now (bids .entry); count = «bid_count» }))) (map shown (held (record { words = now (asks .entry); count = «ask_count» }))) ⌝ }
+    requires { ⌜ Good Bids (keptIn (now bids) «bid_count») × Good Asks (keptIn (now asks) «ask_count») × All (Carries mPiece) (held (keptIn (now bids) «bid_count»)) × All (Carries mPiece) (held (keptIn (now asks) «ask_count»)) ⌝ }
+    ensures { λ r. ⌜ r ≡ mChecksum (map shown (held (keptIn (now (bids .entry)) «bid_count»))) (map shown (held (keptIn (now (asks .entry)) «ask_count»))) ⌝ }
 {
     if bid_count == 0 {
         if ask_count == 0 {

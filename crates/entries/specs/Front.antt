@@ -40,6 +40,13 @@ endIn (suc n) = At (suc n)
 abbrev pub RestEnd : List ℕ → ℕ → ℕ → Type 0
 RestEnd s at r = (n : ℕ) → length s ≤ n + at → itemsEnd (list (element (value elementDepth s)) closeArray s (suc n) false at) ≡ endIn r
 
+-- Where an entry of K ends whose second string ends at `at`: past a third string and whatever else its array has.
+unfoldable pub pastThird : List ℕ → ℕ → End
+pastThird s at = elim (string s at) [ At e ↦ itemsEnd (list (element (value elementDepth s)) closeArray s (suc (length s)) false e) | Broken ↦ Broken ]
+
+unfoldable pub restK : List ℕ → ℕ → End
+restK s at = elim (separator comma s at) [ At j ↦ pastThird s j | Broken ↦ Broken ]
+
 -- An entry whose two strings end at `at` ends at r, if r is not 0.
 abbrev pub EntryEnd : (List ℕ → Span → Reading Row) → List ℕ → ℕ → ℕ → Type 0
 EntryEnd entry s at r =

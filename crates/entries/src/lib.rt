@@ -34,7 +34,7 @@ ghost use Rattle.json.specs.Json.{value};
 ghost use Rattle.entries.specs.Rows.{entryDepth, entryK, entryM};
 ghost use Rattle.entries.specs.Summary.{foundOf, foundAt, noEntries, summaryAt};
 ghost use Rattle.entries.specs.Counting.{amountOf, isBadPrice, isBadSize, isZeroSize, Quoted, Laid, counted};
-ghost use Rattle.entries.specs.Front.{Front, RestEnd, EntryEnd};
+ghost use Rattle.entries.specs.Front.{Front, RestEnd, EntryEnd, restK};
 
 // How deep arrays and objects may nest in an array of entries, in an entry, and in an element of one.
 const ENTRIES_DEPTH: usize = 14;
@@ -377,7 +377,7 @@ fn refused(end: usize) -> Entries
 
 // Past the entry of dialect K whose second string ends at `at`, or 0 where what follows does not fit.
 pub fn k_rest_end(s: &[u8], at: usize) -> usize
-    ensures { λ r. ⌜ EntryEnd entryK (now (s .entry)) at r ⌝ }
+    ensures { λ r. ⌜ (r ≡ endOf (restK (now (s .entry)) at)) × EntryEnd entryK (now (s .entry)) at r ⌝ }
 {
     let third = comma_end(s, at);
     if third == 0 {

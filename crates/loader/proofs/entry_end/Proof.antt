@@ -33,7 +33,7 @@ k-rest-end-requires c κs = search needs
 returns-2 : tie.Need-returns-2
 returns-2 c =
     let a = c .before .before .before .args in
-    subst (λ (m : Bool). EntryEnd (entryFor m) (a .s .now) (a .at) (c .k-rest-end .result)) (sym (c .before .if1 .left)) (c .k-rest-end .ensures)
+    subst (λ (m : Bool). EntryEnd (entryFor m) (a .s .now) (a .at) (c .k-rest-end .result)) (sym (c .before .if1 .left)) (c .k-rest-end .ensures .1)
 
 pub entry-end-spec : {M : Type 1} → statement M
 entry-end-spec =

@@ -3,7 +3,7 @@
 use mathlib.Core.Path.{_≡_, refl, sym, ap, ap₂, _∙_, subst}
 use mathlib.Core.Bool.{Bool, true, false, _&&_, not}
 use mathlib.Core.List.{List, [], _∷_, _++_}
-use Prim.Native.Nat.{ℕ, zero, suc, _+_, _-_, _*_, _^_, _≤_, _<_, zero-le}
+use Prim.Native.Nat.{ℕ, zero, suc, _+_, _-_, _*_, _%_, _^_, _≤_, _<_, zero-le}
 use native.Mathlib.Nat.{not-suc-le-zero, zero-lt-suc, le-trans, pow-suc, mul-one, mul-assoc, mul-comm, mul-le-mul-left, mul-le-mul-right}
 use native.Mathlib.Omega.{arith}
 use native.Mathlib.Numerals.{add-one}
@@ -14,7 +14,8 @@ use lib.ListN.{length, getD, take, drop, drop-of-length-le, List·getD-eq-defaul
 use lib.Seq.{drop-cons, getD-drop, drop-drop, take-all, take-nil}
 use Rattle.decimal.specs.Digits.{Reading, reads, refused, isDigit, leading, valueFrom, valueOf}
 use Rattle.decimal.specs.Decimal.{isWhole, Number, Prefix, prefixed, fractional, pointed, prefix, read, maxWhole, maxDecimals, point}
-use Rattle.decimal.proofs.Digits.{leading-more, leading-stop, digit-in, tens}
+use Rattle.decimal.specs.Reads.{DigitOf}
+use Rattle.decimal.proofs.Digits.{leading-more, leading-stop, digit-in, is-digit, tens}
 
 -- ---- tests
 
@@ -37,6 +38,18 @@ low-digit {c} h = and-left (leb 48 c) (leb c 57) (lt-leb 48 c h)
 pub high-digit : {c : ℕ} → 57 < c → isDigit c ≡ false
 unfolding isDigit
 high-digit {c} h = and-right (leb 48 c) (leb c 57) (lt-leb c 57 h)
+
+-- a number that, with 48 added, wraps to a byte is what the byte is worth as a digit
+pub wrapped-digit : (c worth : ℕ) → worth < 2 ^ 64 → (worth + 48) % 2 ^ 64 ≡ c → DigitOf c worth
+wrapped-digit c worth small h = record { some = λ l. omega arith; none = λ g. elim (decLt c 48) [ yes l ↦ low-digit l | no l ↦ high-digit (omega arith) ] }
+
+pub digit-here : {c worth : ℕ} → DigitOf c worth → worth ≤ 9 → isDigit c ≡ true
+digit-here k l = let e = k .some l in is-digit (omega arith) (omega arith)
+
+-- past the end of a text
+pub no-digit-here : DigitOf 0 10
+unfolding isDigit
+no-digit-here = record { some = λ l. omega arith; none = λ g. refl }
 
 one-more : (v left : ℕ) → 0 < left → (v * 10 + 10) * 10 ^ (left - 1) ≡ (v + 1) * 10 ^ left
 one-more v zero p = absurd (not-suc-le-zero p)

@@ -7,7 +7,7 @@ ghost use lib.ListN.{length, getD, drop};
 ghost use Rattle.decimal.specs.Digits.{isDigit};
 ghost use Rattle.decimal.specs.Decimal.{read, prefix};
 ghost use Rattle.decimal.specs.Whole.{readWhole, readChecksum};
-ghost use Rattle.decimal.specs.Reads.{parsed, parsedFront, parsedWhole, parsedChecksum, Ran};
+ghost use Rattle.decimal.specs.Reads.{parsed, parsedFront, parsedWhole, parsedChecksum, Ran, DigitOf};
 use crate::Decimal;
 use crate::Parsed;
 use crate::ParsedChecksum;
@@ -134,14 +134,11 @@ fn digits_at(s: &[u8], at: usize, before: u64, most: usize) -> Run
     let mut end = at;
     let mut left = most;
     while 0 < left {
-        let c = byte_at(s, end);
-        if c < ZERO {
+        let digit = digit_at(s, end);
+        if 9 < digit {
             return Run { value, end };
         }
-        if NINE < c {
-            return Run { value, end };
-        }
-        value = value * 10 + digit_value(c);
+        value = value * 10 + digit;
         end += 1;
         left -= 1;
     }
@@ -178,9 +175,19 @@ fn is_digit(c: u8) -> bool
     true
 }
 
-fn digit_value(c: u8) -> u64
-    requires { ⌜ 48 ≤ c ⌝ }
-    ensures { λ r. ⌜ r ≡ c - 48 ⌝ }
+// The value of the digit at a position, and 10 or more where there is none.
+fn digit_at(s: &[u8], at: usize) -> u64
+    ensures { λ r. ⌜ DigitOf (getD (now (s .entry)) at 0) r ⌝ }
 {
-    (c - ZERO) as u64
+    if at < s.len() {
+        std::num::wrapping_sub_u64(wide(s[at]), ZERO as u64)
+    } else {
+        10
+    }
+}
+
+fn wide(x: u8) -> u64
+    ensures { λ r. ⌜ r ≡ x ⌝ }
+{
+    x as u64
 }

@@ -1,20 +1,20 @@
--- Why eight bytes of a string may be passed at once: the test on a word is a test on each of its bytes.
+-- Why up to eight bytes of a string may be passed at once: what is computed of a word is computed of each of its bytes, and those below the lowest mark stand for themselves.
 -- Assumes nothing.
 use mathlib.Core.Path.{_≡_, refl, sym, ap, _∙_}
 use mathlib.Core.List.{List, [], _∷_}
 use mathlib.Core.Bool.{Bool, true, false, true≢false, _&&_, _||_, not, and-eq-true-iff}
-use Prim.Native.Nat.{ℕ, zero, suc, _+_, _*_, _≤_, _<_}
+use Prim.Native.Nat.{ℕ, zero, suc, _+_, _*_, _/_, _%_, _^_, _≤_, _<_}
 use native.Mathlib.Decide.{decLt}
 use native.Mathlib.Omega.{arith}
-use lib.ListN.{length, drop}
-use lib.Bits.{bitAnd, bitOr, bitXor, and-zero-l, or-zero-l, xor-zero-l, and-block, or-block, xor-block, and-lt, or-lt, xor-lt, and-le-r}
+use lib.ListN.{length}
+use lib.Bits.{bitAnd, bitOr, bitXor, and-zero-l, or-zero-l, xor-zero-l, and-block, or-block, xor-block, and-lt, or-lt, xor-lt, and-le-r, shifted-half, shifted-even}
+use lib.Count.{trailingZeros, trailing-of-zero}
 use lib.Dec.{leb, eqb}
-use borrow.Author.Tests.{eqb-true, eqb-false, leb-true, not-true, eq-eqb, ne-eqb, le-leb}
+use borrow.Author.Tests.{eqb-true, eqb-false, leb-true, not-true, ne-eqb, le-leb}
 use Rattle.json_tokens.specs.Bytes.{byteAt, unescaped}
-use Rattle.json_tokens.specs.Tokens.{stringRest}
-use Rattle.json_tokens.specs.Words.{plain, twoAt, fourAt, wordAt, plainWord}
-use Rattle.json_tokens.proofs.Laws.{in-kind, run-on, run-stops, rest-plain}
-use Rattle.json_tokens.proofs.Bounds.{run-in}
+use Rattle.json_tokens.specs.Tokens.{Broken, stringRest}
+use Rattle.json_tokens.specs.Words.{twoAt, fourAt, wordAt, specialBytes, CharEnd}
+use Rattle.json_tokens.proofs.Laws.{in-kind, rest-plain}
 
 -- ---- bytes that stand for themselves
 module _ (c : ℕ) where
@@ -29,45 +29,13 @@ module _ (c : ℕ) where
       let q = and-eq-true-iff (not (eqb c 34)) _ .0 (p .1) in
       (leb-true 32 c (p .0), eqb-false c 34 (not-true _ (q .0)), eqb-false c 92 (not-true _ (q .1)))
 
-module _ (s : List ℕ) where
-  pub in-unescaped : (i : ℕ) → unescaped (byteAt s i) ≡ true → i < length s
+module _ (s : List ℕ) (i : ℕ) where
+  pub in-unescaped : unescaped (byteAt s i) ≡ true → i < length s
   unfolding unescaped
-  in-unescaped i h = in-kind unescaped refl s i h
+  in-unescaped h = in-kind unescaped refl s i h
 
-  pub plain-on : (i : ℕ) → unescaped (byteAt s i) ≡ true → plain s i ≡ plain s (i + 1)
-  unfolding plain unescaped
-  plain-on i h = run-on unescaped refl s i h
-
-  pub plain-stop : (i : ℕ) → unescaped (byteAt s i) ≡ false → plain s i ≡ i
-  unfolding plain unescaped
-  plain-stop i h = run-stops unescaped refl s i h
-
-  pub plain-from : (i : ℕ) → i ≤ plain s i
-  unfolding plain
-  plain-from i = run-in unescaped (drop i s) i .0
-
-  -- where they end, the string is the same, and a byte of another kind stands. n is at least what is left of the text
-  ended : (n i : ℕ) → length s ≤ i + n → (stringRest s i ≡ stringRest s (plain s i)) × (unescaped (byteAt s (plain s i)) ≡ false)
-  ended zero i l = go (unescaped (byteAt s i)) refl
-    where
-      go : (b : Bool) → unescaped (byteAt s i) ≡ b → (stringRest s i ≡ stringRest s (plain s i)) × (unescaped (byteAt s (plain s i)) ≡ false)
-      go true h = absurd (omega (arith, in-unescaped i h))
-      go false h = let p = plain-stop i h in (ap (stringRest s) (sym p), ap (λ k. unescaped (byteAt s k)) p ∙ h)
-  ended (suc n) i l = go (unescaped (byteAt s i)) refl (ended n (i + 1) (omega arith))
-    where
-      go : (b : Bool) → unescaped (byteAt s i) ≡ b → (stringRest s (i + 1) ≡ stringRest s (plain s (i + 1))) × (unescaped (byteAt s (plain s (i + 1))) ≡ false)
-          → (stringRest s i ≡ stringRest s (plain s i)) × (unescaped (byteAt s (plain s i)) ≡ false)
-      go true h ih =
-          let p = plain-on i h in
-          let u = unescaped-plain (byteAt s i) h in
-          (rest-plain s i (u .1) (u .2) (u .0) ∙ ih .0 ∙ ap (stringRest s) (sym p), ap (λ k. unescaped (byteAt s k)) p ∙ ih .1)
-      go false h ih = let p = plain-stop i h in (ap (stringRest s) (sym p), ap (λ k. unescaped (byteAt s k)) p ∙ h)
-
-  pub plain-rest : (i : ℕ) → stringRest s i ≡ stringRest s (plain s i)
-  plain-rest i = ended (length s) i (omega arith) .0
-
-  pub plain-ends : (i : ℕ) → unescaped (byteAt s (plain s i)) ≡ false
-  plain-ends i = ended (length s) i (omega arith) .1
+  pub rest-unescaped : unescaped (byteAt s i) ≡ true → stringRest s i ≡ stringRest s (i + 1)
+  rest-unescaped h = let u = unescaped-plain (byteAt s i) h in rest-plain s i (u .1) (u .2) (u .0)
 
 -- ---- a number of bytes, each changed by f; the first byte of the list is the lowest
 lanes : (ℕ → ℕ) → List ℕ → ℕ
@@ -103,19 +71,6 @@ module _ (f g : ℕ → ℕ) where
     lanes-xor [] none = xor-zero-l 0
     lanes-xor (b ∷ l) (byte c m h r) = xor-block 8 (lanes f l) (lanes g l) (f b) (g b) (p b h) (q b h) ∙ ap (λ x. x * 256 + bitXor (f b) (g b)) (lanes-xor l r)
 
--- two such numbers that are equal are equal byte by byte
-data Every (f g : ℕ → ℕ) : List ℕ → Type 0 where
-  no-more : Every f g []
-  and-then : (b : ℕ) (l : List ℕ) → f b ≡ g b → Every f g l → Every f g (b ∷ l)
-
-lanes-same : (f g : ℕ → ℕ) → Stays f → Stays g → (l : List ℕ) → Bytes l → lanes f l ≡ lanes g l → Every f g l
-unfolding lanes Stays
-lanes-same f g p q [] none h = no-more
-lanes-same f g p q (b ∷ l) (byte c m small r) h =
-    let x = p b small in
-    let y = q b small in
-    and-then b l (omega arith) (lanes-same f g p q l r (omega arith))
-
 -- ---- the test of a word, byte by byte
 lows : ℕ → ℕ
 lows b = bitAnd b 127
@@ -129,6 +84,9 @@ others c b = bitXor (lows b) c + 127
 tests : ℕ → ℕ
 tests b = bitAnd (bitOr (bitAnd (bitAnd (aboves b) (others 34 b)) (others 92 b)) b) 128
 
+marks : ℕ → ℕ
+marks b = bitXor (tests b) 128
+
 same : ℕ → ℕ
 same b = b
 
@@ -140,9 +98,6 @@ unfolding lows
 lows-small b = omega (arith, and-le-r b 127)
 
 module _ (l : List ℕ) (bytes : Bytes l) where
-  word : ℕ
-  word = lanes same l
-
   stays-always : (c : ℕ) → c < 256 → Stays (always c)
   unfolding Stays always
   stays-always c h b s = h
@@ -216,7 +171,16 @@ module _ (l : List ℕ) (bytes : Bytes l) where
       ∙ ap (λ x. bitAnd x (lanes (always 128) l)) (lanes-or (λ b. bitAnd (bitAnd (aboves b) (others 34 b)) (others 92 b)) same stays-all stays-same l bytes)
       ∙ lanes-and (λ b. bitOr (bitAnd (bitAnd (aboves b) (others 34 b)) (others 92 b)) b) (always 128) stays-or (stays-always 128 (omega arith)) l bytes
 
--- ---- a byte that passes the test stands for itself: computed for each of the 256
+  is-marks :
+      bitXor (bitAnd (bitOr (bitAnd
+      (bitAnd (bitAnd (lanes same l) (lanes (always 127) l) + lanes (always 96) l)
+      (bitXor (bitAnd (lanes same l) (lanes (always 127) l)) (lanes (always 34) l) + lanes (always 127) l))
+      (bitXor (bitAnd (lanes same l) (lanes (always 127) l)) (lanes (always 92) l) + lanes (always 127) l)) (lanes same l)) (lanes (always 128) l)) (lanes (always 128) l)
+      ≡ lanes marks l
+  unfolding marks always
+  is-marks = ap (λ x. bitXor x (lanes (always 128) l)) is-tests ∙ lanes-xor tests (always 128) stays-tests (stays-always 128 (omega arith)) l bytes
+
+-- ---- a byte is marked by its high bit or stands for itself: computed for each of the 256
 all-below : ℕ → (ℕ → Bool) → Bool
 all-below zero p = true
 all-below (suc n) p = p n && all-below n p
@@ -230,70 +194,102 @@ below-at (suc n) p h k l = go (and-eq-true-iff (p n) (all-below n p) .0 h) (λ r
     go h f = elim (decLt k n) [ yes m ↦ f (h .1) m | no m ↦ let e : k ≡ n = omega arith in ap p e ∙ h .0 ]
 
 tells : ℕ → Bool
-tells b = not (eqb (tests b) 128) || unescaped b
+tells b = eqb (marks b) 128 || (eqb (marks b) 0 && unescaped b)
 
 all-tell : all-below 256 tells ≡ true
-unfolding all-below tells tests aboves others lows unescaped
+unfolding all-below tells marks tests aboves others lows unescaped
 all-tell = refl
 
-test-plain : (b : ℕ) → b < 256 → tests b ≡ 128 → unescaped b ≡ true
+by-mark : {A : Type 0} (b : ℕ) → b < 256 → (marks b ≡ 128 → A) → (marks b ≡ 0 → unescaped b ≡ true → A) → A
 unfolding tells
-test-plain b s h = sym (rw (eq-eqb (tests b) 128 h)) ∙ below-at 256 tells all-tell b s
+by-mark {A} b small f g = go (eqb (marks b) 128) refl (below-at 256 tells all-tell b small)
+  where
+    go : (x : Bool) → eqb (marks b) 128 ≡ x → (x || (eqb (marks b) 0 && unescaped b)) ≡ true → A
+    go true e h = f (eqb-true (marks b) 128 e)
+    go false e h = let p = and-eq-true-iff (eqb (marks b) 0) (unescaped b) .0 h in g (eqb-true (marks b) 0 (p .0)) (p .1)
 
--- ---- eight bytes of a text whose numbers are bytes
-here : {f g : ℕ → ℕ} {b : ℕ} {l : List ℕ} → Every f g (b ∷ l) → f b ≡ g b
-here (and-then b l h r) = h
+-- ---- the zeros below the lowest mark
+trailing-up : (d k a : ℕ) → trailingZeros (d + k) (a * 2 ^ d) ≡ d + trailingZeros k a
+unfolding trailingZeros
+trailing-up zero k a =
+    let p : 0 + k ≡ k = omega arith in
+    let q : a * 2 ^ 0 ≡ a = omega arith in
+    rw (p, q) (omega arith)
+trailing-up (suc d) k a =
+    let h = trailing-up d k a in
+    let p : suc d + k ≡ suc (d + k) = omega arith in
+    rw (p, shifted-half a d, shifted-even a d) (omega arith)
 
-rest : {f g : ℕ → ℕ} {b : ℕ} {l : List ℕ} → Every f g (b ∷ l) → Every f g l
-rest (and-then b l h r) = r
+-- a byte with no mark has eight zeros, and one with a mark has seven
+unmarked : (k a : ℕ) → trailingZeros (8 + k) (a * 256 + 0) ≡ 8 + trailingZeros k a
+unmarked k a =
+    let p : a * 256 + 0 ≡ a * 256 = omega arith in
+    rw p (trailing-up 8 k a)
 
-module _ (s : List ℕ) (small : (k : ℕ) → byteAt s k < 256) (i : ℕ) where
-  eight : List ℕ
-  eight =
-      byteAt s i ∷ byteAt s (i + 1) ∷ byteAt s (i + 2) ∷ byteAt s (i + 2 + 1)
-      ∷ byteAt s (i + 4) ∷ byteAt s (i + 4 + 1) ∷ byteAt s (i + 4 + 2) ∷ byteAt s (i + 4 + 2 + 1) ∷ []
+marked : (k a : ℕ) → trailingZeros (8 + k) (a * 256 + 128) ≡ 7
+unfolding trailingZeros
+marked k a =
+    let p : 8 + k ≡ 7 + suc k = omega arith in
+    let q : a * 256 + 128 ≡ (a * 2 + 1) * 128 = omega arith in
+    let r : (a * 2 + 1) % 2 ≡ 1 = omega arith in
+    rw (p, q) (trailing-up 7 (suc k) (a * 2 + 1) ∙ rw r)
 
-  eight-bytes : Bytes eight
-  unfolding eight
-  eight-bytes =
-      byte _ _ (small _) (byte _ _ (small _) (byte _ _ (small _) (byte _ _ (small _)
-      (byte _ _ (small _) (byte _ _ (small _) (byte _ _ (small _) (byte _ _ (small _) none)))))))
+-- ---- a text whose numbers are bytes: l is what it holds from i on
+module _ (s : List ℕ) (small : (k : ℕ) → byteAt s k < 256) where
+  data Holds : ℕ → List ℕ → Type 0 where
+    no-byte : (i : ℕ) → Holds i []
+    a-byte : (i j : ℕ) (l : List ℕ) → i + 1 ≡ j → Holds j l → Holds i (byteAt s i ∷ l)
 
-  eight-word : wordAt s i ≡ lanes same eight
-  unfolding eight lanes same wordAt fourAt twoAt
-  eight-word = omega arith
+  held-bytes : {i : ℕ} {l : List ℕ} → Holds i l → Bytes l
+  held-bytes (no-byte i) = none
+  held-bytes (a-byte i j l e h) = byte (byteAt s i) l (small i) (held-bytes h)
 
-  all-pass : plainWord (wordAt s i) ≡ true →
-      bitAnd (bitOr (bitAnd
-      (bitAnd (bitAnd (lanes same eight) (lanes (always 127) eight) + lanes (always 96) eight)
-      (bitXor (bitAnd (lanes same eight) (lanes (always 127) eight)) (lanes (always 34) eight) + lanes (always 127) eight))
-      (bitXor (bitAnd (lanes same eight) (lanes (always 127) eight)) (lanes (always 92) eight) + lanes (always 127) eight)) (lanes same eight)) (lanes (always 128) eight)
-      ≡ lanes (always 128) eight
-  unfolding eight lanes always plainWord
-  all-pass h = eqb-true _ _ (rw eight-word at h)
+  width : List ℕ → ℕ
+  width [] = 0
+  width (b ∷ l) = 8 + width l
 
-  passes : plainWord (wordAt s i) ≡ true → Every tests (always 128) eight
-  passes h = lanes-same tests (always 128) (stays-tests eight eight-bytes) (stays-always eight eight-bytes 128 (omega arith)) eight eight-bytes (sym (is-tests eight eight-bytes) ∙ all-pass h)
+  -- the bytes below the lowest mark stand for themselves
+  rest-marked : {i : ℕ} {l : List ℕ} → Holds i l → stringRest s (i + trailingZeros (width l) (lanes marks l) / 8) ≡ stringRest s i
+  unfolding width lanes
+  rest-marked (no-byte i) = ap (stringRest s) (omega (arith, trailing-of-zero 0))
+  rest-marked (a-byte i j l e h) =
+      by-mark (byteAt s i) (small i)
+      (λ m. let z = marked (width l) (lanes marks l) in rw m (ap (stringRest s) (omega arith)))
+      (λ m u.
+      let z = unmarked (width l) (lanes marks l) in
+      let p : i + trailingZeros (8 + width l) (lanes marks l * 256 + 0) / 8 ≡ j + trailingZeros (width l) (lanes marks l) / 8 = omega arith in
+      rw m (ap (stringRest s) p ∙ rest-marked h ∙ ap (stringRest s) (sym e) ∙ sym (rest-unescaped s i u)))
 
-  on : (k j : ℕ) → k + 1 ≡ j → tests (byteAt s k) ≡ 128 → plain s k ≡ plain s j
-  on k j e h = plain-on s k (test-plain (byteAt s k) (small k) h) ∙ ap (plain s) e
+  module _ (i : ℕ) where
+    eight : List ℕ
+    eight =
+        byteAt s i ∷ byteAt s (i + 1) ∷ byteAt s (i + 2) ∷ byteAt s (i + 2 + 1)
+        ∷ byteAt s (i + 4) ∷ byteAt s (i + 4 + 1) ∷ byteAt s (i + 4 + 2) ∷ byteAt s (i + 4 + 2 + 1) ∷ []
 
-  pub plain-word : plainWord (wordAt s i) ≡ true → plain s i ≡ plain s (i + 8)
-  unfolding eight always
-  plain-word h =
-      let a = passes h in
-      let b = rest a in
-      let c = rest b in
-      let d = rest c in
-      let e = rest d in
-      let f = rest e in
-      let g = rest f in
-      let k = rest g in
-      on i (i + 1) refl (here a)
-      ∙ on (i + 1) (i + 2) (omega arith) (here b)
-      ∙ on (i + 2) (i + 2 + 1) refl (here c)
-      ∙ on (i + 2 + 1) (i + 4) (omega arith) (here d)
-      ∙ on (i + 4) (i + 4 + 1) refl (here e)
-      ∙ on (i + 4 + 1) (i + 4 + 2) (omega arith) (here f)
-      ∙ on (i + 4 + 2) (i + 4 + 2 + 1) refl (here g)
-      ∙ on (i + 4 + 2 + 1) (i + 8) (omega arith) (here k)
+    eight-held : Holds i eight
+    unfolding eight
+    eight-held =
+        a-byte i (i + 1) _ refl (a-byte (i + 1) (i + 2) _ (omega arith)
+        (a-byte (i + 2) (i + 2 + 1) _ refl (a-byte (i + 2 + 1) (i + 4) _ (omega arith)
+        (a-byte (i + 4) (i + 4 + 1) _ refl (a-byte (i + 4 + 1) (i + 4 + 2) _ (omega arith)
+        (a-byte (i + 4 + 2) (i + 4 + 2 + 1) _ refl (a-byte (i + 4 + 2 + 1) (i + 8) _ (omega arith) (no-byte (i + 8)))))))))
+
+    eight-word : wordAt s i ≡ lanes same eight
+    unfolding eight lanes same wordAt fourAt twoAt
+    eight-word = omega arith
+
+    eight-marks : specialBytes (lanes same eight) ≡ lanes marks eight
+    unfolding eight lanes always specialBytes
+    eight-marks = is-marks eight (held-bytes eight-held)
+
+    pub rest-special : stringRest s (i + trailingZeros 64 (specialBytes (wordAt s i)) / 8) ≡ stringRest s i
+    unfolding eight width
+    rest-special = ap (λ m. stringRest s (i + trailingZeros 64 m / 8)) (ap specialBytes eight-word ∙ eight-marks) ∙ rest-marked eight-held
+
+-- ---- where a character ends
+module _ (s : List ℕ) (i : ℕ) where
+  pub char-none : ((byteAt s i ≡ 34 → ⊥) → stringRest s i ≡ Broken) → CharEnd s i 0
+  char-none h = record { none = λ e n. h n; some = λ n. absurd (n refl) }
+
+  pub char-some : (r : ℕ) → i < r → r ≤ length s → stringRest s i ≡ stringRest s r → CharEnd s i r
+  char-some r l h p = record { none = λ e n. absurd (omega arith); some = λ n. (l, h, p) }

@@ -1,17 +1,12 @@
--- Eight bytes of a string at once. The code alone leans on this: what a string is says `Tokens`.
+-- Eight bytes of a string at once, and one character of it. The code alone leans on these: what a string is says `Tokens`.
 -- Assumes nothing: these are definitions.
-use Prim.Native.Nat.{ℕ, _+_, _*_}
+use mathlib.Core.Path.{_≡_}
+use Prim.Native.Nat.{ℕ, _+_, _*_, _≤_, _<_}
 use mathlib.Core.List.{List}
-use mathlib.Core.Bool.{Bool}
-use lib.ListN.{drop}
+use lib.ListN.{length}
 use lib.Bits.{bitAnd, bitOr, bitXor}
-use lib.Dec.{eqb}
-use Rattle.json_tokens.specs.Bytes.{byteAt, unescaped}
-use Rattle.json_tokens.specs.Tokens.{run}
-
--- the position past the bytes that stand for themselves
-unfoldable pub plain : List ℕ → ℕ → ℕ
-plain s i = run unescaped (drop i s) i
+use Rattle.json_tokens.specs.Bytes.{byteAt, quote}
+use Rattle.json_tokens.specs.Tokens.{Broken, stringRest}
 
 -- two, four and eight bytes from i on as one number, the first the lowest
 unfoldable pub twoAt : List ℕ → ℕ → ℕ
@@ -39,11 +34,11 @@ quotes = 2459565876494606882
 abbrev pub backslashes : ℕ
 backslashes = 6655295901103053916
 
--- The high bit of each byte is set where the byte is 128 or more, or where its low seven bits are at least 32 and neither a quote nor a backslash:
--- 96 more reaches 128 from 32 on, and 127 more reaches it from 1 on.
-unfoldable pub plainWord : ℕ → Bool
-plainWord x =
-    eqb
+-- A mark, the high bit, for each byte that does not stand for itself. A byte does where it is 128 or more, or where its low seven bits are at
+-- least 32 and neither a quote nor a backslash: 96 more reaches 128 from 32 on, and 127 more reaches it from 1 on.
+unfoldable pub specialBytes : ℕ → ℕ
+specialBytes x =
+    bitXor
     (bitAnd
     (bitOr
     (bitAnd
@@ -52,3 +47,8 @@ plainWord x =
     x)
     high)
     high
+
+-- r is where the character of a string at i ends, which is no quote, and 0 if none stands there.
+pub record CharEnd (s : List ℕ) (i r : ℕ) : Type 0 where
+  pub none : r ≡ 0 → (byteAt s i ≡ quote → ⊥) → stringRest s i ≡ Broken
+  pub some : (r ≡ 0 → ⊥) → (i < r) × (r ≤ length s) × (stringRest s i ≡ stringRest s r)

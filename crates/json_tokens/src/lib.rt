@@ -12,7 +12,7 @@ ghost use Prim.Native.Nat.{_+_, _≤_, _<_};
 ghost use lib.ListN.{length};
 ghost use Rattle.json_tokens.specs.Bytes.{byteAt, comma, colon, closeArray, closeObject, blank, digit, hexDigit, escaped, unescaped};
 ghost use Rattle.json_tokens.specs.Tokens.{endOf, blanks, digits, someDigits, closing, separator, stringRest, string, fourHex, minus, sign, int, fraction, exponent, number, word, scalar, ended};
-ghost use Rattle.json_tokens.specs.Words.{plain, twoAt, fourAt, wordAt, plainWord};
+ghost use Rattle.json_tokens.specs.Words.{twoAt, fourAt, wordAt, specialBytes, CharEnd};
 
 pub const QUOTE: u8 = 34;
 
@@ -258,89 +258,80 @@ const QUOTES: u64 = 2459565876494606882;
 
 const BACKSLASHES: u64 = 6655295901103053916;
 
-// Whether each of the eight bytes of x stands for itself in a string.
-fn is_plain_word(x: u64) -> bool
-    ensures { λ r. ⌜ r ≡ plainWord x ⌝ }
+// The high bit of each byte of x that does not stand for itself in a string.
+fn special_bytes(x: u64) -> u64
+    ensures { λ r. ⌜ r ≡ specialBytes x ⌝ }
 {
     let low = x & LOW;
     let above = low + GAP;
     let no_quote = (low ^ QUOTES) + LOW;
     let no_backslash = (low ^ BACKSLASHES) + LOW;
-    if (((above & no_quote & no_backslash) | x) & HIGH) == HIGH {
-        true
-    } else {
-        false
-    }
+    (((above & no_quote & no_backslash) | x) & HIGH) ^ HIGH
 }
 
-// Past bytes that stand for themselves, eight at a time, up to eight that do not all.
-fn skip_plain_words(s: &[u8], at: usize) -> usize
-    ensures { λ r. ⌜ plain (now (s .entry)) r ≡ plain (now (s .entry)) at ⌝ }
+// Past bytes that stand for themselves, eight at a time, up to the first that does not or to the last seven of the text.
+fn skip_plain(s: &[u8], at: usize) -> usize
+    requires { ⌜ at ≤ length (now s) ⌝ }
+    ensures { λ r. ⌜ stringRest (now (s .entry)) r ≡ stringRest (now (s .entry)) at ⌝ }
 {
     let mut i = at;
-    loop {
-        if s.len() < 8 {
-            return i;
+    while i + 8 <= s.len() {
+        let special = special_bytes(word_at(s, i));
+        if special != 0 {
+            return i + (u64::trailing_zeros(special) >> 3) as usize;
         }
-        if s.len() - 8 < i {
-            return i;
-        }
-        if is_plain_word(word_at(s, i)) {
-            i += 8;
-        } else {
-            return i;
-        }
-    }
-}
-
-// Past the bytes that stand for themselves, of which there may be none.
-fn skip_plain(s: &[u8], at: usize) -> usize
-    ensures { λ r. ⌜ r ≡ plain (now (s .entry)) at ⌝ }
-{
-    let mut i = skip_plain_words(s, at);
-    while is_unescaped(byte_at(s, i)) {
-        i += 1;
+        i += 8;
     }
     i
 }
 
-// Past a string, from past its first quote.
+// Past the character of a string at i, one byte or an escape, and 0 if none stands there. A quote is none.
+fn char_end(s: &[u8], i: usize) -> usize
+    ensures { λ r. ⌜ CharEnd (now (s .entry)) i r ⌝ }
+{
+    let c = byte_at(s, i);
+    if is_unescaped(c) {
+        return i + 1;
+    }
+    if c != BACKSLASH {
+        return 0;
+    }
+    let d = byte_at(s, i + 1);
+    if d == 117 {
+        if is_four_hex(s, i + 2) { i + 6 } else { 0 }
+    } else {
+        if is_escaped(d) { i + 2 } else { 0 }
+    }
+}
+
+// Past a string, from past its first quote, a character at a time.
 fn string_rest_end(s: &[u8], at: usize) -> usize
     ensures { λ r. ⌜ r ≡ endOf (stringRest (now (s .entry)) at) ⌝ }
 {
     let mut i = at;
     loop {
-        let k = skip_plain(s, i);
-        let c = byte_at(s, k);
-        if c == QUOTE {
-            return k + 1;
+        if byte_at(s, i) == QUOTE {
+            return i + 1;
         }
-        if c != BACKSLASH {
+        let k = char_end(s, i);
+        if k == 0 {
             return 0;
         }
-        let d = byte_at(s, k + 1);
-        if d == 117 {
-            if is_four_hex(s, k + 2) {
-                i = k + 6;
-            } else {
-                return 0;
-            }
-        } else {
-            if is_escaped(d) {
-                i = k + 2;
-            } else {
-                return 0;
-            }
-        }
+        i = k;
     }
 }
 
-// Past a string, quotes included.
+// Past a string, quotes included. Most have no escape, and end where `skip_plain` stops.
 pub fn string_end(s: &[u8], at: usize) -> usize
     ensures { λ r. ⌜ r ≡ endOf (string (now (s .entry)) at) ⌝ }
 {
     if byte_at(s, at) == QUOTE {
-        string_rest_end(s, at + 1)
+        let k = skip_plain(s, at + 1);
+        if byte_at(s, k) == QUOTE {
+            k + 1
+        } else {
+            string_rest_end(s, k)
+        }
     } else {
         0
     }

@@ -1,58 +1,72 @@
--- `json_tokens::skip_plain` meets its contract: wherever the loop stands, the bytes that stand for themselves end where they do from the beginning.
+-- `json_tokens::skip_plain` meets its contract: wherever the loop stands, the string from there ends where it does from `at` on, since the bytes of a word below its lowest mark stand for themselves.
 -- Assumes nothing.
-use Prim.Native.Nat.{_-_}
+use Prim.Native.Nat.{_+_, _-_, _/_, _≤_, _<_, ℕ}
 use borrow.Author.Needs.{needs}
 use denote.Ref.{now}
-use lib.ListN.{length}
-use mathlib.Core.Path.{_∙_, _≡_, ap, sym}
+use lib.Count.{trailingZeros, trailing-le, trailing-of-zero}
+use lib.ListN.{getD, length}
+use mathlib.Core.List.{List}
+use mathlib.Core.Path.{_∙_, _≡_, ap, refl}
 use native.Mathlib.Omega.{arith}
-use Rattle.json_tokens.proofs.Words.{in-unescaped, plain-on, plain-stop}
-use Rattle.json_tokens.specs.Bytes.{unescaped}
-use Rattle.json_tokens.specs.Words.{plain}
+use Rattle.json_tokens.proofs.Words.{rest-special}
+use Rattle.json_tokens.specs.Bytes.{byteAt}
+use Rattle.json_tokens.specs.Tokens.{stringRest}
+use Rattle.json_tokens.specs.Words.{specialBytes, wordAt}
 use Rattle.json_tokens.proofs.skip_plain.Statement.{statement}
 use Rattle.json_tokens.proofs.skip_plain.Tie as tie
 
 abbrev Inv-loop : tie.InvT-loop
-Inv-loop s at i₀ i = plain s i ≡ plain s at
+Inv-loop s at i₀ i = (i ≤ length s) × (stringRest s i ≡ stringRest s at)
 
 abbrev μ-loop : tie.MeasureT-loop
 μ-loop s at i₀ i = length s - i
 
-skip-plain-words-requires : tie.Need-skip-plain-words-requires Inv-loop μ-loop
-skip-plain-words-requires c κs = search needs
+-- past the bytes of a word below its lowest mark
+past : (s : List ℕ) → ((k : ℕ) → getD s k 0 < 256) → (i w m : ℕ) → w ≡ wordAt s i → m ≡ specialBytes w → stringRest s (i + trailingZeros 64 m / 8) ≡ stringRest s i
+unfolding byteAt
+past s small i w m e f = ap (λ n. stringRest s (i + trailingZeros 64 n / 8)) (f ∙ ap specialBytes e) ∙ rest-special s small i
 
 loop-holds : tie.Need-loop-holds Inv-loop μ-loop
-loop-holds c = c .skip-plain-words .ensures
+loop-holds c = (omega arith, refl)
 
-byte-at-requires : tie.Need-byte-at-requires Inv-loop μ-loop
-byte-at-requires c κs = search needs
+add-loop : tie.Need-add-loop Inv-loop μ-loop
+add-loop c = omega arith
 
-is-unescaped-requires : tie.Need-is-unescaped-requires Inv-loop μ-loop
-is-unescaped-requires c κs = search needs
+word-at-requires : tie.Need-word-at-requires Inv-loop μ-loop
+word-at-requires c κs = search needs
 
-add-i : tie.Need-add-i Inv-loop μ-loop
-add-i c =
-    let s = now (c .before .before .before .before .before .before .args .s) in
-    let i = c .before .before .before .loop .i in
-    omega (arith, in-unescaped s i (ap unescaped (sym (c .before .before .byte-at .ensures)) ∙ sym (c .before .is-unescaped .ensures) ∙ c .if1 .taken))
+special-bytes-requires : tie.Need-special-bytes-requires Inv-loop μ-loop
+special-bytes-requires c κs = search needs
 
-loop-less : tie.Need-loop-less Inv-loop μ-loop
-loop-less c =
-    let s = now (c .before .before .before .before .before .before .args .s) in
-    let i = c .before .before .before .loop .i in
-    omega (arith, in-unescaped s i (ap unescaped (sym (c .before .before .byte-at .ensures)) ∙ sym (c .before .is-unescaped .ensures) ∙ c .if1 .taken))
+cast-result : tie.Need-cast-result Inv-loop μ-loop
+cast-result c = omega (arith, trailing-le 64 (c .before .special-bytes .result))
 
-loop-again : tie.Need-loop-again Inv-loop μ-loop
-loop-again c =
-    let s = now (c .before .before .before .before .before .before .args .s) in
-    let i = c .before .before .before .loop .i in
-    sym (plain-on s i (ap unescaped (sym (c .before .before .byte-at .ensures)) ∙ sym (c .before .is-unescaped .ensures) ∙ c .if1 .taken)) ∙ c .before .before .before .loop .inv
+add-result : tie.Need-add-result Inv-loop μ-loop
+add-result c = omega (arith, trailing-le 64 (c .before .special-bytes .result))
 
 returns : tie.Need-returns Inv-loop μ-loop
 returns c =
     let s = now (c .before .before .before .before .before .before .args .s) in
-    let i = c .before .before .before .loop .i in
-    sym (plain-stop s i (ap unescaped (sym (c .before .before .byte-at .ensures)) ∙ sym (c .before .is-unescaped .ensures) ∙ c .if1 .left)) ∙ c .before .before .before .loop .inv
+    let i = c .before .before .before .before .loop .i in
+    let p = past s (λ k. omega (arith, c .before .before .before .before .before .shared-slice-known .given k)) i (c .before .before .word-at .result) (c .before .special-bytes .result) (c .before .before .word-at .ensures) (c .before .special-bytes .ensures) in
+    p ∙ c .before .before .before .before .loop .inv .1
+
+add-i : tie.Need-add-i Inv-loop μ-loop
+add-i c = omega arith
+
+loop-less : tie.Need-loop-less Inv-loop μ-loop
+loop-less c = omega arith
+
+loop-again : tie.Need-loop-again Inv-loop μ-loop
+loop-again c =
+    let s = now (c .before .before .before .before .before .before .args .s) in
+    let i = c .before .before .before .before .loop .i in
+    let p = past s (λ k. omega (arith, c .before .before .before .before .before .shared-slice-known .given k)) i (c .before .before .word-at .result) (c .before .special-bytes .result) (c .before .before .word-at .ensures) (c .before .special-bytes .ensures) in
+    let z : 8 ≡ trailingZeros 64 (c .before .special-bytes .result) / 8 = omega (arith, ap (trailingZeros 64) (c .if1 .left), trailing-of-zero 64) in
+    (omega arith, ap (λ k. stringRest s (i + k)) z ∙ p ∙ c .before .before .before .before .loop .inv .1)
+
+returns-2 : tie.Need-returns-2 Inv-loop μ-loop
+returns-2 c = c .before .loop .inv .1
 
 pub skip-plain-spec : {M : Type 1} → statement M
 skip-plain-spec =
@@ -60,11 +74,14 @@ skip-plain-spec =
     (tie.spec
     Inv-loop
     μ-loop
-    skip-plain-words-requires
     loop-holds
-    byte-at-requires
-    is-unescaped-requires
+    add-loop
+    word-at-requires
+    special-bytes-requires
+    cast-result
+    add-result
+    returns
     add-i
     loop-less
     loop-again
-    returns)
+    returns-2)

@@ -1,10 +1,10 @@
--- `json_tokens::string_end` meets its contract: the first byte decides.
+-- `json_tokens::string_end` meets its contract: the first byte decides, and past bytes that stand for themselves the string ends where it did.
 -- Assumes nothing.
 use borrow.Author.Needs.{needs}
 use denote.Ref.{now}
 use mathlib.Core.Path.{_∙_, ap, sym}
 use native.Mathlib.Omega.{arith}
-use Rattle.json_tokens.proofs.Laws.{end-none, in-byte, string-no, string-yes}
+use Rattle.json_tokens.proofs.Laws.{end-is, end-none, in-byte, rest-quote, string-no, string-yes}
 use Rattle.json_tokens.specs.Tokens.{endOf}
 use Rattle.json_tokens.proofs.string_end.Statement.{statement}
 use Rattle.json_tokens.proofs.string_end.Tie as tie
@@ -12,25 +12,51 @@ use Rattle.json_tokens.proofs.string_end.Tie as tie
 byte-at-requires : tie.Need-byte-at-requires
 byte-at-requires c κs = search needs
 
-add-string-rest-end : tie.Need-add-string-rest-end
-add-string-rest-end c =
+add-skip-plain : tie.Need-add-skip-plain
+add-skip-plain c =
     let a = c .before .before .before .args in
     let s = now (a .s) in
     let i = a .at in
     omega (arith, in-byte s i 34 (omega arith) (sym (c .before .byte-at .ensures) ∙ c .if1 .taken))
+
+skip-plain-requires : tie.Need-skip-plain-requires
+skip-plain-requires c κs =
+    let a = c .before .before .before .args in
+    let s = now (a .s) in
+    let i = a .at in
+    omega (arith, in-byte s i 34 (omega arith) (sym (c .before .byte-at .ensures) ∙ c .if1 .taken))
+
+byte-at-requires-2 : tie.Need-byte-at-requires-2
+byte-at-requires-2 c κs = search needs
+
+add-result : tie.Need-add-result
+add-result c =
+    let s = now (c .before .before .before .before .before .before .args .s) in
+    let k = c .before .before .skip-plain .result in
+    omega (arith, in-byte s k 34 (omega arith) (sym (c .before .byte-at2 .ensures) ∙ c .if2 .taken))
 
 string-rest-end-requires : tie.Need-string-rest-end-requires
 string-rest-end-requires c κs = search needs
 
 returns : tie.Need-returns
 returns c =
-    let a = c .before .before .before .before .args in
+    let a = c .before .before .before .before .before .before .args in
     let s = now (a .s) in
     let i = a .at in
-    c .string-rest-end .ensures ∙ sym (ap endOf (string-yes s i (sym (c .before .before .byte-at .ensures) ∙ c .before .if1 .taken)))
+    let k = c .before .before .skip-plain .result in
+    end-is (rest-quote s k (sym (c .before .byte-at2 .ensures) ∙ c .if2 .taken))
+    ∙ ap endOf (c .before .before .skip-plain .ensures ∙ sym (string-yes s i (sym (c .before .before .before .before .byte-at .ensures) ∙ c .before .before .before .if1 .taken)))
 
 returns-2 : tie.Need-returns-2
 returns-2 c =
+    let a = c .before .before .before .before .before .before .before .args in
+    let s = now (a .s) in
+    let i = a .at in
+    c .string-rest-end .ensures
+    ∙ ap endOf (c .before .before .before .skip-plain .ensures ∙ sym (string-yes s i (sym (c .before .before .before .before .before .byte-at .ensures) ∙ c .before .before .before .before .if1 .taken)))
+
+returns-3 : tie.Need-returns-3
+returns-3 c =
     let a = c .before .before .before .args in
     let s = now (a .s) in
     let i = a .at in
@@ -39,4 +65,13 @@ returns-2 c =
 pub string-end-spec : {M : Type 1} → statement M
 string-end-spec =
     tie.close
-    (tie.spec byte-at-requires add-string-rest-end string-rest-end-requires returns returns-2)
+    (tie.spec
+    byte-at-requires
+    add-skip-plain
+    skip-plain-requires
+    byte-at-requires-2
+    add-result
+    string-rest-end-requires
+    returns
+    returns-2
+    returns-3)

@@ -1,17 +1,20 @@
 """Writes the crates of the CRC-32's tables, code and proofs:  python3 tools/crc32_tables.py
 
 An entry is two states in one number: four bits in the highest byte of a state, in its upper half and in its lower, moved by k bytes.
-Table t has the rows k = 29 * t to 29 * t + 31, so that eight look-ups in it move a state by 29 * t to 29 * t + 28 bytes.
+Table t has the rows k = 16 * t to 16 * t + 31, and eight look-ups in its first 19 move a state by 16 * t to 16 * t + 15 bytes. The other
+rows are there so that no four bits and no length below 16 make a key past the last, whatever their sum: the look-up then tests none.
 """
 import os
 
 POLYNOMIAL = 0xEDB88320
 ROWS = 32
-LENGTHS = ROWS - 3
+LENGTHS = 16
 # crate -> its tables
 CRATES = {
     "crc32_tables": range(0, 2),
-    "crc32_tables_far": range(2, 4),
+    "crc32_tables_mid": range(2, 4),
+    "crc32_tables_far": range(4, 6),
+    "crc32_tables_end": range(6, 8),
 }
 
 
@@ -31,7 +34,7 @@ def source(tables):
 // A table is a function of a key, {ROWS} rows of sixteen entries: the key's upper half counts the rows from the table's first,
 // and its lower half are the four bits that are moved. An entry is two states in one number, for the upper half of a byte and the lower.
 // A `match` becomes a table in constant memory, where a `const` array would be built anew at each use;
-// and a table that is called at one place only, in a loop, is inlined there. The remainder of a key is the key:
+// and a table that is called at one place only, in a loop, is inlined there. The remainder of a length is the length:
 // it says that no key is past the last, so that the look-up tests none.
 ghost use mathlib.Core.Path.{{_≡_}};
 ghost use Prim.Native.Nat.{{_+_, _*_, _<_}};
@@ -63,7 +66,7 @@ pub fn moved{t}(s: u32, n: u64) -> u32
     let mut sum: u32 = 0;
     let mut j: u64 = 0;
     while j < 8 {{
-        sum ^= half(rows{t}(((n + 3 - j / 2) * 16 + four_bits(s, j)) % {16 * ROWS}), j);
+        sum ^= half(rows{t}((n % {LENGTHS} + 3 - j / 2) * 16 + four_bits(s, j)), j);
         j += 1;
     }}
     sum

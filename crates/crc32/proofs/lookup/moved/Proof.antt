@@ -11,13 +11,25 @@ returns : tie.Need-returns
 returns c = in-table 0 (c .before .before .args .n) (c .before .before .args .n) (c .before .before .args .s) _ (omega arith) (c .moved0 .ensures)
 
 returns-2 : tie.Need-returns-2
-returns-2 c = in-table 29 (c .before .before .before .args .n - 29) (c .before .before .before .args .n) (c .before .before .before .args .s) _ (omega arith) (c .moved1 .ensures)
+returns-2 c = in-table 16 (c .before .before .before .args .n - 16) (c .before .before .before .args .n) (c .before .before .before .args .s) _ (omega arith) (c .moved1 .ensures)
 
 returns-3 : tie.Need-returns-3
-returns-3 c = in-table 58 (c .before .before .before .before .args .n - 58) (c .before .before .before .before .args .n) (c .before .before .before .before .args .s) _ (omega arith) (c .moved2 .ensures)
+returns-3 c = in-table 32 (c .before .before .before .before .args .n - 32) (c .before .before .before .before .args .n) (c .before .before .before .before .args .s) _ (omega arith) (c .moved2 .ensures)
 
 returns-4 : tie.Need-returns-4
-returns-4 c = in-table 87 (c .before .before .before .before .args .n - 87) (c .before .before .before .before .args .n) (c .before .before .before .before .args .s) _ (omega arith) (c .moved3 .ensures)
+returns-4 c = in-table 48 (c .before .before .before .before .before .args .n - 48) (c .before .before .before .before .before .args .n) (c .before .before .before .before .before .args .s) _ (omega arith) (c .moved3 .ensures)
+
+returns-5 : tie.Need-returns-5
+returns-5 c = in-table 64 (c .before .before .before .before .before .before .args .n - 64) (c .before .before .before .before .before .before .args .n) (c .before .before .before .before .before .before .args .s) _ (omega arith) (c .moved4 .ensures)
+
+returns-6 : tie.Need-returns-6
+returns-6 c = in-table 80 (c .before .before .before .before .before .before .before .args .n - 80) (c .before .before .before .before .before .before .before .args .n) (c .before .before .before .before .before .before .before .args .s) _ (omega arith) (c .moved5 .ensures)
+
+returns-7 : tie.Need-returns-7
+returns-7 c = in-table 96 (c .before .before .before .before .before .before .before .before .args .n - 96) (c .before .before .before .before .before .before .before .before .args .n) (c .before .before .before .before .before .before .before .before .args .s) _ (omega arith) (c .moved6 .ensures)
+
+returns-8 : tie.Need-returns-8
+returns-8 c = in-table 112 (c .before .before .before .before .before .before .before .before .args .n - 112) (c .before .before .before .before .before .before .before .before .args .n) (c .before .before .before .before .before .before .before .before .args .s) _ (omega arith) (c .moved7 .ensures)
 
 pub moved-spec : {M : Type 1} → statement M
 moved-spec =
@@ -30,4 +42,12 @@ moved-spec =
     (λ c κs. search needs)
     returns-3
     (λ c κs. search needs)
-    returns-4)
+    returns-4
+    (λ c κs. search needs)
+    returns-5
+    (λ c κs. search needs)
+    returns-6
+    (λ c κs. search needs)
+    returns-7
+    (λ c κs. search needs)
+    returns-8)

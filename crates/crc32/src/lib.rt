@@ -2,12 +2,14 @@
 //
 // `crc32::crc(b"123456789")` is 3421780262. Of pieces: with `a = crc32::run(crc32::START, x)` and
 // `b = crc32::run(0, y)` the state after x and then y is `crc32::combine(a, b, n)`, where n is y's length, and a state
-// becomes the checksum by `^ crc32::START`. Each contract is equality with the definition in `crc32_spec`, and no
-// public function has a `requires`.
+// becomes the checksum by `^ crc32::START`. Each contract is equality with the definition in `crc32_spec`. No public function has
+// a `requires` but `combine_with`, which wants a table that `fill_table` filled.
 //
-// `text` reads slices, `words` takes pieces that are numbers, `pieces` puts pieces together, `lookup` is what these stand on.
+// `text` reads slices, `words` takes pieces that are numbers, `pieces` puts pieces together, `lookup` is what these stand on;
+// `table` puts pieces together by way of a table that the caller lends.
 mod lookup;
 mod pieces;
+mod table;
 mod text;
 mod words;
 
@@ -15,6 +17,9 @@ pub use pieces::combine;
 pub use pieces::front;
 pub use pieces::front_word;
 pub use pieces::shift;
+pub use table::SHIFT_TABLE;
+pub use table::combine_with;
+pub use table::fill_table;
 pub use text::crc;
 pub use text::run;
 pub use words::absorb;

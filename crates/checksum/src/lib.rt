@@ -2,15 +2,17 @@
 //
 // A level carries the CRC and the length of its own piece of checksum text, made once, when the level is made
 // (`k_level`, `m_level`). The book's checksum is put together from them, so an update costs no digit of a level that it
-// does not touch. A side is lent as its words and the number of its levels, and is not copied.
+// does not touch. A side is lent as its words and the number of its levels, and is not copied. The table is one that
+// `crc32::fill_table` filled; one of no entries will do, and is slower.
 //
 //     let level = checksum::k_level(price, size);
-//     checksum::k_checksum(&bids.words, bids.count, &asks.words, asks.count)  // of the ten best asks, then the ten best bids
+//     checksum::k_checksum(&bids.words, bids.count, &asks.words, asks.count, table)  // of the ten best asks, then the ten best bids
 ghost use mathlib.Core.Path.{_≡_};
 ghost use mathlib.Core.List.{map};
 ghost use Prim.Native.Nat.{_≤_, _<_, _^_, min};
 ghost use lib.ListN.{length, take, drop};
 ghost use Rattle.decimal.specs.Decimal.{number, Within};
+ghost use Rattle.crc32.specs.Table.{ShiftTable};
 ghost use Rattle.piece.specs.Piece.{kPiece, mPiece};
 ghost use Rattle.side.specs.declared.Side.the-variants.{Bids, Asks};
 ghost use Rattle.side.specs.Level.{shown};
@@ -67,12 +69,13 @@ pub fn k_checksum<'a>(
     bid_count: usize,
     asks: &'a [u64; MAX_WORDS],
     ask_count: usize,
+    table: &'a [u32],
 ) -> u32
-    requires { ⌜ Good Bids (keptIn (now bids) «bid_count») × Good Asks (keptIn (now asks) «ask_count») × All (Carries kPiece) (held (keptIn (now bids) «bid_count»)) × All (Carries kPiece) (held (keptIn (now asks) «ask_count»)) ⌝ }
+    requires { ⌜ Good Bids (keptIn (now bids) «bid_count») × Good Asks (keptIn (now asks) «ask_count») × All (Carries kPiece) (held (keptIn (now bids) «bid_count»)) × All (Carries kPiece) (held (keptIn (now asks) «ask_count»)) × ShiftTable (now table) ⌝ }
     ensures { λ r. ⌜ r ≡ kChecksum (map shown (held (keptIn (now (bids .entry)) «bid_count»))) (map shown (held (keptIn (now (asks .entry)) «ask_count»))) ⌝ }
 {
-    let after_asks = sum_levels(crc32::START, asks, 0, at_most(ask_count, K_LEVELS));
-    sum_levels(after_asks, bids, 0, at_most(bid_count, K_LEVELS)) ^ crc32::START
+    let after_asks = sum_levels(crc32::START, asks, 0, at_most(ask_count, K_LEVELS), table);
+    sum_levels(after_asks, bids, 0, at_most(bid_count, K_LEVELS), table) ^ crc32::START
 }
 
 // The checksum of an M book.
@@ -81,8 +84,9 @@ pub fn m_checksum<'a>(
     bid_count: usize,
     asks: &'a [u64; MAX_WORDS],
     ask_count: usize,
+    table: &'a [u32],
 ) -> u32
-    requires { ⌜ Good Bids (keptIn (now bids) «bid_count») × Good Asks (keptIn (now asks) «ask_count») × All (Carries mPiece) (held (keptIn (now bids) «bid_count»)) × All (Carries mPiece) (held (keptIn (now asks) «ask_count»)) ⌝ }
+    requires { ⌜ Good Bids (keptIn (now bids) «bid_count») × Good Asks (keptIn (now asks) «ask_count») × All (Carries mPiece) (held (keptIn (now bids) «bid_count»)) × All (Carries mPiece) (held (keptIn (now asks) «ask_count»)) × ShiftTable (now table) ⌝ }
     ensures { λ r. ⌜ r ≡ mChecksum (map shown (held (keptIn (now (bids .entry)) «bid_count»))) (map shown (held (keptIn (now (asks .entry)) «ask_count»))) ⌝ }
 {
     if bid_count == 0 {
@@ -91,9 +95,9 @@ pub fn m_checksum<'a>(
         }
     }
     let both = at_most(bid_count, ask_count);
-    let paired = sum_pairs(M_START, bids, asks, both);
-    let after_bids = sum_levels(paired, bids, both, bid_count);
-    sum_levels(after_bids, asks, both, ask_count) ^ crc32::START
+    let paired = sum_pairs(M_START, bids, asks, both, table);
+    let after_bids = sum_levels(paired, bids, both, bid_count, table);
+    sum_levels(after_bids, asks, both, ask_count, table) ^ crc32::START
 }
 
 fn at_most(n: usize, most: usize) -> usize
@@ -103,15 +107,21 @@ fn at_most(n: usize, most: usize) -> usize
 }
 
 // The state after the pieces of the levels from one place to another.
-fn sum_levels(state: u32, words: &[u64; MAX_WORDS], from: usize, to: usize) -> u32
-    requires { ⌜ (from ≤ to) × (to ≤ maxLevels) × (length (now words) ≡ maxWords) ⌝ }
+fn sum_levels<'a>(
+    state: u32,
+    words: &'a [u64; MAX_WORDS],
+    from: usize,
+    to: usize,
+    table: &'a [u32],
+) -> u32
+    requires { ⌜ (from ≤ to) × (to ≤ maxLevels) × (length (now words) ≡ maxWords) × ShiftTable (now table) ⌝ }
     ensures { λ r. ⌜ r ≡ summed state (drop from (take to (levelsIn (now (words .entry))))) ⌝ }
 {
     let mut sum = state;
     let mut i = from;
     while i < to {
         let level = side::level_in(words, i);
-        sum = crc32::combine(sum, level.sum, level.length as u64);
+        sum = crc32::combine_with(table, sum, level.sum, level.length as usize);
         i += 1;
     }
     sum
@@ -124,8 +134,9 @@ fn sum_pairs<'a>(
     bids: &'a [u64; MAX_WORDS],
     asks: &'a [u64; MAX_WORDS],
     n: usize,
+    table: &'a [u32],
 ) -> u32
-    requires { ⌜ (n ≤ maxLevels) × (length (now bids) ≡ maxWords) × (length (now asks) ≡ maxWords) ⌝ }
+    requires { ⌜ (n ≤ maxLevels) × (length (now bids) ≡ maxWords) × (length (now asks) ≡ maxWords) × ShiftTable (now table) ⌝ }
     ensures { λ r. ⌜ r ≡ summed state (interleaved n (take n (levelsIn (now (bids .entry)))) (take n (levelsIn (now (asks .entry))))) ⌝ }
 {
     let mut sum = state;
@@ -133,10 +144,10 @@ fn sum_pairs<'a>(
     while i < n {
         let bid = side::level_in(bids, i);
         let ask = side::level_in(asks, i);
-        let bid_length = bid.length as u64;
-        let ask_length = ask.length as u64;
-        let pair = crc32::combine(bid.sum, ask.sum, ask_length);
-        sum = crc32::combine(sum, pair, bid_length + ask_length);
+        let bid_length = bid.length as usize;
+        let ask_length = ask.length as usize;
+        let pair = crc32::combine_with(table, bid.sum, ask.sum, ask_length);
+        sum = crc32::combine_with(table, sum, pair, bid_length + ask_length);
         i += 1;
     }
     sum

@@ -27,7 +27,7 @@ sum-levels-requires-2 c κs = search needs
 returns : tie.Need-returns
 unfolding held
 returns c =
-    let s = c .before .before .before .before in
+    let s = c .before .before .before .before .before in
     let a = s .args in
     let bids = levelsIn (a .bids .now) in
     let asks = levelsIn (a .asks .now) in

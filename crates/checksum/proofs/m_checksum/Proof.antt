@@ -25,7 +25,7 @@ some n levels h z = let e : length (take n levels) ≡ n = length-take-le n leve
 returns : tie.Need-returns
 unfolding held
 returns c =
-    let a = c .before .before .args in
+    let a = c .before .before .before .args in
     sym (ap₂ mChecksum (ap (λ (n : ℕ). map shown (take n (levelsIn (a .bids .now)))) (c .before .if1 .taken)) (ap (λ (n : ℕ). map shown (take n (levelsIn (a .asks .now)))) (c .if2 .taken)) ∙ m-empty)
 
 at-most-requires : tie.Need-at-most-requires
@@ -43,7 +43,7 @@ sum-levels-requires-2 c κs = search needs
 returns-2 : tie.Need-returns-2
 unfolding held
 returns-2 c =
-    let s = c .before .before .before .before .before in
+    let s = c .before .before .before .before .before .before in
     let a = s .args in
     let bids = levelsIn (a .bids .now) in
     let asks = levelsIn (a .asks .now) in

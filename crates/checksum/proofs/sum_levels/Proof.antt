@@ -14,23 +14,23 @@ use Rattle.checksum.proofs.sum_levels.Statement.{statement}
 use Rattle.checksum.proofs.sum_levels.Tie as tie
 
 abbrev Inv-loop : tie.InvT-loop
-Inv-loop state words from to sum₀ i₀ sum i =
+Inv-loop state words from to table sum₀ i₀ sum i =
     (summed sum (drop i (take to (levelsIn words))) ≡ summed state (drop from (take to (levelsIn words)))) × (i ≤ to)
 
 abbrev μ-loop : tie.MeasureT-loop
-μ-loop state words from to sum₀ i₀ sum i = to - i
+μ-loop state words from to table sum₀ i₀ sum i = to - i
 
 loop-holds : tie.Need-loop-holds Inv-loop μ-loop
-loop-holds c = (refl, c .pre .0)
+loop-holds c = (refl, c .before .pre .0)
 
 level-in-requires : tie.Need-level-in-requires Inv-loop μ-loop
 level-in-requires c κs = search needs
 
-cast-combine : tie.Need-cast-combine Inv-loop μ-loop
-cast-combine c = search needs
+cast-combine-with : tie.Need-cast-combine-with Inv-loop μ-loop
+cast-combine-with c = search needs
 
-combine-requires : tie.Need-combine-requires Inv-loop μ-loop
-combine-requires c κs = search needs
+combine-with-requires : tie.Need-combine-with-requires Inv-loop μ-loop
+combine-with-requires c κs = search needs
 
 add-i : tie.Need-add-i Inv-loop μ-loop
 add-i c = search needs
@@ -41,10 +41,10 @@ loop-less c = search needs
 loop-again : tie.Need-loop-again Inv-loop μ-loop
 loop-again c =
     let w = c .before .before .before .before in
-    let s = w .before in
+    let s = w .before .before in
     let l = c .before .before .before .loop-test .taken in (
-      summed-turn (levelsIn (s .args .words .now)) (w .loop .i) (s .args .to) (w .loop .sum) (c .combine .result) l (enough (s .args .to) (s .args .words .now) (s .pre .1) (s .pre .2))
-          (c .combine .ensures ∙ ap (λ (level : Level). bitXor (bits (8 * level .length) (w .loop .sum)) (level .sum)) (c .before .before .level-in .ensures))
+      summed-turn (levelsIn (s .args .words .now)) (w .loop .i) (s .args .to) (w .loop .sum) (c .combine-with .result) l (enough (s .args .to) (s .args .words .now) (s .pre .1) (s .pre .2))
+          (c .combine-with .ensures ∙ ap (λ (level : Level). bitXor (bits (8 * level .length) (w .loop .sum)) (level .sum)) (c .before .before .level-in .ensures))
           ∙ w .loop .inv .0,
       omega arith,
     )
@@ -52,7 +52,7 @@ loop-again c =
 returns : tie.Need-returns Inv-loop μ-loop
 returns c =
     let w = c .before in
-    let s = w .before in
+    let s = w .before .before in
     sym (summed-done (levelsIn (s .args .words .now)) (w .loop .i) (s .args .to) (w .loop .sum) (c .loop-test .left) (enough (s .args .to) (s .args .words .now) (s .pre .1) (s .pre .2))) ∙ w .loop .inv .0
 
 pub sum-levels-spec : {M : Type 1} → statement M
@@ -63,8 +63,8 @@ sum-levels-spec =
     μ-loop
     loop-holds
     level-in-requires
-    cast-combine
-    combine-requires
+    cast-combine-with
+    combine-with-requires
     add-i
     loop-less
     loop-again

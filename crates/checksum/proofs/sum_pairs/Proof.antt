@@ -16,17 +16,17 @@ use Rattle.checksum.proofs.sum_pairs.Statement.{statement}
 use Rattle.checksum.proofs.sum_pairs.Tie as tie
 
 abbrev Inv-loop : tie.InvT-loop
-Inv-loop state bids asks n sum₀ i₀ sum i =
+Inv-loop state bids asks n table sum₀ i₀ sum i =
     (summed sum (interleaved (n - i) (drop i (take n (levelsIn bids))) (drop i (take n (levelsIn asks))))
     ≡ summed state (interleaved n (take n (levelsIn bids)) (take n (levelsIn asks))))
     × (i ≤ n)
 
 abbrev μ-loop : tie.MeasureT-loop
-μ-loop state bids asks n sum₀ i₀ sum i = n - i
+μ-loop state bids asks n table sum₀ i₀ sum i = n - i
 
 loop-holds : tie.Need-loop-holds Inv-loop μ-loop
 loop-holds c =
-    let a = c .args in
+    let a = c .before .args in
     (ap (λ (m : ℕ). summed (a .state) (interleaved m (take (a .n) (levelsIn (a .bids .now))) (take (a .n) (levelsIn (a .asks .now))))) (sub-zero (a .n)), zero-le)
 
 level-in-requires : tie.Need-level-in-requires Inv-loop μ-loop
@@ -41,14 +41,14 @@ cast-bid-length c = search needs
 cast-ask-length : tie.Need-cast-ask-length Inv-loop μ-loop
 cast-ask-length c = search needs
 
-combine-requires : tie.Need-combine-requires Inv-loop μ-loop
-combine-requires c κs = search needs
+combine-with-requires : tie.Need-combine-with-requires Inv-loop μ-loop
+combine-with-requires c κs = search needs
 
-add-combine : tie.Need-add-combine Inv-loop μ-loop
-add-combine c = search needs
+add-combine-with : tie.Need-add-combine-with Inv-loop μ-loop
+add-combine-with c = search needs
 
-combine-requires-2 : tie.Need-combine-requires-2 Inv-loop μ-loop
-combine-requires-2 c κs = search needs
+combine-with-requires-2 : tie.Need-combine-with-requires-2 Inv-loop μ-loop
+combine-with-requires-2 c κs = search needs
 
 add-i : tie.Need-add-i Inv-loop μ-loop
 add-i c = search needs
@@ -59,16 +59,16 @@ loop-less c = search needs
 loop-again : tie.Need-loop-again Inv-loop μ-loop
 loop-again c =
     let w = c .before .before .before .before .before .before .before in
-    let s = w .before in
+    let s = w .before .before in
     let a = s .args in
     let l = c .before .before .before .before .before .before .loop-test .taken in
     let bid = c .before .before .before .before .before .level-in .ensures in
     let ask = c .before .before .before .before .level-in2 .ensures in (
-      pairs-turn (levelsIn (a .bids .now)) (levelsIn (a .asks .now)) (w .loop .i) (a .n) (w .loop .sum) (c .combine2 .result) (c .before .combine .result) l
+      pairs-turn (levelsIn (a .bids .now)) (levelsIn (a .asks .now)) (w .loop .i) (a .n) (w .loop .sum) (c .combine-with2 .result) (c .before .combine-with .result) l
           (enough (a .n) (a .bids .now) (s .pre .0) (s .pre .1))
           (enough (a .n) (a .asks .now) (s .pre .0) (s .pre .2))
-          (c .before .combine .ensures ∙ ap₂ (λ (b k : Level). bitXor (bits (8 * k .length) (b .sum)) (k .sum)) bid ask)
-          (c .combine2 .ensures ∙ ap₂ (λ (b k : Level). bitXor (bits (8 * (b .length + k .length)) (w .loop .sum)) (c .before .combine .result)) bid ask)
+          (c .before .combine-with .ensures ∙ ap₂ (λ (b k : Level). bitXor (bits (8 * k .length) (b .sum)) (k .sum)) bid ask)
+          (c .combine-with2 .ensures ∙ ap₂ (λ (b k : Level). bitXor (bits (8 * (b .length + k .length)) (w .loop .sum)) (c .before .combine-with .result)) bid ask)
           ∙ w .loop .inv .0,
       omega arith,
     )
@@ -76,7 +76,7 @@ loop-again c =
 returns : tie.Need-returns Inv-loop μ-loop
 returns c =
     let w = c .before in
-    let a = w .before .args in
+    let a = w .before .before .args in
     sym (pairs-done (levelsIn (a .bids .now)) (levelsIn (a .asks .now)) (w .loop .i) (a .n) (w .loop .sum) (c .loop-test .left)) ∙ w .loop .inv .0
 
 pub sum-pairs-spec : {M : Type 1} → statement M
@@ -90,9 +90,9 @@ sum-pairs-spec =
     level-in-requires-2
     cast-bid-length
     cast-ask-length
-    combine-requires
-    add-combine
-    combine-requires-2
+    combine-with-requires
+    add-combine-with
+    combine-with-requires-2
     add-i
     loop-less
     loop-again

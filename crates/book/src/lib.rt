@@ -6,9 +6,9 @@
 //     let best = book.level(Scope::Current, Side::Bids, 0);
 //
 // A method takes the book by value and hands it back with its answer. Who hands a book many messages lends it the words of its
-// sides instead, and passes only its header:
+// sides and a table to sum by instead, and passes only its header:
 //
-//     let answered = header.take(&mut bids, &mut asks, message);
+//     let answered = header.take(&mut bids, &mut asks, message, table);
 //     header = answered.header;
 mod taking;
 mod writing;
@@ -23,6 +23,7 @@ use side::Levels;
 use side::MAX_WORDS;
 use side::Side;
 ghost use mathlib.Core.Path.{_≡_};
+ghost use Rattle.crc32.specs.Table.{ShiftTable};
 ghost use Rattle.book.specs.Reference.{hear, whichNumber, howManyUpdates};
 ghost use Rattle.book.specs.Shown.{statusOf, shows, bookOf, headerOf, stepOf, Good, Opened, Told, CountsAnswered, AnswersCounts, AnswersLevel, AnswersAmount, Wrote};
 ghost use Rattle.book.specs.Asking.{firstState, answers, refusalOf, levelIn};
@@ -167,17 +168,19 @@ pub fn join(bids: [u64; MAX_WORDS], asks: [u64; MAX_WORDS], header: Header) -> B
 }
 
 impl Header {
-    // The book after a message, in the words that are lent: the first bids and asks of them are the book's.
+    // The book after a message, in the words that are lent: the first bids and asks of them are the book's. The checksum is summed
+    // by way of the table, which `crc32::fill_table` filled; one of no entries will do.
     pub fn take(
         self,
         bids: &mut [u64; MAX_WORDS],
         asks: &mut [u64; MAX_WORDS],
         s: &[u8],
+        table: &[u32],
     ) -> Answered
-        requires { ⌜ Good (bookOf (now bids) (now asks) self) ⌝ }
+        requires { ⌜ Good (bookOf (now bids) (now asks) self) × ShiftTable (now table) ⌝ }
         ensures { λ r. ⌜ Told (hear (shows (bookOf (now (bids .entry)) (now (asks .entry)) self)) (now (s .entry))) (stepOf (now (bids .exit)) (now (asks .exit)) r) ⌝ }
     {
-        taking::hear(self, bids, asks, s)
+        taking::hear(self, bids, asks, s, table)
     }
 
     // How many bids and asks there are.
@@ -224,7 +227,8 @@ impl Book {
     {
         let mut bids = self.bids.words;
         let mut asks = self.asks.words;
-        let answered = self.header().take(&mut bids, &mut asks, s);
+        let none = [0; 1];
+        let answered = self.header().take(&mut bids, &mut asks, s, &none[..0]);
         let header = answered.header;
         let answer = answered.answer;
         Step {

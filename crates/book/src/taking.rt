@@ -3,6 +3,7 @@ ghost use mathlib.Core.Path.{_≡_};
 ghost use mathlib.Core.Bool.{_&&_, _||_, not, cond};
 ghost use mathlib.Core.List.{map};
 ghost use lib.Dec.{leb};
+ghost use Rattle.crc32.specs.Table.{ShiftTable};
 ghost use Rattle.side.specs.Level.{shown};
 ghost use Rattle.side.specs.Kept.{keptIn, held};
 ghost use Rattle.side.specs.declared.Side.the-variants.{Bids, Asks};
@@ -35,8 +36,9 @@ pub fn hear(
     bids: &mut [u64; MAX_WORDS],
     asks: &mut [u64; MAX_WORDS],
     s: &[u8],
+    table: &[u32],
 ) -> Answered
-    requires { ⌜ Good (bookOf (now bids) (now asks) header) ⌝ }
+    requires { ⌜ Good (bookOf (now bids) (now asks) header) × ShiftTable (now table) ⌝ }
     ensures { λ r. ⌜ Told (hear (shows (bookOf (now (bids .entry)) (now (asks .entry)) header)) (now (s .entry))) (stepOf (now (bids .exit)) (now (asks .exit)) r) ⌝ }
 {
     match judge(header, s) {
@@ -52,7 +54,7 @@ pub fn hear(
             let entered = enter(header, outline, bids, asks, s);
             let bid_side = entered.bids;
             let ask_side = entered.asks;
-            let answer = weigh(outline, dialect, bid_side, ask_side, bids, asks);
+            let answer = weigh(outline, dialect, bid_side, ask_side, bids, asks, table);
             if is_taken(answer) {
                 return Answered {
                     header: renew(header, outline, bid_side.left, ask_side.left),
@@ -192,8 +194,9 @@ fn weigh<'a>(
     ask_side: Applied,
     bids: &'a [u64; MAX_WORDS],
     asks: &'a [u64; MAX_WORDS],
+    table: &'a [u32],
 ) -> Answer
-    requires { ⌜ Sound (isM dialect) Bids (keptIn (now bids) («bid_side» .left)) × Sound (isM dialect) Asks (keptIn (now asks) («ask_side» .left)) ⌝ }
+    requires { ⌜ Sound (isM dialect) Bids (keptIn (now bids) («bid_side» .left)) × Sound (isM dialect) Asks (keptIn (now asks) («ask_side» .left)) × ShiftTable (now table) ⌝ }
     ensures { λ r. ⌜ r ≡ weighedSides outline dialect (sideAfter (now (bids .entry)) «bid_side») (sideAfter (now (asks .entry)) «ask_side») ⌝ }
 {
     if both(outline.snapshot, either(bid_side.met, ask_side.met)) {
@@ -204,7 +207,9 @@ fn weigh<'a>(
         return Answer::TooManyLevels;
     }
     if outline.printed {
-        if outline.checksum != checksum_of(dialect, bids, bid_side.left, asks, ask_side.left) {
+        if outline.checksum
+            != checksum_of(dialect, bids, bid_side.left, asks, ask_side.left, table)
+        {
             return Answer::WrongChecksum;
         }
     }
@@ -217,13 +222,14 @@ fn checksum_of<'a>(
     bid_count: usize,
     asks: &'a [u64; MAX_WORDS],
     ask_count: usize,
+    table: &'a [u32],
 ) -> u32
-    requires { ⌜ Sound (isM dialect) Bids (keptIn (now bids) «bid_count») × Sound (isM dialect) Asks (keptIn (now asks) «ask_count») ⌝ }
+    requires { ⌜ Sound (isM dialect) Bids (keptIn (now bids) «bid_count») × Sound (isM dialect) Asks (keptIn (now asks) «ask_count») × ShiftTable (now table) ⌝ }
     ensures { λ r. ⌜ r ≡ checksumOf dialect (map shown (held (keptIn (now (bids .entry)) «bid_count»))) (map shown (held (keptIn (now (asks .entry)) «ask_count»))) ⌝ }
 {
     match dialect {
-        Dialect::K => checksum::k_checksum(bids, bid_count, asks, ask_count),
-        Dialect::M => checksum::m_checksum(bids, bid_count, asks, ask_count),
+        Dialect::K => checksum::k_checksum(bids, bid_count, asks, ask_count, table),
+        Dialect::M => checksum::m_checksum(bids, bid_count, asks, ask_count, table),
         Dialect::Unknown => 0,
     }
 }

@@ -22,7 +22,14 @@ pub fn lay(book: Book, buffer: &mut [u8]) -> Written
     match dialect {
         Dialect::K => writer::k_write(depth, &name[..n], bids, asks, buffer),
         Dialect::M => {
-            let sum = checksum::m_checksum(&bids.words, bids.count, &asks.words, asks.count);
+            let none = [0; 1];
+            let sum = checksum::m_checksum(
+                &bids.words,
+                bids.count,
+                &asks.words,
+                asks.count,
+                &none[..0],
+            );
             writer::m_write(&name[..n], bids, asks, sum, book.number, buffer)
         }
         Dialect::Unknown => Written::To(0),

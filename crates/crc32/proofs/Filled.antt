@@ -4,7 +4,7 @@ use mathlib.Core.Path.{_≡_, refl, sym, ap, ap₂, _∙_}
 use mathlib.Core.Bool.{Bool, true, false}
 use mathlib.Core.List.{List}
 use Prim.Native.Nat.{ℕ, _+_, _-_, _*_, _/_, _%_, _^_, _≤_, _<_}
-use native.Mathlib.Nat.{mod-eq-of-lt}
+use native.Mathlib.Nat.{mod-eq-of-lt, not-suc-le-zero}
 use native.Mathlib.Omega.{arith}
 use borrow.Author.Tests.{eqb-true, eqb-false}
 use lib.Bits.{bitXor}
@@ -34,6 +34,10 @@ filled-more table i v h e f k l = go (eqb k i) refl
         let d : k ≡ i → ⊥ = eqb-false k i q in
         let m : k < i = omega arith in
         getD-set-other table i k v 0 d ∙ f k m
+
+-- a table of no entries
+pub empty-table : (table : List ℕ) → ShiftTable (take 0 table)
+empty-table table = record { holds = λ k l. absurd (not-suc-le-zero l) }
 
 -- ---- four look-ups
 

@@ -1,10 +1,12 @@
 -- `take` meets its contract: the book's header takes the message, in copies of the words.
 use mathlib.Core.Path.{_≡_, sym, subst}
+use mathlib.Core.List.{[]}
 use denote.Ref.{now}
 use Rattle.book.specs.Reference.{hear}
 use Rattle.book.specs.Shown.{shows, bookOf, Good, Told}
 use Rattle.book.specs.declared.Book.{Book}
 use Rattle.book.specs.declared.Header.{Header}
+use Rattle.crc32.proofs.Filled.{empty-table}
 use borrow.Author.Needs.{needs}
 use Rattle.book.proofs.Book.take.Statement.{statement}
 use Rattle.book.proofs.Book.take.Tie as tie
@@ -12,22 +14,28 @@ use Rattle.book.proofs.Book.take.Tie as tie
 header-requires : tie.Need-header-requires
 header-requires c κs = search needs
 
+array-share-prefix-none : tie.Need-array-share-prefix-none
+array-share-prefix-none c = search needs
+
+slice-aggregate-take : tie.Need-slice-aggregate-take
+slice-aggregate-take c = search needs
+
 take-requires : tie.Need-take-requires
 take-requires c κs =
-    let s = c .before .before .before .before .before .before in
-    subst (λ (h : Header). Good (bookOf (s .args .self .bids .words) (s .args .self .asks .words) h)) (sym (c .before .before .header .ensures)) (s .pre)
+    let s = c .before .before .before .before .before .before .before in
+    (subst (λ (h : Header). Good (bookOf (s .args .self .bids .words) (s .args .self .asks .words) h)) (sym (c .before .before .before .header .ensures)) (s .pre), empty-table [])
 
 join-requires : tie.Need-join-requires
 join-requires c κs = search needs
 
 returns : tie.Need-returns
 returns c =
-    let a = c .before .before .before .before .before .before .before .before .before .args in
+    let a = c .before .before .before .before .before .before .before .before .before .before .args in
     let b = a .self in
     let answer = c .before .before .take .result .answer in
     subst (λ (x : Book). Told (hear (shows b) (now (a .s))) (record { book = x; answer = answer })) (sym (c .join .ensures))
-    (subst (λ (h : Header). Told (hear (shows (bookOf (b .bids .words) (b .asks .words) h)) (now (a .s))) (record { book = bookOf (c .before .before .take .last .1 .0) (c .before .before .take .last .1 .1 .0) (c .before .before .take .result .header); answer = answer })) (c .before .before .before .before .before .header .ensures)
+    (subst (λ (h : Header). Told (hear (shows (bookOf (b .bids .words) (b .asks .words) h)) (now (a .s))) (record { book = bookOf (c .before .before .take .last .1 .0) (c .before .before .take .last .1 .1 .0) (c .before .before .take .result .header); answer = answer })) (c .before .before .before .before .before .before .header .ensures)
     (c .before .before .take .ensures))
 
 pub take-spec : {M : Type 1} → statement M
-take-spec = tie.close (tie.spec header-requires take-requires join-requires returns)
+take-spec = tie.close (tie.spec header-requires array-share-prefix-none slice-aggregate-take take-requires join-requires returns)

@@ -12,18 +12,20 @@ enum-told c = search needs
 
 k-checksum-requires : tie.Need-k-checksum-requires
 k-checksum-requires c κs =
-    let a = c .before .before .args in
-    let p = c .before .before .pre in
-    k-sums (a .dialect) (keptIn (now (a .bids)) (a .bid-count)) (keptIn (now (a .asks)) (a .ask-count)) (c .enum-told .given .1) (p .0) (p .1)
+    let a = c .before .before .before .args in
+    let p = c .before .before .before .pre in
+    let q = k-sums (a .dialect) (keptIn (now (a .bids)) (a .bid-count)) (keptIn (now (a .asks)) (a .ask-count)) (c .enum-told .given .1) (p .0) (p .1) in
+    (q .0, q .1, q .2, q .3, p .2)
 
 enum-told-2 : tie.Need-enum-told-2
 enum-told-2 c = search needs
 
 m-checksum-requires : tie.Need-m-checksum-requires
 m-checksum-requires c κs =
-    let a = c .before .before .args in
-    let p = c .before .before .pre in
-    m-sums (a .dialect) (keptIn (now (a .bids)) (a .bid-count)) (keptIn (now (a .asks)) (a .ask-count)) (c .enum-told2 .given .1) (p .0) (p .1)
+    let a = c .before .before .before .args in
+    let p = c .before .before .before .pre in
+    let q = m-sums (a .dialect) (keptIn (now (a .bids)) (a .bid-count)) (keptIn (now (a .asks)) (a .ask-count)) (c .enum-told2 .given .1) (p .0) (p .1) in
+    (q .0, q .1, q .2, q .3, p .2)
 
 enum-told-3 : tie.Need-enum-told-3
 enum-told-3 c = search needs

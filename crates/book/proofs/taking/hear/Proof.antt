@@ -20,18 +20,18 @@ use Rattle.book.proofs.taking.hear.Tie as tie
 -- ---- a message that passes the checks of its text
 
 abbrev bookAt : tie.After-enter-arg2 → Book
-bookAt c = let a = c .before .before .before .before .before .before .before .before .before .before .args in bookOf (now (a .bids)) (now (a .asks)) (a .header)
+bookAt c = let a = c .before .before .before .before .before .before .before .before .before .before .before .args in bookOf (now (a .bids)) (now (a .asks)) (a .header)
 
 abbrev textAt : tie.After-enter-arg2 → List ℕ
-textAt c = now (c .before .before .before .before .before .before .before .before .before .before .args .s)
+textAt c = now (c .before .before .before .before .before .before .before .before .before .before .before .args .s)
 
 abbrev outlineAt : tie.After-enter-arg2 → Outline
 outlineAt c = c .before .before .before .before .before .before .outline .given .0 .0
 
 judged : (c : tie.After-enter-arg2) → Judged (bookAt c) (textAt c) (Passes (outlineAt c))
 judged c =
-    let a = c .before .before .before .before .before .before .before .before .before .before .args in
-    subst (Judged (bookAt c) (textAt c)) (c .before .before .before .before .before .before .outline .given .1) (c .before .before .before .before .before .before .before .before .judge .ensures .of (now (a .bids)) (now (a .asks)) (c .before .before .before .before .before .before .before .before .before .before .pre))
+    let a = c .before .before .before .before .before .before .before .before .before .before .before .args in
+    subst (Judged (bookAt c) (textAt c)) (c .before .before .before .before .before .before .outline .given .1) (c .before .before .before .before .before .before .before .before .judge .ensures .of (now (a .bids)) (now (a .asks)) (c .before .before .before .before .before .before .before .before .before .before .before .pre .0))
 
 passed : (c : tie.After-enter-arg2) → Passed (bookAt c) (textAt c) (outlineAt c)
 unfolding Judged
@@ -87,11 +87,11 @@ refuse-requires-2 c κs = search needs
 returns-2 : tie.Need-returns-2
 unfolding Judged refusedStep
 returns-2 c =
-    let a = c .before .before .before .before .before .before .args in
+    let a = c .before .before .before .before .before .before .before .args in
     let b = bookOf (now (a .bids)) (now (a .asks)) (a .header) in
     let x = c .before .before .refusal .given .0 .0 in
     subst (λ (h : Header). Told (hear (shows b) (now (a .s))) (stepOf (now (a .bids)) (now (a .asks)) (record { header = h; answer = x }))) (sym (c .refuse .ensures))
-    (subst (Judged b (now (a .s))) (c .before .before .refusal .given .1) (c .before .before .before .before .judge .ensures .of (now (a .bids)) (now (a .asks)) (c .before .before .before .before .before .before .pre)))
+    (subst (Judged b (now (a .s))) (c .before .before .refusal .given .1) (c .before .before .before .before .judge .ensures .of (now (a .bids)) (now (a .asks)) (c .before .before .before .before .before .before .before .pre .0)))
 
 returns-3 : tie.Need-returns-3
 unfolding refusedStep

@@ -24,13 +24,13 @@ isMet s = bidsOf s .met || asksOf s .met
 abbrev isOver : tie.Start → Bool
 isOver s = ltb 100 (bidsOf s .count) || ltb 100 (asksOf s .count)
 
-tested-twice : (c : tie.After-both) → c .both .result ≡ (c .before .before .args .outline .snapshot && isMet (c .before .before))
-tested-twice c = c .both .ensures ∙ ap (λ (x : Bool). c .before .before .args .outline .snapshot && x) (c .before .either .ensures)
+tested-twice : (c : tie.After-both) → c .both .result ≡ (c .before .before .before .args .outline .snapshot && isMet (c .before .before .before))
+tested-twice c = c .both .ensures ∙ ap (λ (x : Bool). c .before .before .before .args .outline .snapshot && x) (c .before .either .ensures)
 
-tested-over : (c : tie.After-is-over) → let s = c .before .before .before .before .before .before .before .before in c .is-over .result ≡ (not (s .args .outline .snapshot) && (isM (s .args .dialect) && isOver s))
+tested-over : (c : tie.After-is-over) → let s = c .before .before .before .before .before .before .before .before .before in c .is-over .result ≡ (not (s .args .outline .snapshot) && (isM (s .args .dialect) && isOver s))
 tested-over c =
     c .is-over .ensures
-    ∙ ap₂ (λ (m over : Bool). not (c .before .before .before .before .before .before .before .before .args .outline .snapshot) && (m && over)) (c .before .is-m .ensures) (c .before .before .either2 .ensures)
+    ∙ ap₂ (λ (m over : Bool). not (c .before .before .before .before .before .before .before .before .before .args .outline .snapshot) && (m && over)) (c .before .is-m .ensures) (c .before .before .either2 .ensures)
 
 either-requires : tie.Need-either-requires
 either-requires c κs = search needs
@@ -40,7 +40,7 @@ both-requires c κs = search needs
 
 returns : tie.Need-returns
 returns c =
-    let s = c .before .before .before in
+    let s = c .before .before .before .before in
     weighed-twice (s .args .outline) (s .args .dialect) (isMet s) (isOver s) (bidsOf s .levels) (asksOf s .levels)
     (sym (tested-twice (c .before)) ∙ c .if1 .taken)
 
@@ -55,7 +55,7 @@ is-over-requires c κs = search needs
 
 returns-2 : tie.Need-returns-2
 returns-2 c =
-    let s = c .before .before .before .before .before .before .before .before .before in
+    let s = c .before .before .before .before .before .before .before .before .before .before in
     weighed-over (s .args .outline) (s .args .dialect) (isMet s) (isOver s) (bidsOf s .levels) (asksOf s .levels)
     (sym (tested-twice (c .before .before .before .before .before .before .before)) ∙ c .before .before .before .before .before .before .if1 .left) (sym (tested-over (c .before)) ∙ c .if2 .taken)
 
@@ -64,19 +64,19 @@ checksum-of-requires c κs = search needs
 
 returns-3 : tie.Need-returns-3
 returns-3 c =
-    let s = c .before .before .before .before .before .before .before .before .before .before .before .before .before in
+    let s = c .before .before .before .before .before .before .before .before .before .before .before .before .before .before in
     weighed-wrong (s .args .outline) (s .args .dialect) (isMet s) (isOver s) (bidsOf s .levels) (asksOf s .levels)
     (sym (tested-twice (c .before .before .before .before .before .before .before .before .before .before .before)) ∙ c .before .before .before .before .before .before .before .before .before .before .if1 .left) (sym (tested-over (c .before .before .before .before .before)) ∙ c .before .before .before .before .if2 .left) (c .before .before .before .if3 .taken) (λ q. c .if4 .taken (q ∙ sym (c .before .before .checksum-of .ensures)))
 
 returns-4 : tie.Need-returns-4
 returns-4 c =
-    let s = c .before .before .before .before .before .before .before .before .before .before .before .before .before in
+    let s = c .before .before .before .before .before .before .before .before .before .before .before .before .before .before in
     weighed-right (s .args .outline) (s .args .dialect) (isMet s) (isOver s) (bidsOf s .levels) (asksOf s .levels)
     (sym (tested-twice (c .before .before .before .before .before .before .before .before .before .before .before)) ∙ c .before .before .before .before .before .before .before .before .before .before .if1 .left) (sym (tested-over (c .before .before .before .before .before)) ∙ c .before .before .before .before .if2 .left) (c .before .before .before .if3 .taken) (c .if4 .left ∙ c .before .before .checksum-of .ensures)
 
 returns-5 : tie.Need-returns-5
 returns-5 c =
-    let s = c .before .before .before .before .before .before .before .before .before .before in
+    let s = c .before .before .before .before .before .before .before .before .before .before .before in
     weighed-unprinted (s .args .outline) (s .args .dialect) (isMet s) (isOver s) (bidsOf s .levels) (asksOf s .levels)
     (sym (tested-twice (c .before .before .before .before .before .before .before .before)) ∙ c .before .before .before .before .before .before .before .if1 .left) (sym (tested-over (c .before .before)) ∙ c .before .if2 .left) (c .if3 .left)
 

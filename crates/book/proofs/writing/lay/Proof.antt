@@ -2,11 +2,12 @@
 use Rattle.book.proofs.Snapshots.{name-length, k-text, m-text, no-text}
 use Rattle.book.proofs.Settling.{m-sums}
 use mathlib.Core.Path.{sym, subst}
-use mathlib.Core.List.{List}
+use mathlib.Core.List.{List, []}
 use Prim.Native.Nat.{ℕ}
 use native.Mathlib.Omega.{arith}
 use denote.Ref.{now}
 use Rattle.decimal.specs.Buffer.{Laid}
+use Rattle.crc32.proofs.Filled.{empty-table}
 use borrow.Author.Needs.{needs}
 use Rattle.book.proofs.writing.lay.Statement.{statement}
 use Rattle.book.proofs.writing.lay.Tie as tie
@@ -33,24 +34,31 @@ k-write-requires c κs =
 enum-told-2 : tie.Need-enum-told-2
 enum-told-2 c = search needs
 
+array-share-prefix-none : tie.Need-array-share-prefix-none
+array-share-prefix-none c = search needs
+
+slice-aggregate-m-checksum : tie.Need-slice-aggregate-m-checksum
+slice-aggregate-m-checksum c = search needs
+
 m-checksum-requires : tie.Need-m-checksum-requires
 m-checksum-requires c κs =
-    let a = c .before .before .before .before .before .before .before .before .before .before .before .args in
-    let g = c .before .before .before .before .before .before .before .before .before .before .before .pre in
-    m-sums (a .book .settings .dialect) (a .book .bids) (a .book .asks) (c .before .before .before .before .enum-told2 .given .1) (g .bids) (g .asks)
+    let a = c .before .before .before .before .before .before .before .before .before .before .before .before .args in
+    let g = c .before .before .before .before .before .before .before .before .before .before .before .before .pre in
+    let q = m-sums (a .book .settings .dialect) (a .book .bids) (a .book .asks) (c .before .before .before .before .before .enum-told2 .given .1) (g .bids) (g .asks) in
+    (q .0, q .1, q .2, q .3, empty-table [])
 
 array-share-prefix-name-2 : tie.Need-array-share-prefix-name-2
 array-share-prefix-name-2 c = search needs
 
 slice-aggregate-m-write : tie.Need-slice-aggregate-m-write
 slice-aggregate-m-write c =
-    let a = c .before .before .before .before .before .before .before .before .before .before .before .before .before .args in
-    sym (name-length (a .book) (c .before .before .before .before .before .before .before .before .before .before .before .before .before .pre))
+    let a = c .before .before .before .before .before .before .before .before .before .before .before .before .before .before .args in
+    sym (name-length (a .book) (c .before .before .before .before .before .before .before .before .before .before .before .before .before .before .pre))
 
 m-write-requires : tie.Need-m-write-requires
 m-write-requires c κs =
-    let a = c .before .before .before .before .before .before .before .before .before .before .before .before .before .before .args in
-    let g = c .before .before .before .before .before .before .before .before .before .before .before .before .before .before .pre in
+    let a = c .before .before .before .before .before .before .before .before .before .before .before .before .before .before .before .args in
+    let g = c .before .before .before .before .before .before .before .before .before .before .before .before .before .before .before .pre in
     let n = name-length (a .book) g in
     let s = g .short in
     (g .bids .good, g .asks .good, g .bids .sized, g .asks .sized, omega arith)
@@ -71,8 +79,8 @@ same-length-2 c = search needs
 
 returns-2 : tie.Need-returns-2
 returns-2 c =
-    let a = c .before .before .before .before .before .before .before .before .before .before .before .before .before .before .before .before .before .args in
-    subst (λ (t : List ℕ). Laid (now (a .buffer)) 0 t (c .before .before .m-write .last .1 .1 .1 .1 .1 .0) (c .before .before .m-write .result)) (m-text (a .book) (c .before .before .before .before .before .before .before .before .before .before .enum-told2 .given .1) (c .before .before .before .before .before .m-checksum .result) (c .before .before .before .before .before .m-checksum .ensures)) (c .before .before .m-write .ensures)
+    let a = c .before .before .before .before .before .before .before .before .before .before .before .before .before .before .before .before .before .before .args in
+    subst (λ (t : List ℕ). Laid (now (a .buffer)) 0 t (c .before .before .m-write .last .1 .1 .1 .1 .1 .0) (c .before .before .m-write .result)) (m-text (a .book) (c .before .before .before .before .before .before .before .before .before .before .before .enum-told2 .given .1) (c .before .before .before .before .before .m-checksum .result) (c .before .before .before .before .before .m-checksum .ensures)) (c .before .before .m-write .ensures)
 
 returns-3 : tie.Need-returns-3
 returns-3 c =
@@ -88,6 +96,8 @@ lay-spec =
     slice-aggregate-k-write
     k-write-requires
     enum-told-2
+    array-share-prefix-none
+    slice-aggregate-m-checksum
     m-checksum-requires
     array-share-prefix-name-2
     slice-aggregate-m-write

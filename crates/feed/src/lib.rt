@@ -1,7 +1,8 @@
 // A feed: line 1 opens a book, and every later line is a message to it.
 //
 //     let mut book = feed::open(first_line);
-//     let heard = feed::hear_lines(book, text, buffer);     // the replies are &buffer[..heard.written], what is left is &text[heard.next..]
+//     let heard = feed::hear_lines(book, text, table, buffer);     // the replies are &buffer[..heard.written], what is left is &text[heard.next..]
+ghost use Rattle.crc32.specs.Table.{ShiftTable};
 ghost use Rattle.line_text.specs.Opening.{lineOne};
 ghost use Rattle.book.specs.Shown.{Good, Opened, shows};
 ghost use Rattle.feed.specs.Feed.{HeardLines};
@@ -30,9 +31,9 @@ pub fn open(line: &[u8]) -> Book
 }
 
 // Hands a book the lines that end in a text, as long as the buffer has room for the longest reply, and lays the
-// replies into it from its front.
-pub fn hear_lines(book: Book, s: &[u8], buffer: &mut [u8]) -> Heard
-    requires { ⌜ Good book ⌝ }
+// replies into it from its front. Checksums are summed by way of the table, which `crc32::fill_table` filled; one of no entries will do.
+pub fn hear_lines(book: Book, s: &[u8], table: &[u32], buffer: &mut [u8]) -> Heard
+    requires { ⌜ Good book × ShiftTable (now table) ⌝ }
     ensures { λ r. ⌜ HeardLines (now (s .entry)) (shows book) (now (buffer .entry)) r (now (buffer .exit)) ⌝ }
 {
     let mut bids = book.bids.words;
@@ -49,7 +50,7 @@ pub fn hear_lines(book: Book, s: &[u8], buffer: &mut [u8]) -> Heard
                 written,
             };
         }
-        let answered = header.take(&mut bids, &mut asks, &s[next..end]);
+        let answered = header.take(&mut bids, &mut asks, &s[next..end], table);
         let answer = answered.answer;
         header = answered.header;
         let counts = header.counts(Scope::Current);

@@ -19,15 +19,15 @@ use Rattle.feed.proofs.hear_lines.Statement.{statement}
 use Rattle.feed.proofs.hear_lines.Tie as tie
 
 abbrev Inv-loop : tie.InvT-loop
-Inv-loop s buffer₀ bids₀ asks₀ header₀ next₀ written₀ buffer bids asks header next written = Walk s (shows (bookOf bids₀ asks₀ header₀)) buffer₀ buffer (bookOf bids asks header) next written
+Inv-loop s table buffer₀ bids₀ asks₀ header₀ next₀ written₀ buffer bids asks header next written = Walk s (shows (bookOf bids₀ asks₀ header₀)) buffer₀ buffer (bookOf bids asks header) next written
 
 abbrev μ-loop : tie.MeasureT-loop
-μ-loop s buffer₀ bids₀ asks₀ header₀ next₀ written₀ buffer bids asks header next written = length s - next
+μ-loop s table buffer₀ bids₀ asks₀ header₀ next₀ written₀ buffer bids asks header next written = length s - next
 
 -- ---- the line, and the reply to it
 
 abbrev line : tie.After-number-of Inv-loop μ-loop → List ℕ
-line c = take (c .before .before .before .before .before .before .before .before .find .result - c .before .before .before .before .before .before .before .before .before .before .loop .next) (drop (c .before .before .before .before .before .before .before .before .before .before .loop .next) (c .before .before .before .before .before .before .before .before .before .before .before .before .before .before .before .before .args .s .now))
+line c = take (c .before .before .before .before .before .before .before .before .find .result - c .before .before .before .before .before .before .before .before .before .before .loop .next) (drop (c .before .before .before .before .before .before .before .before .before .before .loop .next) (c .before .before .before .before .before .before .before .before .before .before .before .before .before .before .before .before .before .args .s .now))
 
 abbrev text : tie.After-number-of Inv-loop μ-loop → List ℕ
 text c = replyText (c .before .before .before .take .result .answer) (eqb (c .number-of .result) 0) (c .before .counts .result .bids) (c .before .counts .result .asks)
@@ -54,9 +54,9 @@ header-requires c κs = search needs
 
 loop-holds : tie.Need-loop-holds Inv-loop μ-loop
 loop-holds c =
-    let s = c .before .before .before .before .before in
+    let s = c .before .before .before .before .before .before in
     let b = s .args .book in
-    begun (s .args .s .now) (s .args .buffer .now) (subst (λ (h : Header). Good (bookOf (b .bids .words) (b .asks .words) h)) (sym (c .header .ensures)) (s .pre))
+    begun (s .args .s .now) (s .args .buffer .now) (subst (λ (h : Header). Good (bookOf (b .bids .words) (b .asks .words) h)) (sym (c .header .ensures)) (s .pre .0))
 
 sub-loop : tie.Need-sub-loop Inv-loop μ-loop
 sub-loop c = c .loop .inv .room
@@ -72,7 +72,7 @@ same-length c = search needs
 
 returns : tie.Need-returns Inv-loop μ-loop
 returns c =
-    let b = c .before .before .before .before .before .before .before .before .before .before .args .book in
+    let b = c .before .before .before .before .before .before .before .before .before .before .before .args .book in
     heard-as (ap (λ (h : Header). shows (bookOf (b .bids .words) (b .asks .words) h)) (c .before .before .before .before .before .header .ensures)) (c .join .ensures)
     (ended-lines (c .before .before .before .before .loop .inv) (c .before .before .find .ensures .2) (c .before .if1 .taken))
 
@@ -86,7 +86,7 @@ part-take-end : tie.Need-part-take-end Inv-loop μ-loop
 part-take-end c = search needs
 
 take-requires : tie.Need-take-requires Inv-loop μ-loop
-take-requires c κs = c .before .before .before .before .before .before .loop .inv .good
+take-requires c κs = (c .before .before .before .before .before .before .loop .inv .good, c .before .before .before .before .before .before .before .before .before .before .before .before .before .pre .1)
 
 counts-requires : tie.Need-counts-requires Inv-loop μ-loop
 counts-requires c κs = search needs
@@ -98,7 +98,7 @@ write-reply-requires : tie.Need-write-reply-requires Inv-loop μ-loop
 write-reply-requires c κs = fits (c .before)
 
 add-next : tie.Need-add-next Inv-loop μ-loop
-add-next c = let h = c .before .before .before .before .before .before .before .before .before .before .before .if1 .left in let g = c .before .before .before .before .before .before .before .before .before .before .before .before .before .before .before .before .before .before .before .before .good in omega arith
+add-next c = let h = c .before .before .before .before .before .before .before .before .before .before .before .if1 .left in let g = c .before .before .before .before .before .before .before .before .before .before .before .before .before .before .before .before .before .before .before .before .before .good in omega arith
 
 loop-less : tie.Need-loop-less Inv-loop μ-loop
 loop-less c = let w = c .before .before .before .before .before .before .before .before .before .before .before .before .find .ensures in omega arith
@@ -117,7 +117,7 @@ same-length-2 c = search needs
 
 returns-2 : tie.Need-returns-2 Inv-loop μ-loop
 returns-2 c =
-    let b = c .before .before .before .before .before .before .before .before .args .book in
+    let b = c .before .before .before .before .before .before .before .before .before .args .book in
     heard-as (ap (λ (h : Header). shows (bookOf (b .bids .words) (b .asks .words) h)) (c .before .before .before .header .ensures)) (c .join2 .ensures)
     (ended-room (c .before .before .loop .inv) (c .before .loop-test .left))
 

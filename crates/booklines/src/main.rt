@@ -3,12 +3,15 @@
 // Input comes in large blocks. A line that a block leaves unfinished is carried over to the next one. The replies to
 // a block's lines are written before the next block is read.
 use book::Book;
+use crc32::SHIFT_TABLE;
+use crc32::fill_table;
 use libc::STDIN_FILENO;
 use libc::STDOUT_FILENO;
 use lines::LINE_END;
 use lines::find;
 ghost use Prim.Native.Nat.{_+_, _≤_, _<_};
 ghost use lib.ListN.{length};
+ghost use Rattle.crc32.specs.Table.{ShiftTable};
 ghost use Rattle.book.specs.Shown.{Good};
 ghost use Rattle.feed.specs.Feed.{carried};
 
@@ -22,7 +25,9 @@ const CARRIED: usize = message::MAX_MESSAGE + 1;
 fn main() {
     let mut input = [0; INPUT];
     let mut output = [0; OUTPUT];
-    run(&mut input, &mut output);
+    let mut table = [0; SHIFT_TABLE];
+    fill_table(&mut table);
+    run(&mut input, &mut output, &table);
 }
 
 // Whether line 1 was read; a book that it has not opened yet is shut.
@@ -38,8 +43,8 @@ struct Served {
 }
 
 // Serves block after block until the input ends.
-fn run(input: &mut [u8], output: &mut [u8])
-    requires { ⌜ carried < length (now input) ⌝ }
+fn run(input: &mut [u8], output: &mut [u8], table: &[u32])
+    requires { ⌜ (carried < length (now input)) × ShiftTable (now table) ⌝ }
 {
     let mut session = Session {
         opened: false,
@@ -51,11 +56,11 @@ fn run(input: &mut [u8], output: &mut [u8])
         turns -= 1;
         let got = read_more(input, held);
         if got == 0 {
-            finish(session, input, held, output);
+            finish(session, input, held, output, table);
             return;
         }
         let to = held + got;
-        let served = serve(session, &input[..to], held, output);
+        let served = serve(session, &input[..to], held, output, table);
         let next = served.next;
         session = served.session;
         held = lines::move_to_front(input, next, to, CARRIED);
@@ -63,15 +68,15 @@ fn run(input: &mut [u8], output: &mut [u8])
 }
 
 // Serves a last line that has no line end, if it isn't empty.
-fn finish(session: Session, input: &mut [u8], held: usize, output: &mut [u8])
-    requires { ⌜ Good (session .book) × (held < length (now input)) ⌝ }
+fn finish(session: Session, input: &mut [u8], held: usize, output: &mut [u8], table: &[u32])
+    requires { ⌜ Good (session .book) × (held < length (now input)) × ShiftTable (now table) ⌝ }
 {
     if held == 0 {
         return;
     }
     input[held] = LINE_END;
     let to = held + 1;
-    serve(session, &input[..to], held, output);
+    serve(session, &input[..to], held, output, table);
 }
 
 // One read into a buffer from a position on.
@@ -85,8 +90,8 @@ fn read_more(buffer: &mut [u8], from: usize) -> usize
 }
 
 // Line 1, if it was not read yet, and the messages after it. No line ends before the position `fresh`.
-fn serve(session: Session, s: &[u8], fresh: usize, output: &mut [u8]) -> Served
-    requires { ⌜ Good (session .book) × (fresh ≤ length (now s)) ⌝ }
+fn serve(session: Session, s: &[u8], fresh: usize, output: &mut [u8], table: &[u32]) -> Served
+    requires { ⌜ Good (session .book) × (fresh ≤ length (now s)) × ShiftTable (now table) ⌝ }
     ensures { λ r. ⌜ Good (r .session .book) × (r .next ≤ length (now (s .entry))) ⌝ }
 {
     let end = find(s, fresh, LINE_END);
@@ -95,14 +100,14 @@ fn serve(session: Session, s: &[u8], fresh: usize, output: &mut [u8]) -> Served
     }
     if session.opened {
         let book = session.book;
-        return reply(book, s, 0, output);
+        return reply(book, s, 0, output, table);
     }
-    reply(feed::open(&s[..end]), s, end + 1, output)
+    reply(feed::open(&s[..end]), s, end + 1, output, table)
 }
 
 // Writes the replies to the lines from a position on.
-fn reply(opened: Book, s: &[u8], from: usize, output: &mut [u8]) -> Served
-    requires { ⌜ Good opened × (from ≤ length (now s)) ⌝ }
+fn reply(opened: Book, s: &[u8], from: usize, output: &mut [u8], table: &[u32]) -> Served
+    requires { ⌜ Good opened × (from ≤ length (now s)) × ShiftTable (now table) ⌝ }
     ensures { λ r. ⌜ Good (r .session .book) × (r .next ≤ length (now (s .entry))) ⌝ }
 {
     let mut book = opened;
@@ -110,7 +115,7 @@ fn reply(opened: Book, s: &[u8], from: usize, output: &mut [u8]) -> Served
     let mut turns = u64::MAX;
     while turns > 0 {
         turns -= 1;
-        let heard = feed::hear_lines(book, &s[next..], output);
+        let heard = feed::hear_lines(book, &s[next..], table, output);
         let written = heard.written;
         if written == 0 {
             break;

@@ -20,13 +20,17 @@ add-to : tie.Need-add-to
 add-to c = search needs
 
 slice-reshare-prefix-serve : tie.Need-slice-reshare-prefix-serve
-slice-reshare-prefix-serve c = fits (c .before .before .before)
+slice-reshare-prefix-serve c = fits (c .before .before .before .before)
 
 slice-aggregate-serve : tie.Need-slice-aggregate-serve
-slice-aggregate-serve c = front (c .before .before .before .before .args .held + 1) (set (c .before .before .before .before .args .input .now) (c .before .before .before .before .args .held) 10) (fits (c .before .before .before .before))
+slice-aggregate-serve c =
+    let s = c .before .before .before .before .before in
+    front (s .args .held + 1) (set (s .args .input .now) (s .args .held) 10) (fits s)
 
 serve-requires : tie.Need-serve-requires
-serve-requires c κs = (c .before .before .before .before .before .pre .0, in-front (c .before .before .before .before .before .args .held) (c .before .before .before .before .before .args .held + 1) (set (c .before .before .before .before .before .args .input .now) (c .before .before .before .before .before .args .held) 10) (omega arith) (fits (c .before .before .before .before .before)))
+serve-requires c κs =
+    let s = c .before .before .before .before .before .before in
+    (s .pre .0, in-front (s .args .held) (s .args .held + 1) (set (s .args .input .now) (s .args .held) 10) (omega arith) (fits s), s .pre .2)
 
 same-length : tie.Need-same-length
 same-length c = search needs

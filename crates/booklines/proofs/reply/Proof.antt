@@ -11,16 +11,16 @@ use Rattle.booklines.proofs.reply.Statement.{statement}
 use Rattle.booklines.proofs.reply.Tie as tie
 
 abbrev Inv-loop : tie.InvT-loop
-Inv-loop s from output₀ book₀ next₀ turns₀ output book next turns = Good book × (next ≤ length s) × (length output ≡ length output₀)
+Inv-loop s from output₀ table book₀ next₀ turns₀ output book next turns = Good book × (next ≤ length s) × (length output ≡ length output₀)
 
 abbrev μ-loop : tie.MeasureT-loop
-μ-loop s from output₀ book₀ next₀ turns₀ output book next turns = turns
+μ-loop s from output₀ table book₀ next₀ turns₀ output book next turns = turns
 
-within : (c : tie.After-hear-lines Inv-loop μ-loop) → c .before .before .before .before .loop .next + c .hear-lines .result .next ≤ length (c .before .before .before .before .before .before .before .args .s .now)
-within c = rest-within (c .before .before .before .before .before .before .before .args .s .now) (c .before .before .before .before .loop .next) (c .hear-lines .result .next) (c .before .before .before .before .loop .inv .1) (c .hear-lines .ensures .within)
+within : (c : tie.After-hear-lines Inv-loop μ-loop) → c .before .before .before .before .loop .next + c .hear-lines .result .next ≤ length (c .before .before .before .before .before .before .before .before .args .s .now)
+within c = rest-within (c .before .before .before .before .before .before .before .before .args .s .now) (c .before .before .before .before .loop .next) (c .hear-lines .result .next) (c .before .before .before .before .loop .inv .1) (c .hear-lines .ensures .within)
 
 loop-holds : tie.Need-loop-holds Inv-loop μ-loop
-loop-holds c = (c .before .before .pre .0, c .before .before .pre .1, refl)
+loop-holds c = (c .before .before .before .pre .0, c .before .before .before .pre .1, refl)
 
 sub-turns : tie.Need-sub-turns Inv-loop μ-loop
 sub-turns c = search needs
@@ -35,10 +35,10 @@ part-hear-lines-end : tie.Need-part-hear-lines-end Inv-loop μ-loop
 part-hear-lines-end c = search needs
 
 hear-lines-requires : tie.Need-hear-lines-requires Inv-loop μ-loop
-hear-lines-requires c κs = c .before .before .before .loop .inv .0
+hear-lines-requires c κs = (c .before .before .before .loop .inv .0, c .before .before .before .before .before .before .before .pre .2)
 
 add-next : tie.Need-add-next Inv-loop μ-loop
-add-next c = let w = within (c .before .before .before .before .before) in let g = c .before .before .before .before .before .before .before .before .before .before .before .before .good in omega arith
+add-next c = let w = within (c .before .before .before .before .before) in let g = c .before .before .before .before .before .before .before .before .before .before .before .before .before .good in omega arith
 
 slice-reshare-prefix-write-all : tie.Need-slice-reshare-prefix-write-all Inv-loop μ-loop
 slice-reshare-prefix-write-all c = let r = c .before .before .before .before .before .hear-lines .ensures .room in search needs
@@ -46,8 +46,8 @@ slice-reshare-prefix-write-all c = let r = c .before .before .before .before .be
 slice-aggregate-write-all : tie.Need-slice-aggregate-write-all Inv-loop μ-loop
 slice-aggregate-write-all c =
     let r = c .before .before .before .before .before .before .hear-lines .ensures .room in
-    let b : c .before .before .before .before .before .before .hear-lines .result .written ≤ length (c .before .before .before .before .before .before .hear-lines .last .1 .1 .0) = search needs in
-    sym (length-take-le (c .before .before .before .before .before .before .hear-lines .result .written) (c .before .before .before .before .before .before .hear-lines .last .1 .1 .0) b)
+    let b : c .before .before .before .before .before .before .hear-lines .result .written ≤ length (c .before .before .before .before .before .before .hear-lines .last .1 .1 .1 .0) = search needs in
+    sym (length-take-le (c .before .before .before .before .before .before .hear-lines .result .written) (c .before .before .before .before .before .before .hear-lines .last .1 .1 .1 .0) b)
 
 write-all-requires : tie.Need-write-all-requires Inv-loop μ-loop
 write-all-requires c κs = search needs

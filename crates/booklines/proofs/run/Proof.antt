@@ -11,14 +11,14 @@ use Rattle.booklines.proofs.run.Statement.{statement}
 use Rattle.booklines.proofs.run.Tie as tie
 
 abbrev Inv-loop : tie.InvT-loop
-Inv-loop input₀ output₀ session₀ held₀ turns₀ input output session held turns = Good (session .book) × (held ≤ carried) × (length input ≡ length input₀) × (length output ≡ length output₀)
+Inv-loop input₀ output₀ table session₀ held₀ turns₀ input output session held turns = Good (session .book) × (held ≤ carried) × (length input ≡ length input₀) × (length output ≡ length output₀)
 
 abbrev μ-loop : tie.MeasureT-loop
-μ-loop input₀ output₀ session₀ held₀ turns₀ input output session held turns = turns
+μ-loop input₀ output₀ table session₀ held₀ turns₀ input output session held turns = turns
 
 held : (c : tie.At-loop Inv-loop μ-loop) → c .loop .held < length (c .loop .input)
 held c =
-    let p = c .before .before .before .before .before .pre in
+    let p = c .before .before .before .before .before .before .pre .0 in
     let h = c .loop .inv .1 in
     let l = c .loop .inv .2 in
     omega arith
@@ -45,7 +45,7 @@ finish-requires : tie.Need-finish-requires Inv-loop μ-loop
 finish-requires c κs =
     let h = held (c .before .before .before .before .before .before .before .before) in
     let k = kept (c .before .before .before .before) in
-    (c .before .before .before .before .before .before .before .before .loop .inv .0, omega arith)
+    (c .before .before .before .before .before .before .before .before .loop .inv .0, omega arith, c .before .before .before .before .before .before .before .before .before .before .before .before .before .before .pre .1)
 
 same-length : tie.Need-same-length Inv-loop μ-loop
 same-length c = search needs
@@ -70,7 +70,7 @@ slice-aggregate-serve c =
 serve-requires : tie.Need-serve-requires Inv-loop μ-loop
 serve-requires c κs =
     let r = c .before .before .before .before .before .read-more .ensures in
-    (c .before .before .before .before .before .before .before .before .loop .inv .0, in-front (c .before .before .before .before .before .before .before .before .loop .held) (c .before .before .before .before .before .before .before .before .loop .held + c .before .before .before .before .before .read-more .result) (c .before .before .before .before .before .read-more .last .0) (omega arith) (search needs))
+    (c .before .before .before .before .before .before .before .before .loop .inv .0, in-front (c .before .before .before .before .before .before .before .before .loop .held) (c .before .before .before .before .before .before .before .before .loop .held + c .before .before .before .before .before .read-more .result) (c .before .before .before .before .before .read-more .last .0) (omega arith) (search needs), c .before .before .before .before .before .before .before .before .before .before .before .before .before .before .pre .1)
 
 move-to-front-requires : tie.Need-move-to-front-requires Inv-loop μ-loop
 move-to-front-requires c κs =

@@ -21,7 +21,7 @@ returns-2 : tie.Need-returns-2
 returns-2 c = search needs
 
 slice-aggregate-open : tie.Need-slice-aggregate-open
-slice-aggregate-open c = sym (length-take-le (c .before .before .before .find .result) (c .before .before .before .before .before .before .args .s .now) (c .before .before .before .find .ensures .1))
+slice-aggregate-open c = sym (length-take-le (c .before .before .before .find .result) (c .before .before .before .before .before .before .before .args .s .now) (c .before .before .before .find .ensures .1))
 
 open-requires : tie.Need-open-requires
 open-requires c κs = search needs

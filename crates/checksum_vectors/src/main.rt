@@ -24,6 +24,9 @@ use side::Side;
 
 const BLANK: u8 = 32;
 
+// A table of twenty rows: some pieces are summed by way of it, and longer ones without it.
+const TABLE: usize = 5120;
+
 // A book: its dialect, K or M, its depth, its sides.
 struct Book {
     m: bool,
@@ -254,10 +257,12 @@ fn sum_of(book: Book) -> u32
 {
     let bids = book.bids;
     let asks = book.asks;
+    let mut table = [0; TABLE];
+    crc32::fill_table(&mut table);
     if book.m {
-        return checksum::m_checksum(&bids.words, bids.count, &asks.words, asks.count);
+        return checksum::m_checksum(&bids.words, bids.count, &asks.words, asks.count, &table);
     }
-    checksum::k_checksum(&bids.words, bids.count, &asks.words, asks.count)
+    checksum::k_checksum(&bids.words, bids.count, &asks.words, asks.count, &table)
 }
 
 fn show_levels(levels: Levels)

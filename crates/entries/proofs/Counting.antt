@@ -11,8 +11,8 @@ use Rattle.decimal.specs.Decimal.{Number, read, isZero}
 use Rattle.json.specs.Json.{Span}
 use Rattle.entries.specs.Places.{inner}
 use Rattle.entries.specs.Rows.{badPrice, badSize}
-use Rattle.entries.specs.Summary.{zeroSize, noEntries}
-use Rattle.entries.specs.Counting.{amountOf, isBadPrice, isBadSize, isZeroSize, withRow, counted}
+use Rattle.entries.specs.Summary.{foundOf, zeroSize, noEntries}
+use Rattle.entries.specs.Counting.{amountOf, isBadPrice, isBadSize, isZeroSize, withRow, withNumbers, counted}
 use Rattle.entries.specs.declared.Found.{Found}
 use Rattle.entries.specs.declared.Entries.{Entries}
 use Rattle.entries.specs.declared.Amount.{Amount}
@@ -78,6 +78,10 @@ module _ (s : List ℕ) (a : Span) where
       go refused = refl
 
 -- ---- one more entry
+pub or-false : (a : Bool) → (a || false) ≡ a
+or-false true = refl
+or-false false = refl
+
 module _ (s : List ℕ) (sum : Entries) (f : Found) where
   abbrev price : Span
   price = record { from = f .«price_from»; to = f .«price_to» }
@@ -107,6 +111,53 @@ module _ (s : List ℕ) (sum : Entries) (f : Found) where
       hb ∙ ap₂ (λ (m n : Bool). sum .broken || (m || n)) (ap isBadPrice hp ∙ sym (bad-price s price)) (ap isBadSize hz ∙ sym (bad-size s size)) in
       let y : w ≡ (sum .zero || zeroSize s size) = hw ∙ ap (λ (m : Bool). sum .zero || m) (ap isZeroSize hz ∙ sym (zero-size s size)) in
       ap₂ (λ (m n : Bool). record { end = f .end; fair = true; count = sum .count + 1; broken = m; zero = n }) x y ∙ sym (counted-row h g)
+
+  -- by the numbers of the two texts
+  pub counted-numbers : f .fair ≡ true → (p z : Number) → read (inner s price) ≡ reads p → read (inner s size) ≡ reads z
+      → withNumbers sum (f .end) p z ≡ counted s sum f
+  unfolding withNumbers withRow badPrice badSize zeroSize
+  counted-numbers g p z hp hz = go (sum .fair) refl
+    where
+      price-zero : badPrice s price ≡ isZero p
+      price-zero = rw (hp, badPrice)
+
+      size-fair : badSize false s size ≡ false
+      size-fair = rw (hz, badSize)
+
+      size-zero : zeroSize s size ≡ isZero z
+      size-zero = rw (hz, zeroSize)
+
+      go : (b : Bool) → sum .fair ≡ b → withNumbers sum (f .end) p z ≡ counted s sum f
+      go true h =
+          rw (h, withNumbers) (ap₂ (λ (m n : Bool). record { end = f .end; fair = true; count = sum .count + 1; broken = sum .broken || m; zero = sum .zero || n })
+          (sym (or-false (isZero p)) ∙ ap₂ (λ (m n : Bool). m || n) (sym price-zero) (sym size-fair)) (sym size-zero))
+          ∙ sym (counted-row h g)
+      go false h = rw (h, withNumbers) refl ∙ sym (counted-unfair h)
+
+  -- it ends where the entry ends
+  pub counted-end : counted s sum f .end ≡ f .end
+  unfolding withRow noEntries
+  counted-end = go (sum .fair) (f .fair) refl refl
+    where
+      go : (b c : Bool) → sum .fair ≡ b → f .fair ≡ c → counted s sum f .end ≡ f .end
+      go true true p q = ap (λ (x : Entries). x .end) (counted-row p q)
+      go true false p q = ap (λ (x : Entries). x .end) (counted-other p q)
+      go false c p q = ap (λ (x : Entries). x .end) (counted-unfair p)
+
+  -- nothing is counted of a value that is no entry
+  pub counted-none : (e : ℕ) → f ≡ foundOf e refused → noEntries e ≡ counted s sum f
+  unfolding foundOf
+  counted-none e h = go (sum .fair) refl
+    where
+      fair : f .fair ≡ false
+      fair = ap (λ (x : Found). x .fair) h
+
+      end : f .end ≡ e
+      end = ap (λ (x : Found). x .end) h
+
+      go : (b : Bool) → sum .fair ≡ b → noEntries e ≡ counted s sum f
+      go true p = ap noEntries (sym end) ∙ sym (counted-other p fair)
+      go false p = ap noEntries (sym end) ∙ sym (counted-unfair p)
 
   -- the count is no larger than the position
   pub counted-few : sum .count + 1 ≤ f .end → counted s sum f .count ≤ f .end

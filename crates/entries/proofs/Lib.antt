@@ -5,4 +5,5 @@ pub mod Strings
 pub mod Counting
 pub mod Summary
 pub mod Claims
+pub mod Decimals
 pub mod Shift

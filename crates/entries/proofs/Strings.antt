@@ -10,7 +10,7 @@ use lib.Dec.{eqb, ltb}
 use borrow.Author.Tests.{eqb-true}
 use Rattle.decimal.specs.Digits.{Reading, reads, refused}
 use Rattle.json_tokens.specs.Bytes.{byteAt, hexDigit, escaped}
-use Rattle.json_tokens.specs.Tokens.{End, At, chars, escape, hexes, stringRest, string}
+use Rattle.json_tokens.specs.Tokens.{End, At, Broken, chars, escape, hexes, stringRest, string}
 use Rattle.json_tokens.proofs.Laws.{string-yes}
 use Rattle.json_tokens.proofs.Bounds.{In, within, none, bounds, in-when, in-sub, string-in}
 use Rattle.json.specs.Json.{Span, Items, items, noItems, elements, value}
@@ -19,7 +19,7 @@ use Rattle.json.proofs.Laws.{value-string}
 use Rattle.json.proofs.Claims.{elements-in-order}
 use Rattle.entries.specs.Places.{andThen, isString, contents, arrayAt}
 use Rattle.entries.specs.Rows.{Row, rowK, entryK, rowM, entryM}
-use Rattle.entries.proofs.Stops.{string-byte}
+use Rattle.entries.proofs.Stops.{broken-at, string-byte}
 
 -- ---- a string has two quotes: past the first, it ends past where it begins
 step : (t : List ℕ) (i : ℕ) {x : End} → In (i + 1 + 1) (i + 1 + length t) x → In (i + 1) (i + suc (length t)) x
@@ -45,6 +45,18 @@ mutual
   hexes-in [] n i = none
   hexes-in (c ∷ t) zero i = in-when (hexDigit c) (λ h. step t i (chars-in t (i + 1))) none
   hexes-in (c ∷ t) (suc m) i = in-when (hexDigit c) (λ h. step t i (hexes-in t m (i + 1))) none
+
+-- a string that ends past the next byte has its second quote there
+pub chars-close : (c : ℕ) (t : List ℕ) (i : ℕ) → chars (c ∷ t) i ≡ At (i + 1) → c ≡ 34
+unfolding chars
+chars-close c t i h = go (eqb c 34) refl (eqb c 92) (ltb c 32) h
+  where
+    go : (b : Bool) → eqb c 34 ≡ b → (d f : Bool)
+        → elim b [ true ↦ At (i + 1) | false ↦ elim d [ true ↦ escape t (i + 1) | false ↦ elim f [ true ↦ Broken | false ↦ chars t (i + 1) ] ] ] ≡ At (i + 1) → c ≡ 34
+    go true q d f g = eqb-true _ _ q
+    go false q true f g = let b = bounds (i + 1) (escape-in t (i + 1)) g in absurd (omega arith)
+    go false q false true g = broken-at refl g
+    go false q false false g = let b = bounds (i + 1) (chars-in t (i + 1)) g in absurd (omega arith)
 
 pub string-two : (s : List ℕ) (i e : ℕ) → string s i ≡ At e → (i + 2 ≤ e) × (e ≤ length s)
 unfolding stringRest
@@ -72,8 +84,11 @@ string-at s a v h =
 abbrev pub Sound : (List ℕ → Span → Reading Row) → List ℕ → Type 0
 Sound entry s = (a : Span) (r : Row) → entry s a ≡ reads r → StringAt s (r .price) × StringAt s (r .size)
 
-no-row : {A B : Type 0} {r : B} → refused ≡ reads r → A
+pub no-row : {A B : Type 0} {r : B} → refused ≡ reads r → A
 no-row h = let z : _≡_ {A = ℕ} 0 1 = cc in absurd (omega arith)
+
+pub same-row : {A : Type 0} {x y : A} → _≡_ {A = Reading A} (reads x) (reads y) → y ≡ x
+same-row h = cc
 
 -- the row r is made of the first two elements, which are strings
 record Begins (s : List ℕ) (l : List Span) (r : Row) : Type 0 where
@@ -107,9 +122,6 @@ module _ (s : List ℕ) (row : List Span → Reading Row) (front : (l : List Spa
       go : (b : Bool) → andThen (cond b (contents (elements (value 12 s) s (a .from + 1))) refused) row ≡ reads r → StringAt s (r .price) × StringAt s (r .size)
       go true g = sound-items (a .from + 1) (elements (value 12 s) s (a .from + 1)) refl r g
       go false g = no-row g
-
-same-row : {x y : Row} → _≡_ {A = Reading Row} (reads x) (reads y) → y ≡ x
-same-row h = cc
 
 pub k-sound : (s : List ℕ) → Sound entryK s
 unfolding entryK rowK

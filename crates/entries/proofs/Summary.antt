@@ -23,7 +23,7 @@ use Rattle.entries.specs.Counting.{Laid, withRow, counted}
 use Rattle.entries.specs.declared.Found.{Found}
 use Rattle.entries.specs.declared.Entries.{Entries}
 use Rattle.entries.proofs.Strings.{StringAt, Sound}
-use Rattle.entries.proofs.Counting.{counted-row, counted-other, counted-unfair, counted-few}
+use Rattle.entries.proofs.Counting.{or-false, counted-row, counted-other, counted-unfair, counted-few}
 
 -- an entry among entries
 abbrev pub each : List ℕ → ℕ → Next Span
@@ -40,10 +40,6 @@ ended sum e = record { end = e; fair = sum .fair; count = sum .count; broken = s
 or-assoc : (a b c : Bool) → (a || (b || c)) ≡ ((a || b) || c)
 or-assoc true b c = refl
 or-assoc false b c = refl
-
-or-false : (a : Bool) → (a || false) ≡ a
-or-false true = refl
-or-false false = refl
 
 -- ---- what was counted, with the rows that are left
 added : List ℕ → Entries → ℕ → Reading (List Row) → Entries
@@ -237,6 +233,10 @@ module _ (entry : List ℕ → Span → Reading Row) (s : List ℕ) where
     found-is : (e : ℕ) → value 13 s i ≡ At e → g ≡ foundOf e (entry s (record { from = i; to = e }))
     unfolding foundAt
     found-is e v = told ∙ rw (v, foundAt)
+
+    pub found-broken : g .end ≡ 0 → g ≡ foundOf 0 refused
+    unfolding foundAt
+    found-broken z = told ∙ rw (end-broken (g .end) (omega arith) (value-in 13 s i) found-end z, foundAt)
 
     module _ (n : g .end ≡ 0 → ⊥) where
       ends-at : value 13 s i ≡ At (g .end)

@@ -56,6 +56,13 @@ withRow s sum end price size =
       zero = sum .zero || zeroSize s size;
     }
 
+-- The same by the numbers that the two texts say.
+unfoldable pub withNumbers : Entries → ℕ → Number → Number → Entries
+withNumbers sum end price size =
+    cond (sum .fair)
+    (record { end = end; fair = true; count = sum .count + 1; broken = sum .broken || isZero price; zero = sum .zero || isZero size })
+    (noEntries end)
+
 -- What was counted, and the entry f. Where one is none, nothing is counted any more.
 unfoldable pub counted : List ℕ → Entries → Found → Entries
 counted s sum f =

@@ -14,10 +14,13 @@
 //         let price = decimal::parse(&s[from..to]);
 //         ..
 //     }
+use decimal::Decimal;
 use decimal::Parsed;
+use decimal::ParsedFront;
 use decimal::parse;
 use json::value_end;
 use json_tokens::OPEN_ARRAY;
+use json_tokens::QUOTE;
 use json_tokens::array_close_end;
 use json_tokens::byte_at;
 use json_tokens::comma_end;
@@ -27,13 +30,14 @@ ghost use mathlib.Core.Path.{_≡_};
 ghost use mathlib.Core.Bool.{true, false, _||_};
 ghost use Prim.Native.Nat.{_+_, _≤_};
 ghost use Rattle.decimal.specs.Digits.{refused};
-ghost use Rattle.decimal.specs.Decimal.{read};
+ghost use Rattle.decimal.specs.Decimal.{number, read};
 ghost use Rattle.entries.specs.Places.{inner};
 ghost use Rattle.json_tokens.specs.Tokens.{endOf};
 ghost use Rattle.json.specs.Json.{value};
 ghost use Rattle.entries.specs.Rows.{entryDepth, entryK, entryM};
 ghost use Rattle.entries.specs.Summary.{foundOf, foundAt, noEntries, summaryAt};
-ghost use Rattle.entries.specs.Counting.{amountOf, isBadPrice, isBadSize, isZeroSize, Quoted, Laid, counted};
+ghost use Rattle.entries.specs.Counting.{amountOf, isBadPrice, isBadSize, isZeroSize, Quoted, Laid, withNumbers, counted};
+ghost use Rattle.entries.specs.Decimals.{decimalAt, decimalsAt, toldDecimal, toldDecimals};
 ghost use Rattle.entries.specs.Front.{Front, RestEnd, EntryEnd, restK};
 
 // How deep arrays and objects may nest in an array of entries, in an entry, and in an element of one.
@@ -69,6 +73,20 @@ pub struct Entries {
     pub zero: bool,
 }
 
+// The two decimals in quotes that an array begins with, a price and a size, and the position past the second. An end of 0 says that
+// they are not there.
+pub struct Amounts {
+    pub price: Decimal,
+    pub size: Decimal,
+    pub end: usize,
+}
+
+// A decimal in quotes, and the position past them. An end of 0 says that none is there.
+struct QuotedDecimal {
+    decimal: Decimal,
+    end: usize,
+}
+
 // What the text of a price or a size says.
 enum Amount {
     NoDecimal,
@@ -90,12 +108,11 @@ pub fn k_entries(s: &[u8], at: usize) -> Entries
     let mut i = skip_blanks(s, at + 1);
     let mut sum = empty(0);
     loop {
-        let found = k_entry(s, i);
-        let past = found.end;
+        let more = next_k(s, i, sum);
+        let past = more.end;
         if past == 0 {
             return refused(0);
         }
-        let more = counted(s, sum, found);
         let j = comma_end(s, past);
         if j == 0 {
             let end = array_close_end(s, past);
@@ -123,12 +140,11 @@ pub fn m_entries(s: &[u8], at: usize) -> Entries
     let mut i = skip_blanks(s, at + 1);
     let mut sum = empty(0);
     loop {
-        let found = m_entry(s, i);
-        let past = found.end;
+        let more = next_m(s, i, sum);
+        let past = more.end;
         if past == 0 {
             return refused(0);
         }
-        let more = counted(s, sum, found);
         let j = comma_end(s, past);
         if j == 0 {
             let end = array_close_end(s, past);
@@ -140,6 +156,45 @@ pub fn m_entries(s: &[u8], at: usize) -> Entries
         sum = more;
         i = j;
     }
+}
+
+// What was counted, and the entry of dialect K at `at` more. Most entries begin with two decimals in quotes, which are read in one go on
+// the way to the entry's end; any other is found first. Where the value there is not JSON, the end is 0.
+fn next_k(s: &[u8], at: usize, sum: Entries) -> Entries
+    requires { ⌜ sum .count ≤ at ⌝ }
+    ensures { λ r. ⌜ r ≡ counted (now (s .entry)) sum (foundAt entryK (now (s .entry)) at) ⌝ }
+{
+    let front = two_amounts(s, at);
+    if 0 < front.end {
+        let end = k_rest_end(s, front.end);
+        if 0 < end {
+            return with_amounts(sum, front, end);
+        }
+    }
+    let found = k_entry(s, at);
+    if found.end == 0 {
+        return refused(0);
+    }
+    counted(s, sum, found)
+}
+
+// The same of dialect M.
+fn next_m(s: &[u8], at: usize, sum: Entries) -> Entries
+    requires { ⌜ sum .count ≤ at ⌝ }
+    ensures { λ r. ⌜ r ≡ counted (now (s .entry)) sum (foundAt entryM (now (s .entry)) at) ⌝ }
+{
+    let front = two_amounts(s, at);
+    if 0 < front.end {
+        let end = array_close_end(s, front.end);
+        if 0 < end {
+            return with_amounts(sum, front, end);
+        }
+    }
+    let found = m_entry(s, at);
+    if found.end == 0 {
+        return refused(0);
+    }
+    counted(s, sum, found)
 }
 
 // The value at `at` as an entry of dialect K.
@@ -286,6 +341,34 @@ fn counted(s: &[u8], sum: Entries, found: Found) -> Entries
     refused(end)
 }
 
+// What was counted, and one entry more: its two decimals, and its end.
+fn with_amounts(sum: Entries, front: Amounts, end: usize) -> Entries
+    requires { ⌜ sum .count + 1 ≤ end ⌝ }
+    ensures { λ r. ⌜ r ≡ withNumbers sum end (number (front .price)) (number (front .size)) ⌝ }
+{
+    if sum.fair {
+        let price = front.price;
+        let size = front.size;
+        return Entries {
+            end,
+            fair: true,
+            count: sum.count + 1,
+            broken: either(sum.broken, decimal::is_zero(price)),
+            zero: either(sum.zero, decimal::is_zero(size)),
+        };
+    }
+    refused(end)
+}
+
+fn either(a: bool, b: bool) -> bool
+    ensures { λ r. ⌜ r ≡ (a || b) ⌝ }
+{
+    if a {
+        return true;
+    }
+    b
+}
+
 // What the text from `from` to `to`, quotes included, says. The decimal is read where it lies.
 fn amount_at(s: &[u8], from: usize, to: usize) -> Amount
     requires { ⌜ Quoted (now s) from to ⌝ }
@@ -388,4 +471,80 @@ pub fn k_rest_end(s: &[u8], at: usize) -> usize
         return 0;
     }
     rest_end(s, past)
+}
+
+// The two decimals in quotes that the array at `at` begins with.
+pub fn two_amounts(s: &[u8], at: usize) -> Amounts
+    ensures { λ r. ⌜ toldDecimals r ≡ decimalsAt (now (s .entry)) at ⌝ }
+{
+    if byte_at(s, at) != OPEN_ARRAY {
+        return no_amounts();
+    }
+    let first = quoted_decimal(s, skip_blanks(s, at + 1));
+    if first.end == 0 {
+        return no_amounts();
+    }
+    let next = comma_end(s, first.end);
+    if next == 0 {
+        return no_amounts();
+    }
+    let second = quoted_decimal(s, next);
+    let price = first.decimal;
+    let size = second.decimal;
+    Amounts {
+        price,
+        size,
+        end: second.end,
+    }
+}
+
+// The decimal in quotes at `at`. Digits and a point stand for themselves in a string, so that it is read in one go.
+fn quoted_decimal(s: &[u8], at: usize) -> QuotedDecimal
+    ensures { λ r. ⌜ toldDecimal r ≡ decimalAt (now (s .entry)) at ⌝ }
+{
+    if byte_at(s, at) != QUOTE {
+        return no_decimal();
+    }
+    match decimal::parse_at(s, at + 1) {
+        ParsedFront::Number(decimal, end) => {
+            if byte_at(s, end) != QUOTE {
+                return no_decimal();
+            }
+            QuotedDecimal {
+                decimal,
+                end: end + 1,
+            }
+        }
+        ParsedFront::Refused => no_decimal(),
+    }
+}
+
+// No two decimals in quotes.
+fn no_amounts() -> Amounts
+    ensures { λ r. ⌜ r .end ≡ 0 ⌝ }
+{
+    Amounts {
+        price: Decimal {
+            digits: 0,
+            decimals: 0,
+        },
+        size: Decimal {
+            digits: 0,
+            decimals: 0,
+        },
+        end: 0,
+    }
+}
+
+// No decimal in quotes.
+fn no_decimal() -> QuotedDecimal
+    ensures { λ r. ⌜ r .end ≡ 0 ⌝ }
+{
+    QuotedDecimal {
+        decimal: Decimal {
+            digits: 0,
+            decimals: 0,
+        },
+        end: 0,
+    }
 }

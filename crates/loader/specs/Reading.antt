@@ -1,13 +1,13 @@
 -- What the loader reads on its way through an array of entries. Assumes nothing: these are definitions.
-use Prim.Native.Nat.{ℕ, _+_, _≤_}
+use Prim.Native.Nat.{ℕ, _≤_}
 use mathlib.Core.Bool.{Bool, true, false}
 use mathlib.Core.List.{List}
 use mathlib.Core.Path.{_≡_}
 use Rattle.decimal.specs.Digits.{Reading}
 use Rattle.decimal.specs.Decimal.{Number, number, Within}
 use Rattle.decimal.specs.declared.Decimal.{Decimal}
-use Rattle.json_tokens.specs.Bytes.{byteAt, comma, openArray, closeArray}
-use Rattle.json_tokens.specs.Tokens.{At, Broken, blanks, closing, separator, string}
+use Rattle.json_tokens.specs.Bytes.{closeArray}
+use Rattle.json_tokens.specs.Tokens.{At, Broken, blanks, closing}
 use Rattle.json.specs.Json.{Span}
 use Rattle.piece.specs.Piece.{kPiece, mPiece}
 use Rattle.entries.specs.Rows.{Row, entryK, entryM, numberAt}
@@ -18,7 +18,6 @@ use Rattle.side.specs.Level.{levelPrice, shown}
 use Rattle.side.specs.declared.Level.{Level}
 use Rattle.checksum.specs.Carried.{Carries}
 use Rattle.loader.specs.Loaded.{Loadable}
-use Rattle.loader.specs.declared.Amount.{Amount}
 use Rattle.loader.specs.declared.Entry.{Entry}
 use lib.ListN.{length, drop}
 
@@ -62,24 +61,6 @@ pub record EntryAt (m : Bool) (s : List ℕ) (at : ℕ) (e : Entry) : Type 0 whe
   pub end : e .end ≡ foundAt (entryFor m) s at .end
   pub price : NumberOf s (priceSpan (foundAt (entryFor m) s at)) (e .price)
   pub size : NumberOf s (sizeSpan (foundAt (entryFor m) s at)) (e .size)
-
--- ---- decimals in quotes: an amount that ends at 0 says nothing
-
--- At a position.
-pub record AmountAt (s : List ℕ) (at : ℕ) (a : Amount) : Type 0 where
-  pub is-string : (a .end ≡ 0 → ⊥) → string s at ≡ At (a .end)
-  pub number : (a .end ≡ 0 → ⊥) → NumberOf s (record { from = at; to = a .end }) (a .decimal)
-
--- The first element of the array at a position.
-pub record FirstAmount (s : List ℕ) (at : ℕ) (a : Amount) : Type 0 where
-  pub opens : (a .end ≡ 0 → ⊥) → byteAt s at ≡ openArray
-  pub amount : AmountAt s (blanks s (at + 1)) a
-
--- The element that follows one which ends at the position.
-pub record NextAmount (s : List ℕ) (at : ℕ) (a : Amount) : Type 0 where
-  pub from : ℕ
-  pub comma : (a .end ≡ 0 → ⊥) → separator comma s at ≡ At from
-  pub amount : AmountAt s from a
 
 -- ---- in the middle of a message
 

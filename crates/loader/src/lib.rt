@@ -10,15 +10,11 @@ ghost use Rattle.entries.specs.Summary.{foundAt};
 ghost use Rattle.decimal.specs.Decimal.{number, Within};
 ghost use Rattle.checksum.specs.Carried.{Made};
 ghost use Rattle.loader.specs.Loaded.{Loadable, Loaded, Room, rowsAt};
-ghost use Rattle.loader.specs.Reading.{entryFor, pieceFor, firstAt, Placed, NumberOf, EntryAt, FirstAmount, NextAmount, AmountAt};
+ghost use Rattle.loader.specs.Reading.{entryFor, pieceFor, firstAt, Placed, NumberOf, EntryAt};
 use decimal::Decimal;
 use decimal::Parsed;
-use decimal::ParsedFront;
 use entries::Found;
-use json_tokens::OPEN_ARRAY;
-use json_tokens::QUOTE;
 use json_tokens::array_close_end;
-use json_tokens::byte_at;
 use json_tokens::comma_end;
 use json_tokens::skip_blanks;
 use side::Level;
@@ -30,12 +26,6 @@ pub const MAX_ENTRIES: usize = 100;
 struct Entry {
     price: Decimal,
     size: Decimal,
-    end: usize,
-}
-
-// A decimal in quotes, and the position past them. An end of 0 says that none is there.
-struct Amount {
-    decimal: Decimal,
     end: usize,
 }
 
@@ -90,16 +80,13 @@ fn read_entry(s: &[u8], at: usize, m: bool) -> Entry
     requires { ⌜ Placed (now s) (foundAt (entryFor m) (now s) at) ⌝ }
     ensures { λ r. ⌜ EntryAt m (now (s .entry)) at r ⌝ }
 {
-    let first = first_amount(s, at);
-    if 0 < first.end {
-        let second = next_amount(s, first.end);
-        if 0 < second.end {
-            let end = entry_end(s, second.end, m);
-            if 0 < end {
-                let price = first.decimal;
-                let size = second.decimal;
-                return Entry { price, size, end };
-            }
+    let front = entries::two_amounts(s, at);
+    if 0 < front.end {
+        let end = entry_end(s, front.end, m);
+        if 0 < end {
+            let price = front.price;
+            let size = front.size;
+            return Entry { price, size, end };
         }
     }
     any_entry(s, at, m)
@@ -117,61 +104,6 @@ fn any_entry(s: &[u8], at: usize, m: bool) -> Entry
         price,
         size,
         end: found.end,
-    }
-}
-
-// The decimal in quotes that the array at `at` begins with.
-fn first_amount(s: &[u8], at: usize) -> Amount
-    ensures { λ r. ⌜ FirstAmount (now (s .entry)) at r ⌝ }
-{
-    if byte_at(s, at) != OPEN_ARRAY {
-        return no_amount();
-    }
-    amount_at(s, skip_blanks(s, at + 1))
-}
-
-// The decimal in quotes past the comma that follows an element which ends at `at`.
-fn next_amount(s: &[u8], at: usize) -> Amount
-    ensures { λ r. ⌜ NextAmount (now (s .entry)) at r ⌝ }
-{
-    let next = comma_end(s, at);
-    if next == 0 {
-        return no_amount();
-    }
-    amount_at(s, next)
-}
-
-// The decimal in quotes at `at`. Digits and a point stand for themselves in a string, so that it is read in one go.
-fn amount_at(s: &[u8], at: usize) -> Amount
-    ensures { λ r. ⌜ AmountAt (now (s .entry)) at r ⌝ }
-{
-    if byte_at(s, at) != QUOTE {
-        return no_amount();
-    }
-    match decimal::parse_at(s, at + 1) {
-        ParsedFront::Number(decimal, end) => {
-            if byte_at(s, end) != QUOTE {
-                return no_amount();
-            }
-            Amount {
-                decimal,
-                end: end + 1,
-            }
-        }
-        ParsedFront::Refused => no_amount(),
-    }
-}
-
-// No decimal in quotes.
-fn no_amount() -> Amount
-    ensures { λ r. ⌜ r .end ≡ 0 ⌝ }
-{
-    Amount {
-        decimal: Decimal {
-            digits: 0,
-            decimals: 0,
-        },
-        end: 0,
     }
 }
 

@@ -4,16 +4,16 @@ use Prim.Native.Nat.{_-_, _≤_}
 use borrow.Author.Needs.{needs}
 use denote.Ref.{now}
 use lib.ListN.{length}
-use mathlib.Core.Path.{_∙_, ap, sym}
+use mathlib.Core.Path.{_≡_, _∙_, ap, refl, sym}
 use native.Mathlib.Omega.{arith}
 use Rattle.json_tokens.proofs.Bounds.{closing-in, end-broken, separator-in}
 use Rattle.json_tokens.proofs.Laws.{end-at, in-byte}
 use Rattle.json_tokens.specs.Tokens.{closing, separator}
 use Rattle.json.proofs.Walk.{Walk}
-use Rattle.entries.proofs.Strings.{k-sound}
-use Rattle.entries.proofs.Summary.{each, each-broken, each-few, each-further, each-last, each-on, each-wrong, found-laid, found-past, summary-empty, summary-other, summary-start, summaryIn}
+use Rattle.entries.proofs.Counting.{counted-end}
+use Rattle.entries.proofs.Summary.{each, each-broken, each-few, each-further, each-last, each-on, each-wrong, found-past, summary-empty, summary-other, summary-start, summaryIn}
 use Rattle.entries.specs.Rows.{entryK}
-use Rattle.entries.specs.Summary.{noEntries, summaryAt}
+use Rattle.entries.specs.Summary.{foundAt, noEntries, summaryAt}
 use Rattle.entries.specs.declared.Entries.{Entries}
 use Rattle.entries.proofs.k_entries.Statement.{statement}
 use Rattle.entries.proofs.k_entries.Tie as tie
@@ -81,8 +81,8 @@ loop-holds c =
     let n = ap (λ (x : Entries). x .count) h in
     (rw h w, omega arith)
 
-k-entry-requires : tie.Need-k-entry-requires Inv-loop μ-loop
-k-entry-requires c κs = search needs
+next-k-requires : tie.Need-next-k-requires Inv-loop μ-loop
+next-k-requires c κs = c .loop .inv .1
 
 refused-requires-2 : tie.Need-refused-requires-2 Inv-loop μ-loop
 refused-requires-2 c κs = search needs
@@ -94,22 +94,10 @@ returns-3 c =
     let i = c .before .before .before .loop .i in
     let sum = c .before .before .before .loop .sum in
     let w = c .before .before .before .loop .inv in
-    let g = c .before .before .k-entry .result in
-    let t = c .before .before .k-entry .ensures in
-    c .refused2 .ensures ∙ each-wrong entryK s i g t sum (summaryAt entryK s (a .at)) (w .0) (c .before .if3 .taken)
-
-counted-requires : tie.Need-counted-requires Inv-loop μ-loop
-counted-requires c κs =
-    let a = c .before .before .before .before .before .before .before .before .before .before .args in
-    let s = now (a .s) in
-    let i = c .before .before .loop .i in
-    let sum = c .before .before .loop .sum in
-    let w = c .before .before .loop .inv in
-    let g = c .before .k-entry .result in
-    let t = c .before .k-entry .ensures in
-    let p = found-past entryK s i g t (c .if3 .left) in
-    let b = w .1 in
-    (found-laid entryK s i g t (k-sound s), omega arith)
+    let g = foundAt entryK s i in
+    let e = c .before .before .next-k .ensures in
+    let y = ap (λ (x : Entries). x .end) e ∙ counted-end s sum g in
+    c .refused2 .ensures ∙ each-wrong entryK s i g refl sum (summaryAt entryK s (a .at)) (w .0) (sym y ∙ c .before .if3 .taken)
 
 comma-end-requires : tie.Need-comma-end-requires Inv-loop μ-loop
 comma-end-requires c κs = search needs
@@ -122,77 +110,77 @@ refused-requires-3 c κs = search needs
 
 returns-4 : tie.Need-returns-4 Inv-loop μ-loop
 returns-4 c =
-    let a = c .before .before .before .before .before .before .before .before .before .before .before .before .before .before .before .before .args in
+    let a = c .before .before .before .before .before .before .before .before .before .before .before .before .before .before .before .args in
     let s = now (a .s) in
-    let i = c .before .before .before .before .before .before .before .before .loop .i in
-    let sum = c .before .before .before .before .before .before .before .before .loop .sum in
-    let w = c .before .before .before .before .before .before .before .before .loop .inv in
-    let g = c .before .before .before .before .before .before .before .k-entry .result in
-    let t = c .before .before .before .before .before .before .before .k-entry .ensures in
-    let n = c .before .before .before .before .before .before .if3 .left in
-    let m = c .before .before .before .before .before .counted .result in
-    let e = c .before .before .before .before .before .counted .ensures in
+    let i = c .before .before .before .before .before .before .before .loop .i in
+    let sum = c .before .before .before .before .before .before .before .loop .sum in
+    let w = c .before .before .before .before .before .before .before .loop .inv in
+    let g = foundAt entryK s i in
+    let m = c .before .before .before .before .before .before .next-k .result in
+    let e = c .before .before .before .before .before .before .next-k .ensures in
+    let y = ap (λ (x : Entries). x .end) e ∙ counted-end s sum g in
+    let n : (g .end ≡ 0 → ⊥) = λ z. c .before .before .before .before .before .if3 .left (y ∙ z) in
     let j = c .before .before .before .before .comma-end .result in
-    let q = end-broken j (omega arith) (separator-in s 44 (g .end) (omega arith)) (c .before .before .before .before .comma-end .ensures) (c .before .before .before .if4 .taken) in
-    let d = end-broken (c .before .before .array-close-end2 .result) (omega arith) (closing-in s 93 (g .end) (omega arith)) (c .before .before .array-close-end2 .ensures) (c .before .if5 .taken) in
-    c .refused3 .ensures ∙ each-broken entryK s i g t sum (summaryAt entryK s (a .at)) (w .0) n m e q d
+    let q = ap (separator 44 s) (sym y) ∙ end-broken j (omega arith) (separator-in s 44 (m .end) (omega arith)) (c .before .before .before .before .comma-end .ensures) (c .before .before .before .if4 .taken) in
+    let d = ap (closing 93 s) (sym y) ∙ end-broken (c .before .before .array-close-end2 .result) (omega arith) (closing-in s 93 (m .end) (omega arith)) (c .before .before .array-close-end2 .ensures) (c .before .if5 .taken) in
+    c .refused3 .ensures ∙ each-broken entryK s i g refl sum (summaryAt entryK s (a .at)) (w .0) n m e q d
 
 closed-requires : tie.Need-closed-requires Inv-loop μ-loop
 closed-requires c κs = search needs
 
 returns-5 : tie.Need-returns-5 Inv-loop μ-loop
 returns-5 c =
-    let a = c .before .before .before .before .before .before .before .before .before .before .before .before .before .before .before .before .args in
+    let a = c .before .before .before .before .before .before .before .before .before .before .before .before .before .before .before .args in
     let s = now (a .s) in
-    let i = c .before .before .before .before .before .before .before .before .loop .i in
-    let sum = c .before .before .before .before .before .before .before .before .loop .sum in
-    let w = c .before .before .before .before .before .before .before .before .loop .inv in
-    let g = c .before .before .before .before .before .before .before .k-entry .result in
-    let t = c .before .before .before .before .before .before .before .k-entry .ensures in
-    let n = c .before .before .before .before .before .before .if3 .left in
-    let m = c .before .before .before .before .before .counted .result in
-    let e = c .before .before .before .before .before .counted .ensures in
+    let i = c .before .before .before .before .before .before .before .loop .i in
+    let sum = c .before .before .before .before .before .before .before .loop .sum in
+    let w = c .before .before .before .before .before .before .before .loop .inv in
+    let g = foundAt entryK s i in
+    let m = c .before .before .before .before .before .before .next-k .result in
+    let e = c .before .before .before .before .before .before .next-k .ensures in
+    let y = ap (λ (x : Entries). x .end) e ∙ counted-end s sum g in
+    let n : (g .end ≡ 0 → ⊥) = λ z. c .before .before .before .before .before .if3 .left (y ∙ z) in
     let j = c .before .before .before .before .comma-end .result in
-    let q = end-broken j (omega arith) (separator-in s 44 (g .end) (omega arith)) (c .before .before .before .before .comma-end .ensures) (c .before .before .before .if4 .taken) in
+    let q = ap (separator 44 s) (sym y) ∙ end-broken j (omega arith) (separator-in s 44 (m .end) (omega arith)) (c .before .before .before .before .comma-end .ensures) (c .before .before .before .if4 .taken) in
     let k = c .before .before .array-close-end2 .result in
-    let d = end-at (closing 93 s (g .end)) k (c .before .before .array-close-end2 .ensures) (c .before .if5 .left) in
-    c .closed .ensures ∙ each-last entryK s i g t sum (summaryAt entryK s (a .at)) (w .0) n m e q k d
+    let d = ap (closing 93 s) (sym y) ∙ end-at (closing 93 s (m .end)) k (c .before .before .array-close-end2 .ensures) (c .before .if5 .left) in
+    c .closed .ensures ∙ each-last entryK s i g refl sum (summaryAt entryK s (a .at)) (w .0) n m e q k d
 
 loop-less : tie.Need-loop-less Inv-loop μ-loop
 loop-less c =
-    let a = c .before .before .before .before .before .before .before .before .before .before .before .before .before .args in
+    let a = c .before .before .before .before .before .before .before .before .before .before .before .before .args in
     let s = now (a .s) in
-    let i = c .before .before .before .before .before .loop .i in
-    let sum = c .before .before .before .before .before .loop .sum in
-    let w = c .before .before .before .before .before .loop .inv in
-    let g = c .before .before .before .before .k-entry .result in
-    let t = c .before .before .before .before .k-entry .ensures in
-    let n = c .before .before .before .if3 .left in
-    let m = c .before .before .counted .result in
-    let e = c .before .before .counted .ensures in
+    let i = c .before .before .before .before .loop .i in
+    let sum = c .before .before .before .before .loop .sum in
+    let w = c .before .before .before .before .loop .inv in
+    let g = foundAt entryK s i in
+    let m = c .before .before .before .next-k .result in
+    let e = c .before .before .before .next-k .ensures in
+    let y = ap (λ (x : Entries). x .end) e ∙ counted-end s sum g in
+    let n : (g .end ≡ 0 → ⊥) = λ z. c .before .before .if3 .left (y ∙ z) in
     let j = c .before .comma-end .result in
-    let q = end-at (separator 44 s (g .end)) j (c .before .comma-end .ensures) (c .if4 .left) in
-    let p = found-past entryK s i g t n in
-    let f = each-further entryK s i g t sum (summaryAt entryK s (a .at)) (w .0) n m e j q in
+    let q = ap (separator 44 s) (sym y) ∙ end-at (separator 44 s (m .end)) j (c .before .comma-end .ensures) (c .if4 .left) in
+    let p = found-past entryK s i g refl n in
+    let f = each-further entryK s i g refl sum (summaryAt entryK s (a .at)) (w .0) n m e j q in
     omega arith
 
 loop-again : tie.Need-loop-again Inv-loop μ-loop
 loop-again c =
-    let a = c .before .before .before .before .before .before .before .before .before .before .before .before .before .args in
+    let a = c .before .before .before .before .before .before .before .before .before .before .before .before .args in
     let s = now (a .s) in
-    let i = c .before .before .before .before .before .loop .i in
-    let sum = c .before .before .before .before .before .loop .sum in
-    let w = c .before .before .before .before .before .loop .inv in
-    let g = c .before .before .before .before .k-entry .result in
-    let t = c .before .before .before .before .k-entry .ensures in
-    let n = c .before .before .before .if3 .left in
-    let m = c .before .before .counted .result in
-    let e = c .before .before .counted .ensures in
+    let i = c .before .before .before .before .loop .i in
+    let sum = c .before .before .before .before .loop .sum in
+    let w = c .before .before .before .before .loop .inv in
+    let g = foundAt entryK s i in
+    let m = c .before .before .before .next-k .result in
+    let e = c .before .before .before .next-k .ensures in
+    let y = ap (λ (x : Entries). x .end) e ∙ counted-end s sum g in
+    let n : (g .end ≡ 0 → ⊥) = λ z. c .before .before .if3 .left (y ∙ z) in
     let j = c .before .comma-end .result in
-    let q = end-at (separator 44 s (g .end)) j (c .before .comma-end .ensures) (c .if4 .left) in
-    let f = each-further entryK s i g t sum (summaryAt entryK s (a .at)) (w .0) n m e j q in
-    let b = each-few entryK s i g t sum (summaryAt entryK s (a .at)) (w .0) n m e (w .1) in
-    (each-on entryK s i g t sum (summaryAt entryK s (a .at)) (w .0) n m e j q, omega arith)
+    let q = ap (separator 44 s) (sym y) ∙ end-at (separator 44 s (m .end)) j (c .before .comma-end .ensures) (c .if4 .left) in
+    let f = each-further entryK s i g refl sum (summaryAt entryK s (a .at)) (w .0) n m e j q in
+    let b = each-few entryK s i g refl sum (summaryAt entryK s (a .at)) (w .0) n m e (w .1) in
+    (each-on entryK s i g refl sum (summaryAt entryK s (a .at)) (w .0) n m e j q, omega arith)
 
 pub k-entries-spec : {M : Type 1} → statement M
-k-entries-spec = tie.close (tie.spec Inv-loop μ-loop byte-at-requires value-end-requires refused-requires returns add-array-close-end array-close-end-requires empty-requires returns-2 add-skip-blanks skip-blanks-requires empty-requires-2 loop-holds k-entry-requires refused-requires-2 returns-3 counted-requires comma-end-requires array-close-end-requires-2 refused-requires-3 returns-4 closed-requires returns-5 loop-less loop-again)
+k-entries-spec = tie.close (tie.spec Inv-loop μ-loop byte-at-requires value-end-requires refused-requires returns add-array-close-end array-close-end-requires empty-requires returns-2 add-skip-blanks skip-blanks-requires empty-requires-2 loop-holds next-k-requires refused-requires-2 returns-3 comma-end-requires array-close-end-requires-2 refused-requires-3 returns-4 closed-requires returns-5 loop-less loop-again)

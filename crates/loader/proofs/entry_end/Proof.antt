@@ -1,22 +1,12 @@
 -- `entry_end` meets its contract: an entry of dialect M closes past its two strings, and one of dialect K past a third string and the rest.
-use Prim.Native.Nat.{ℕ}
-use mathlib.Core.Path.{_≡_, _∙_, ap, sym, subst}
+use mathlib.Core.Path.{sym, subst}
 use mathlib.Core.Bool.{Bool}
-use mathlib.Core.List.{List}
-use Rattle.json_tokens.specs.Tokens.{endOf, closing}
-use Rattle.json_tokens.proofs.Laws.{end-at}
-use Rattle.entries.specs.Rows.{entryM}
-use Rattle.entries.specs.Summary.{foundOf}
 use Rattle.entries.specs.Front.{EntryEnd}
-use Rattle.entries.proofs.Entry.{m-is}
+use Rattle.entries.proofs.Decimals.{m-end}
 use Rattle.loader.specs.Reading.{entryFor}
 use borrow.Author.Needs.{needs}
 use Rattle.loader.proofs.entry_end.Statement.{statement}
 use Rattle.loader.proofs.entry_end.Tie as tie
-
-m-end : (s : List ℕ) (at r : ℕ) → r ≡ endOf (closing 93 s at) → EntryEnd entryM s at r
-unfolding foundOf
-m-end s at r h some from f two ends = sym (m-is s from f two r (ap (closing 93 s) ends ∙ end-at (closing 93 s at) r h some))
 
 array-close-end-requires : tie.Need-array-close-end-requires
 array-close-end-requires c κs = search needs

@@ -5,11 +5,8 @@ use borrow.Author.Needs.{needs}
 use Rattle.loader.proofs.read_entry.Statement.{statement}
 use Rattle.loader.proofs.read_entry.Tie as tie
 
-first-amount-requires : tie.Need-first-amount-requires
-first-amount-requires c κs = search needs
-
-next-amount-requires : tie.Need-next-amount-requires
-next-amount-requires c κs = search needs
+two-amounts-requires : tie.Need-two-amounts-requires
+two-amounts-requires c κs = search needs
 
 entry-end-requires : tie.Need-entry-end-requires
 entry-end-requires c κs = search needs
@@ -17,14 +14,12 @@ entry-end-requires c κs = search needs
 returns : tie.Need-returns
 returns c =
     let ended = c .before .before .before in
-    let next = ended .before .before .before in
-    let first = next .before .before .before in
-    let a = first .before .before .args in
-    let some = next .before .if1 .taken in
-    let more = ended .before .if2 .taken in
-    let fits = c .before .before .if3 .taken in
-    entry-quick (a .m) (a .s .now) (a .at) (first .first-amount .result) (next .next-amount .result) (first .first-amount .ensures) (next .next-amount .ensures)
-    (λ z. omega arith) (λ z. omega arith) (ended .entry-end .result) (ended .entry-end .ensures) (λ z. omega arith)
+    let front = ended .before .before .before in
+    let a = front .before .before .args in
+    let some = ended .before .if1 .taken in
+    let fits = c .before .before .if2 .taken in
+    entry-quick (a .m) (a .s .now) (a .at) (front .two-amounts .result) (front .two-amounts .ensures) (λ z. omega arith) (ended .entry-end .result)
+    (ended .entry-end .ensures) (λ z. omega arith)
 
 any-entry-requires : tie.Need-any-entry-requires
 any-entry-requires c κs = search needs
@@ -33,12 +28,4 @@ returns-2 : tie.Need-returns-2
 returns-2 c = search needs
 
 pub read-entry-spec : {M : Type 1} → statement M
-read-entry-spec =
-    tie.close
-    (tie.spec
-    first-amount-requires
-    next-amount-requires
-    entry-end-requires
-    returns
-    any-entry-requires
-    returns-2)
+read-entry-spec = tie.close (tie.spec two-amounts-requires entry-end-requires returns any-entry-requires returns-2)

@@ -1,24 +1,25 @@
--- `amount_at` meets its contract: a decimal with a quote on each side is the string that stands there, and any other way out says nothing.
+-- `entries::quoted_decimal` meets its contract: a decimal with a quote on each side is the string that stands there, and at any other way out none does.
+-- Assumes nothing.
 use mathlib.Core.Path.{_∙_, ap, sym}
 use native.Mathlib.Omega.{arith}
 use Rattle.decimal.specs.Reads.{parsedFront}
 use Rattle.json_tokens.proofs.Laws.{in-byte}
-use Rattle.loader.proofs.Amounts.{amount-none, amount-some}
+use Rattle.entries.proofs.Decimals.{decimal-bare, decimal-open, decimal-quoted, decimal-wrong, told-none}
 use borrow.Author.Needs.{needs}
 use Prim.Native.Nat.{_+_}
-use Rattle.loader.proofs.amount_at.Statement.{statement}
-use Rattle.loader.proofs.amount_at.Tie as tie
+use Rattle.entries.proofs.quoted_decimal.Statement.{statement}
+use Rattle.entries.proofs.quoted_decimal.Tie as tie
 
 byte-at-requires : tie.Need-byte-at-requires
 byte-at-requires c κs = search needs
 
-no-amount-requires : tie.Need-no-amount-requires
-no-amount-requires c κs = search needs
+no-decimal-requires : tie.Need-no-decimal-requires
+no-decimal-requires c κs = search needs
 
 returns : tie.Need-returns
 returns c =
     let a = c .before .before .before .before .args in
-    amount-none (a .s .now) (a .at) _ (c .no-amount .ensures)
+    told-none _ (c .no-decimal .ensures) ∙ decimal-bare (a .s .now) (a .at) (λ z. c .before .if1 .taken (c .before .before .byte-at .ensures ∙ z))
 
 add-parse-at : tie.Need-add-parse-at
 add-parse-at c =
@@ -35,13 +36,15 @@ enum-known-decimal c = search needs
 byte-at-requires-2 : tie.Need-byte-at-requires-2
 byte-at-requires-2 c κs = search needs
 
-no-amount-requires-2 : tie.Need-no-amount-requires-2
-no-amount-requires-2 c κs = search needs
+no-decimal-requires-2 : tie.Need-no-decimal-requires-2
+no-decimal-requires-2 c κs = search needs
 
 returns-2 : tie.Need-returns-2
 returns-2 c =
     let a = c .before .before .before .before .before .before .before .before .before .before .args in
-    amount-none (a .s .now) (a .at) _ (c .no-amount2 .ensures)
+    let d = c .before .before .before .before .decimal .given in
+    let h = sym (ap (parsedFront (a .at + 1)) (d .1)) ∙ c .before .before .before .before .before .before .parse-at .ensures in
+    told-none _ (c .no-decimal2 .ensures) ∙ decimal-open (a .s .now) (a .at) (d .0 .1 .0) (d .0 .0) h (λ z. c .before .if2 .taken (c .before .before .byte-at2 .ensures ∙ z))
 
 add-t12 : tie.Need-add-t12
 add-t12 c =
@@ -53,8 +56,8 @@ add-t12 c =
 enum-told : tie.Need-enum-told
 enum-told c = search needs
 
-no-amount-requires-3 : tie.Need-no-amount-requires-3
-no-amount-requires-3 c κs = search needs
+no-decimal-requires-3 : tie.Need-no-decimal-requires-3
+no-decimal-requires-3 c κs = search needs
 
 returns-3 : tie.Need-returns-3
 returns-3 c =
@@ -62,28 +65,29 @@ returns-3 c =
     let d = c .before .before .before .decimal .given in
     let h = sym (ap (parsedFront (a .at + 1)) (d .1)) ∙ c .before .before .before .before .before .parse-at .ensures in
     let opens = sym (c .before .before .before .before .before .before .before .byte-at .ensures) ∙ c .before .before .before .before .before .before .if1 .left in
-    amount-some (a .s .now) (a .at) (d .0 .1 .0) (d .0 .0) h opens (sym (c .before .byte-at2 .ensures) ∙ c .if2 .left)
+    decimal-quoted (a .s .now) (a .at) (d .0 .1 .0) (d .0 .0) h opens (sym (c .before .byte-at2 .ensures) ∙ c .if2 .left)
 
 returns-4 : tie.Need-returns-4
 returns-4 c =
     let a = c .before .before .before .before .before .before .before .args in
-    amount-none (a .s .now) (a .at) _ (c .no-amount3 .ensures)
+    let h = sym (ap (parsedFront (a .at + 1)) (c .before .enum-told .given .1)) ∙ c .before .before .before .parse-at .ensures in
+    told-none _ (c .no-decimal3 .ensures) ∙ decimal-wrong (a .s .now) (a .at) h
 
-pub amount-at-spec : {M : Type 1} → statement M
-amount-at-spec =
+pub quoted-decimal-spec : {M : Type 1} → statement M
+quoted-decimal-spec =
     tie.close
     (tie.spec
     byte-at-requires
-    no-amount-requires
+    no-decimal-requires
     returns
     add-parse-at
     parse-at-requires
     enum-known-decimal
     byte-at-requires-2
-    no-amount-requires-2
+    no-decimal-requires-2
     returns-2
     add-t12
     enum-told
-    no-amount-requires-3
+    no-decimal-requires-3
     returns-3
     returns-4)

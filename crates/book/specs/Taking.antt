@@ -21,13 +21,14 @@ use Rattle.message.specs.declared.Answer.{Answer}
 use Rattle.message.specs.declared.Answer.the-variants.{Taken, PriceTwice, NoSnapshot, OldNumber, TooManyLevels, WrongChecksum}
 use Rattle.message.specs.declared.Verdict.{Verdict}
 use Rattle.message.specs.declared.Verdict.the-variants.{Fails, Passes}
-use Rattle.book.specs.Reference.{maxLevels, isShut, isLive, checksumOf, leavesStatus, oneMore, hear}
-use Rattle.book.specs.Shown.{statusOf, shows, bookOf, Good, Told}
+use Rattle.book.specs.Reference.{maxLevels, isShut, isLive, isTaken, checksumOf, leavesStatus, oneMore, hear}
+use Rattle.book.specs.Shown.{statusOf, shows, bookOf, stepOf, Good, Told}
 use Rattle.book.specs.declared.State.{State}
 use Rattle.book.specs.declared.State.the-variants.{Waiting, Live}
 use Rattle.book.specs.declared.Book.{Book}
 use Rattle.book.specs.declared.Header.{Header}
 use Rattle.book.specs.declared.Standing.{Standing}
+use Rattle.book.specs.declared.Answered.{Answered}
 use Rattle.book.specs.declared.Step.{Step}
 
 -- A message that passes checks 2 to 8, with its layout in numbers.
@@ -114,6 +115,8 @@ before o kept = keptIn (kept .words) (cond (o .snapshot) 0 (kept .count))
 pub record SidesAfter (b : Book) (s : List ℕ) (o : Outline) (bids asks : SideAfter) : Type 0 where
   pub bids-worked : Worked (isM (b .settings .dialect)) Bids (b .settings .depth) (editsAt (isM (b .settings .dialect)) s (o .«bids_at») (o .bids)) (before o (b .bids)) bids
   pub asks-worked : Worked (isM (b .settings .dialect)) Asks (b .settings .depth) (editsAt (isM (b .settings .dialect)) s (o .«asks_at») (o .asks)) (before o (b .asks)) asks
+  pub bids-stay : o .bids ≡ 0 → bids .levels .words ≡ b .bids .words
+  pub asks-stay : o .asks ≡ 0 → asks .levels .words ≡ b .asks .words
 
 -- Checks 9, 12 and 13.
 unfoldable pub weighed : Outline → Dialect → Bool → Bool → Levels → Levels → Answer
@@ -126,3 +129,11 @@ weighed o d met over bids asks =
 abbrev pub weighedSides : Outline → Dialect → SideAfter → SideAfter → Answer
 weighedSides o d bids asks =
     weighed o d (bids .met || asks .met) (ltb maxLevels (bids .count) || ltb maxLevels (asks .count)) (bids .levels) (asks .levels)
+
+-- A message that passes the checks of its text is tried: where it is taken, the words are those of the book after it; where it is refused, those of the
+-- book before it are to be put back. A side without entries keeps its words.
+pub record Tried (b : Book) (s : List ℕ) (o : Outline) (bids asks : List ℕ) (r : Answered) : Type 0 where
+  pub taken : isTaken (r .answer) ≡ true → Told (hear (shows b) s) (stepOf bids asks r)
+  pub refused : isTaken (r .answer) ≡ false → Told (hear (shows b) s) (stepOf (b .bids .words) (b .asks .words) r)
+  pub bids-stay : o .bids ≡ 0 → bids ≡ b .bids .words
+  pub asks-stay : o .asks ≡ 0 → asks ≡ b .asks .words

@@ -11,7 +11,8 @@ ghost use Rattle.settings.specs.Settings.{isM};
 ghost use Rattle.sides.specs.Worked.{Sound, sideAfter};
 ghost use Rattle.book.specs.Reference.{isShut, isTaken, leavesStatus, checksumOf, hear, oneMore};
 ghost use Rattle.book.specs.Shown.{statusOf, shows, bookOf, stepOf, Good, Told};
-ghost use Rattle.book.specs.Taking.{Passed, SidesAfter, Ruled, JudgedWith, judgedUpdate, weighedSides, takenHeader, refusedHeader, liveStanding, refusedStanding};
+ghost use Rattle.message.specs.declared.Verdict.the-variants.{Passes};
+ghost use Rattle.book.specs.Taking.{Passed, SidesAfter, Tried, Ruled, Judged, JudgedWith, judgedUpdate, weighedSides, takenHeader, refusedHeader, liveStanding, refusedStanding};
 use crate::Answered;
 use crate::Header;
 use crate::Standing;
@@ -47,27 +48,113 @@ pub fn hear(
             answer: refusal,
         },
         Verdict::Passes(outline) => {
-            let last_bids = *bids;
-            let last_asks = *asks;
-            let settings = header.settings;
-            let dialect = settings.dialect;
-            let entered = enter(header, outline, bids, asks, s);
-            let bid_side = entered.bids;
-            let ask_side = entered.asks;
-            let answer = weigh(outline, dialect, bid_side, ask_side, bids, asks, table);
-            if is_taken(answer) {
-                return Answered {
-                    header: renew(header, outline, bid_side.left, ask_side.left),
-                    answer,
-                };
+            if outline.bids == 0 {
+                return take_asks(header, outline, bids, asks, s, table);
             }
-            *bids = last_bids;
-            *asks = last_asks;
-            Answered {
-                header: refuse(header, answer),
-                answer,
+            if outline.asks == 0 {
+                return take_bids(header, outline, bids, asks, s, table);
             }
+            take_both(header, outline, bids, asks, s, table)
         }
+    }
+}
+
+// A message that passes the checks of its text and has entries for the asks alone: only their words are kept for a refusal.
+fn take_asks(
+    header: Header,
+    outline: Outline,
+    bids: &mut [u64; MAX_WORDS],
+    asks: &mut [u64; MAX_WORDS],
+    s: &[u8],
+    table: &[u32],
+) -> Answered
+    requires { ⌜ Judged (bookOf (now bids) (now asks) header) (now s) (Passes outline) × ShiftTable (now table) × (outline .bids ≡ 0) ⌝ }
+    ensures { λ r. ⌜ Told (hear (shows (bookOf (now (bids .entry)) (now (asks .entry)) header)) (now (s .entry))) (stepOf (now (bids .exit)) (now (asks .exit)) r) ⌝ }
+{
+    let last = *asks;
+    let answered = try_entries(header, outline, bids, asks, s, table);
+    let answer = answered.answer;
+    if is_taken(answer) {
+        return answered;
+    }
+    *asks = last;
+    answered
+}
+
+// The same for the bids alone.
+fn take_bids(
+    header: Header,
+    outline: Outline,
+    bids: &mut [u64; MAX_WORDS],
+    asks: &mut [u64; MAX_WORDS],
+    s: &[u8],
+    table: &[u32],
+) -> Answered
+    requires { ⌜ Judged (bookOf (now bids) (now asks) header) (now s) (Passes outline) × ShiftTable (now table) × (outline .asks ≡ 0) ⌝ }
+    ensures { λ r. ⌜ Told (hear (shows (bookOf (now (bids .entry)) (now (asks .entry)) header)) (now (s .entry))) (stepOf (now (bids .exit)) (now (asks .exit)) r) ⌝ }
+{
+    let last = *bids;
+    let answered = try_entries(header, outline, bids, asks, s, table);
+    let answer = answered.answer;
+    if is_taken(answer) {
+        return answered;
+    }
+    *bids = last;
+    answered
+}
+
+// The same for both.
+fn take_both(
+    header: Header,
+    outline: Outline,
+    bids: &mut [u64; MAX_WORDS],
+    asks: &mut [u64; MAX_WORDS],
+    s: &[u8],
+    table: &[u32],
+) -> Answered
+    requires { ⌜ Judged (bookOf (now bids) (now asks) header) (now s) (Passes outline) × ShiftTable (now table) ⌝ }
+    ensures { λ r. ⌜ Told (hear (shows (bookOf (now (bids .entry)) (now (asks .entry)) header)) (now (s .entry))) (stepOf (now (bids .exit)) (now (asks .exit)) r) ⌝ }
+{
+    let last_bids = *bids;
+    let last_asks = *asks;
+    let answered = try_entries(header, outline, bids, asks, s, table);
+    let answer = answered.answer;
+    if is_taken(answer) {
+        return answered;
+    }
+    *bids = last_bids;
+    *asks = last_asks;
+    answered
+}
+
+// Applies the entries of a message that passes the checks of its text, and weighs what they make of the sides. A refusal leaves the words
+// of a side that has entries changed.
+fn try_entries(
+    header: Header,
+    outline: Outline,
+    bids: &mut [u64; MAX_WORDS],
+    asks: &mut [u64; MAX_WORDS],
+    s: &[u8],
+    table: &[u32],
+) -> Answered
+    requires { ⌜ Judged (bookOf (now bids) (now asks) header) (now s) (Passes outline) × ShiftTable (now table) ⌝ }
+    ensures { λ r. ⌜ Tried (bookOf (now (bids .entry)) (now (asks .entry)) header) (now (s .entry)) outline (now (bids .exit)) (now (asks .exit)) r ⌝ }
+{
+    let settings = header.settings;
+    let dialect = settings.dialect;
+    let entered = enter(header, outline, bids, asks, s);
+    let bid_side = entered.bids;
+    let ask_side = entered.asks;
+    let answer = weigh(outline, dialect, bid_side, ask_side, bids, asks, table);
+    if is_taken(answer) {
+        return Answered {
+            header: renew(header, outline, bid_side.left, ask_side.left),
+            answer,
+        };
+    }
+    Answered {
+        header: refuse(header, answer),
+        answer,
     }
 }
 

@@ -11,7 +11,7 @@ use side::MAX_WORDS;
 use side::Side;
 
 // The side after the entries in the array at `at`, of which there are `count`; `m` says that the dialect is M, else it is K. The side
-// is the first `kept` levels of the words, and then the first `left` of what is answered.
+// is the first `kept` levels of the words, and then the first `left` of what is answered. No entries leave the words as they are.
 pub fn apply_entries(
     words: &mut [u64; MAX_WORDS],
     kept: usize,
@@ -23,7 +23,7 @@ pub fn apply_entries(
     count: usize,
 ) -> Applied
     requires { ⌜ Sound m side (keptIn (now words) kept) × Ready m (now s) at count × (depth ≤ 100) × (length (held (keptIn (now words) kept)) ≤ depth) ⌝ }
-    ensures { λ r. ⌜ Worked m side depth (editsAt m (now (s .entry)) at count) (keptIn (now (words .entry)) kept) (sideAfter (now (words .exit)) r) ⌝ }
+    ensures { λ r. ⌜ Worked m side depth (editsAt m (now (s .entry)) at count) (keptIn (now (words .entry)) kept) (sideAfter (now (words .exit)) r) × (count ≡ 0 → now (words .exit) ≡ now (words .entry)) ⌝ }
 {
     if count == 0 {
         return Applied {

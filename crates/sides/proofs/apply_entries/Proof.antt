@@ -14,7 +14,7 @@ returns : tie.Need-returns
 returns c =
     let a = c .before .before .args in
     let p = c .before .before .pre in
-    none-worked (a .m) (a .side) (a .depth) (keptIn (now (a .words)) (a .kept)) (now (a .s)) (a .at) (a .count) (c .if1 .taken) (p .0) (p .3)
+    (none-worked (a .m) (a .side) (a .depth) (keptIn (now (a .words)) (a .kept)) (now (a .s)) (a .at) (a .count) (c .if1 .taken) (p .0) (p .3), λ z. refl)
 
 sub-load : tie.Need-sub-load
 sub-load c = c .before .before .pre .1 .inside (c .if1 .left)
@@ -72,7 +72,7 @@ returns-2 c =
     let a = c .before .before .before .before .before .before .before .before .before .before .before .before .args in
     let p = c .before .before .before .before .before .before .before .before .before .before .before .before .pre in
     let l = c .before .before .before .before .before .load in
-    some-worked (a .m) (a .side) (a .depth) (keptIn (now (a .words)) (a .kept)) (now (a .s)) (a .at) (a .count) (l .last .1 .1 .0) (l .last .1 .1 .1 .0) (l .last .1 .1 .1 .1 .0) (l .result) (c .apply .last .0) (c .apply .result) (c .before .before .before .before .before .before .before .before .before .before .if1 .left) (p .0) (rw (part-is (a .at) (now (a .s))) at (l .ensures)) (c .apply .ensures)
+    (some-worked (a .m) (a .side) (a .depth) (keptIn (now (a .words)) (a .kept)) (now (a .s)) (a .at) (a .count) (l .last .1 .1 .0) (l .last .1 .1 .1 .0) (l .last .1 .1 .1 .1 .0) (l .result) (c .apply .last .0) (c .apply .result) (c .before .before .before .before .before .before .before .before .before .before .if1 .left) (p .0) (rw (part-is (a .at) (now (a .s))) at (l .ensures)) (c .apply .ensures), λ z. absurd (c .before .before .before .before .before .before .before .before .before .before .if1 .left z))
 
 pub apply-entries-spec : {M : Type 1} → statement M
 apply-entries-spec =

@@ -42,8 +42,10 @@ returns c =
     let o = s .args .outline in
     let first = c .before .before .before in
     record {
-      bids-worked = worked-as (bookAt s) (now (s .args .s)) o (s .pre) (m .result) (m .ensures) Bids (bookAt s .bids) (first .before .before .count-before .result) (first .before .before .count-before .ensures) (o .«bids_at») (o .bids) (sideAfter (first .apply-entries .last .0) (first .apply-entries .result)) (first .apply-entries .ensures);
-      asks-worked = worked-as (bookAt s) (now (s .args .s)) o (s .pre) (m .result) (m .ensures) Asks (bookAt s .asks) (c .before .before .count-before2 .result) (c .before .before .count-before2 .ensures) (o .«asks_at») (o .asks) (sideAfter (c .apply-entries2 .last .0) (c .apply-entries2 .result)) (c .apply-entries2 .ensures);
+      bids-worked = worked-as (bookAt s) (now (s .args .s)) o (s .pre) (m .result) (m .ensures) Bids (bookAt s .bids) (first .before .before .count-before .result) (first .before .before .count-before .ensures) (o .«bids_at») (o .bids) (sideAfter (first .apply-entries .last .0) (first .apply-entries .result)) (first .apply-entries .ensures .0);
+      asks-worked = worked-as (bookAt s) (now (s .args .s)) o (s .pre) (m .result) (m .ensures) Asks (bookAt s .asks) (c .before .before .count-before2 .result) (c .before .before .count-before2 .ensures) (o .«asks_at») (o .asks) (sideAfter (c .apply-entries2 .last .0) (c .apply-entries2 .result)) (c .apply-entries2 .ensures .0);
+      bids-stay = first .apply-entries .ensures .1;
+      asks-stay = c .apply-entries2 .ensures .1;
     }
 
 pub enter-spec : {M : Type 1} → statement M

@@ -1,0 +1,102 @@
+-- `try_entries` meets its contract: what the entries make of the sides, and then what the checks give.
+use mathlib.Core.Path.{_≡_, sym, subst, _∙_}
+use mathlib.Core.Bool.{true≢false}
+use mathlib.Core.List.{List}
+use Prim.Native.Nat.{ℕ}
+use denote.Ref.{now}
+use Rattle.settings.specs.Settings.{isM}
+use Rattle.sides.specs.Worked.{SideAfter, sideAfter}
+use Rattle.layout.specs.declared.Outline.{Outline}
+use Rattle.message.specs.declared.Verdict.the-variants.{Passes}
+use Rattle.book.specs.Reference.{hear}
+use Rattle.book.specs.Shown.{shows, bookOf, stepOf, Told}
+use Rattle.book.specs.Taking.{Passed, Judged, judgedUpdate, refusedStep, keptStep}
+use Rattle.book.specs.declared.Book.{Book}
+use Rattle.book.specs.declared.Header.{Header}
+use Rattle.book.proofs.Settling.{kept-told, left-told}
+use borrow.Author.Needs.{needs}
+use Rattle.book.proofs.taking.try_entries.Statement.{statement}
+use Rattle.book.proofs.taking.try_entries.Tie as tie
+
+abbrev bookAt : tie.Start → Book
+bookAt s = bookOf (now (s .args .bids)) (now (s .args .asks)) (s .args .header)
+
+abbrev textAt : tie.Start → List ℕ
+textAt s = now (s .args .s)
+
+abbrev outlineAt : tie.Start → Outline
+outlineAt s = s .args .outline
+
+passed : (s : tie.Start) → Passed (bookAt s) (textAt s) (outlineAt s)
+unfolding Judged
+passed s = s .pre .0 .0
+
+early : (s : tie.Start) → judgedUpdate (bookAt s .standing .state) (isM (bookAt s .settings .dialect)) (bookAt s .number) (outlineAt s) ≡ Passes (outlineAt s)
+unfolding Judged
+early s = s .pre .0 .1
+
+-- the sides after the entries
+abbrev bidsOf : tie.After-enter → SideAfter
+bidsOf c = sideAfter (c .enter .last .1 .1 .0) (c .enter .result .bids)
+
+abbrev asksOf : tie.After-enter → SideAfter
+asksOf c = sideAfter (c .enter .last .1 .1 .1 .0) (c .enter .result .asks)
+
+enter-requires : tie.Need-enter-requires
+enter-requires c κs = passed (c .before .before .before .before .before)
+
+weigh-requires : tie.Need-weigh-requires
+weigh-requires c κs = search needs
+
+is-taken-requires : tie.Need-is-taken-requires
+is-taken-requires c κs = search needs
+
+renew-requires : tie.Need-renew-requires
+renew-requires c κs = search needs
+
+returns : tie.Need-returns
+unfolding keptStep
+returns c =
+    let n = c .before .before .before .before .before .before .before .before in
+    let s = n .before .before .before .before .before .before in
+    let answer = c .before .before .before .weigh .result in
+    let is = sym (c .before .before .is-taken .ensures) ∙ c .before .if1 .taken in
+    record {
+      taken = λ t.
+          subst (λ (h : Header). Told (hear (shows (bookAt s)) (textAt s)) (stepOf (bidsOf n .levels .words) (asksOf n .levels .words) (record { header = h; answer = answer }))) (sym (c .renew .ensures))
+          (kept-told (bookAt s) (textAt s) (outlineAt s) (passed s) (early s) (bidsOf n) (asksOf n) (n .enter .ensures .bids-worked) (n .enter .ensures .asks-worked) answer (c .before .before .before .weigh .ensures) is);
+      refused = λ t. absurd (true≢false (sym is ∙ t));
+      bids-stay = n .enter .ensures .bids-stay;
+      asks-stay = n .enter .ensures .asks-stay;
+    }
+
+refuse-requires : tie.Need-refuse-requires
+refuse-requires c κs = search needs
+
+returns-2 : tie.Need-returns-2
+unfolding refusedStep
+returns-2 c =
+    let n = c .before .before .before .before .before .before .before .before in
+    let s = n .before .before .before .before .before .before in
+    let answer = c .before .before .before .weigh .result in
+    let is = sym (c .before .before .is-taken .ensures) ∙ c .before .if1 .left in
+    record {
+      taken = λ t. absurd (true≢false (sym t ∙ is));
+      refused = λ t.
+          subst (λ (h : Header). Told (hear (shows (bookAt s)) (textAt s)) (stepOf (bookAt s .bids .words) (bookAt s .asks .words) (record { header = h; answer = answer }))) (sym (c .refuse .ensures))
+          (left-told (bookAt s) (textAt s) (outlineAt s) (passed s) (early s) (bidsOf n) (asksOf n) (n .enter .ensures .bids-worked) (n .enter .ensures .asks-worked) answer (c .before .before .before .weigh .ensures) is);
+      bids-stay = n .enter .ensures .bids-stay;
+      asks-stay = n .enter .ensures .asks-stay;
+    }
+
+pub try-entries-spec : {M : Type 1} → statement M
+try-entries-spec =
+    tie.close
+    (tie.spec
+    enter-requires
+    weigh-requires
+    is-taken-requires
+    renew-requires
+    returns
+    refuse-requires
+    returns-2)

@@ -12,9 +12,7 @@ LENGTHS = 16
 # crate -> its tables
 CRATES = {
     "crc32_tables": range(0, 2),
-    "crc32_tables_mid": range(2, 4),
-    "crc32_tables_far": range(4, 6),
-    "crc32_tables_end": range(6, 8),
+    "crc32_tables_far": range(2, 4),
 }
 
 

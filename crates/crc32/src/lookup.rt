@@ -4,16 +4,12 @@ ghost use Prim.Native.Nat.{_*_, _<_};
 ghost use Rattle.crc32_spec.specs.Crc.{bits};
 use crc32_tables::moved0;
 use crc32_tables::moved1;
-use crc32_tables_end::moved6;
-use crc32_tables_end::moved7;
-use crc32_tables_far::moved4;
-use crc32_tables_far::moved5;
-use crc32_tables_mid::moved2;
-use crc32_tables_mid::moved3;
+use crc32_tables_far::moved2;
+use crc32_tables_far::moved3;
 
 // A state moved by n bytes.
 pub(crate) fn moved(s: u32, n: u64) -> u32
-    requires { ⌜ n < 116 ⌝ }
+    requires { ⌜ n < 64 ⌝ }
     ensures { λ r. ⌜ r ≡ bits (8 * n) s ⌝ }
 {
     if n < 16 {
@@ -25,17 +21,5 @@ pub(crate) fn moved(s: u32, n: u64) -> u32
     if n < 48 {
         return moved2(s, n - 32);
     }
-    if n < 64 {
-        return moved3(s, n - 48);
-    }
-    if n < 80 {
-        return moved4(s, n - 64);
-    }
-    if n < 96 {
-        return moved5(s, n - 80);
-    }
-    if n < 112 {
-        return moved6(s, n - 96);
-    }
-    moved7(s, n - 112)
+    moved3(s, n - 48)
 }

@@ -10,25 +10,25 @@ use crate::words::lower_half;
 use crate::words::step;
 use crate::words::upper_half;
 
-// The state moved by n bytes: after n bytes that are 0. Below 116 it is eight look-ups.
+// The state moved by n bytes: after n bytes that are 0. Below 64 it is eight look-ups.
 pub fn shift(s: u32, n: u64) -> u32
     ensures { λ r. ⌜ r ≡ bits (8 * n) s ⌝ }
 {
-    if n < 116 {
+    if n < 64 {
         return moved(s, n);
     }
     shift_many(s, n)
 }
 
-// A hundred bytes at a time.
+// Fifty bytes at a time.
 fn shift_many(s: u32, n: u64) -> u32
     ensures { λ r. ⌜ r ≡ bits (8 * n) s ⌝ }
 {
     let mut state = s;
     let mut left = n;
-    while 116 <= left {
-        state = moved(state, 100);
-        left -= 100;
+    while 64 <= left {
+        state = moved(state, 50);
+        left -= 50;
     }
     moved(state, left)
 }
@@ -44,7 +44,7 @@ pub fn combine(a: u32, b: u32, n: u64) -> u32
 pub fn front(b: u8, s: u32, n: u64) -> u32
     ensures { λ r. ⌜ r ≡ bitXor (bits (8 * (n + 1)) b) s ⌝ }
 {
-    if n < 115 {
+    if n < 63 {
         return moved(b as u32, n + 1) ^ s;
     }
     shift(step(0, b), n) ^ s
@@ -55,7 +55,7 @@ pub fn front_word(w: u64, k: u64, s: u32, n: u64) -> u32
     ensures { λ r. ⌜ r ≡ bitXor (bits (8 * (n + k)) (w % 2 ^ (8 * k))) s ⌝ }
 {
     if k <= 8 {
-        if n < 108 {
+        if n < 56 {
             return front_near(w, k, s, n);
         }
     }
@@ -64,7 +64,7 @@ pub fn front_word(w: u64, k: u64, s: u32, n: u64) -> u32
 
 // The same within reach of the tables: each half of the word is moved at once.
 fn front_near(w: u64, k: u64, s: u32, n: u64) -> u32
-    requires { ⌜ (k ≤ 8) × (n < 108) ⌝ }
+    requires { ⌜ (k ≤ 8) × (n < 56) ⌝ }
     ensures { λ r. ⌜ r ≡ bitXor (bits (8 * (n + k)) (w % 2 ^ (8 * k))) s ⌝ }
 {
     let front = low_bytes(w, k);

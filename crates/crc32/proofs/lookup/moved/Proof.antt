@@ -17,19 +17,7 @@ returns-3 : tie.Need-returns-3
 returns-3 c = in-table 32 (c .before .before .before .before .args .n - 32) (c .before .before .before .before .args .n) (c .before .before .before .before .args .s) _ (omega arith) (c .moved2 .ensures)
 
 returns-4 : tie.Need-returns-4
-returns-4 c = in-table 48 (c .before .before .before .before .before .args .n - 48) (c .before .before .before .before .before .args .n) (c .before .before .before .before .before .args .s) _ (omega arith) (c .moved3 .ensures)
-
-returns-5 : tie.Need-returns-5
-returns-5 c = in-table 64 (c .before .before .before .before .before .before .args .n - 64) (c .before .before .before .before .before .before .args .n) (c .before .before .before .before .before .before .args .s) _ (omega arith) (c .moved4 .ensures)
-
-returns-6 : tie.Need-returns-6
-returns-6 c = in-table 80 (c .before .before .before .before .before .before .before .args .n - 80) (c .before .before .before .before .before .before .before .args .n) (c .before .before .before .before .before .before .before .args .s) _ (omega arith) (c .moved5 .ensures)
-
-returns-7 : tie.Need-returns-7
-returns-7 c = in-table 96 (c .before .before .before .before .before .before .before .before .args .n - 96) (c .before .before .before .before .before .before .before .before .args .n) (c .before .before .before .before .before .before .before .before .args .s) _ (omega arith) (c .moved6 .ensures)
-
-returns-8 : tie.Need-returns-8
-returns-8 c = in-table 112 (c .before .before .before .before .before .before .before .before .args .n - 112) (c .before .before .before .before .before .before .before .before .args .n) (c .before .before .before .before .before .before .before .before .args .s) _ (omega arith) (c .moved7 .ensures)
+returns-4 c = in-table 48 (c .before .before .before .before .args .n - 48) (c .before .before .before .before .args .n) (c .before .before .before .before .args .s) _ (omega arith) (c .moved3 .ensures)
 
 pub moved-spec : {M : Type 1} → statement M
 moved-spec =
@@ -42,12 +30,4 @@ moved-spec =
     (λ c κs. search needs)
     returns-3
     (λ c κs. search needs)
-    returns-4
-    (λ c κs. search needs)
-    returns-5
-    (λ c κs. search needs)
-    returns-6
-    (λ c κs. search needs)
-    returns-7
-    (λ c κs. search needs)
-    returns-8)
+    returns-4)

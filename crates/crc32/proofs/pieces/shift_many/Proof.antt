@@ -20,8 +20,8 @@ loop-holds c = refl
 
 loop-again : tie.Need-loop-again Inv-loop μ-loop
 loop-again c =
-    ap (bits (8 * (c .before .before .loop .left - 100))) (c .moved .ensures)
-    ∙ shifted 100 (c .before .before .loop .left) (c .before .before .loop .state) (omega arith)
+    ap (bits (8 * (c .before .before .loop .left - 50))) (c .moved .ensures)
+    ∙ shifted 50 (c .before .before .loop .left) (c .before .before .loop .state) (omega arith)
     ∙ c .before .before .loop .inv
 
 returns : tie.Need-returns Inv-loop μ-loop

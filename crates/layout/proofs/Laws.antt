@@ -12,18 +12,37 @@ use Rattle.entries.specs.Rows.{Row, entriesAt}
 use Rattle.entries.specs.Summary.{noEntries, summaryOf}
 use Rattle.entries.specs.declared.Entries.{Entries}
 use Rattle.layout.specs.Layout.{Printed, printed, unprinted, Listed, Layout, listedAt, laid}
-use Rattle.layout.specs.Told.{notListed, listingOf, listingFrom, noOutline, outlineOf, isPrinted, sumOf, anyBad, isBad, outlineFrom}
+use Rattle.layout.specs.Told.{flagsOf, isListed, isBroken, hasZero, notListed, listingOf, listingFrom, noOutline, outlineOf, isPrinted, sumOf, anyBad, isBad, outlineFrom}
 use Rattle.layout.specs.declared.Listing.{Listing}
 use Rattle.layout.specs.declared.Outline.{Outline}
 
 module _ (at : ℕ) (e : Entries) where
-  pub listing-fair : e .fair ≡ true → record { at = at; fair = true; count = e .count; broken = e .broken; zero = e .zero } ≡ listingFrom at e
+  pub listing-fair : (flags : ℕ) → flags ≡ flagsOf (e .broken) (e .zero) → e .fair ≡ true → record { at = at; count = e .count; flags = flags } ≡ listingFrom at e
   unfolding listingFrom
-  listing-fair h = sym (rw (h, listingFrom))
+  listing-fair flags f h = sym (rw (h, listingFrom, f))
 
   pub listing-unfair : e .fair ≡ false → notListed ≡ listingFrom at e
   unfolding listingFrom
   listing-unfair h = sym (rw (h, listingFrom))
+
+-- Flags say what they are made of.
+listed-flags : (broken zero : Bool) → isListed (flagsOf broken zero) ≡ true
+listed-flags false false = refl
+listed-flags true false = refl
+listed-flags false true = refl
+listed-flags true true = refl
+
+broken-flags : (broken zero : Bool) → isBroken (flagsOf broken zero) ≡ broken
+broken-flags false false = refl
+broken-flags true false = refl
+broken-flags false true = refl
+broken-flags true true = refl
+
+zero-flags : (broken zero : Bool) → hasZero (flagsOf broken zero) ≡ zero
+zero-flags false false = refl
+zero-flags true false = refl
+zero-flags false true = refl
+zero-flags true true = refl
 
 -- The listing of a value is made of the summary of it.
 pub listing-of : (entry : List ℕ → Span → Reading Row) (s : List ℕ) (a : Span) (e : ℕ)
@@ -37,20 +56,20 @@ listing-of entry s a e = go (entriesAt entry s a)
 
 -- Whether a side breaks a rule of decimals.
 module _ (snapshot : Bool) (l : Listing) where
-  pub bad-broken : l .broken ≡ true → true ≡ isBad snapshot l
+  pub bad-broken : isBroken (l .flags) ≡ true → true ≡ isBad snapshot l
   unfolding isBad
   bad-broken h = sym (rw (h, isBad))
 
-  pub bad-snapshot : l .broken ≡ false → snapshot ≡ true → l .zero ≡ isBad snapshot l
+  pub bad-snapshot : isBroken (l .flags) ≡ false → snapshot ≡ true → hasZero (l .flags) ≡ isBad snapshot l
   unfolding isBad
   bad-snapshot h g = sym (rw (h, g, isBad))
 
-  pub bad-update : l .broken ≡ false → snapshot ≡ false → false ≡ isBad snapshot l
+  pub bad-update : isBroken (l .flags) ≡ false → snapshot ≡ false → false ≡ isBad snapshot l
   unfolding isBad
   bad-update h g = sym (rw (h, g, isBad))
 
 module _ (snapshot : Bool) (b a : Listing) (sent : Bool) (sum number : ℕ) where
-  pub outline-fair : b .fair ≡ true → a .fair ≡ true → (x y z : Bool) → x ≡ isBad snapshot b → y ≡ isBad snapshot a → z ≡ (x || y)
+  pub outline-fair : isListed (b .flags) ≡ true → isListed (a .flags) ≡ true → (x y z : Bool) → x ≡ isBad snapshot b → y ≡ isBad snapshot a → z ≡ (x || y)
       → record {
         fair = true;
         snapshot = snapshot;
@@ -67,11 +86,11 @@ module _ (snapshot : Bool) (b a : Listing) (sent : Bool) (sum number : ℕ) wher
   unfolding outlineFrom isBad
   outline-fair h g x y z p q r = sym (rw (h, g, outlineFrom, r, p, q))
 
-  pub outline-bids : b .fair ≡ false → noOutline ≡ outlineFrom snapshot b a sent sum number
+  pub outline-bids : isListed (b .flags) ≡ false → noOutline ≡ outlineFrom snapshot b a sent sum number
   unfolding outlineFrom
   outline-bids h = sym (rw (h, outlineFrom))
 
-  pub outline-asks : b .fair ≡ true → a .fair ≡ false → noOutline ≡ outlineFrom snapshot b a sent sum number
+  pub outline-asks : isListed (b .flags) ≡ true → isListed (a .flags) ≡ false → noOutline ≡ outlineFrom snapshot b a sent sum number
   unfolding outlineFrom
   outline-asks h g = sym (rw (h, g, outlineFrom))
 
@@ -79,6 +98,6 @@ module _ (snapshot : Bool) (b a : Listing) (sent : Bool) (sum number : ℕ) wher
 pub outline-of : (s : List ℕ) (snapshot : Bool) (p : Printed) (n : ℕ) (b a : Reading Listed)
     → outlineFrom snapshot (listingOf s b) (listingOf s a) (isPrinted p) (sumOf p) n ≡ outlineOf s (laid snapshot p n b a)
 unfolding outlineFrom listingOf laid andThen outlineOf isBad anyBad
-outline-of s snapshot p n (reads b) (reads a) = refl
-outline-of s snapshot p n (reads b) refused = refl
+outline-of s snapshot p n (reads b) (reads a) = simp (listed-flags, broken-flags, zero-flags)
+outline-of s snapshot p n (reads b) refused = simp listed-flags
 outline-of s snapshot p n refused a = refl

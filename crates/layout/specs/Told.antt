@@ -1,7 +1,8 @@
 -- What one walk over a message tells, in numbers. Assumes nothing: these are definitions.
-use Prim.Native.Nat.{ℕ}
+use Prim.Native.Nat.{ℕ, _%_}
 use mathlib.Core.Bool.{Bool, true, false, _&&_, _||_, cond}
 use mathlib.Core.List.{List}
+use lib.Dec.{leb, ltb}
 use lib.ListN.{length}
 use Rattle.decimal.specs.Digits.{Reading, reads, refused}
 use Rattle.json_tokens.specs.Tokens.{At, Broken}
@@ -15,21 +16,37 @@ use Rattle.layout.specs.declared.Told.{Told}
 
 -- ---- the entries of a side
 
+-- Whether some price or size is broken and whether some size is zero, in one number that is not 0.
+abbrev pub flagsOf : Bool → Bool → ℕ
+flagsOf false false = 1
+flagsOf true false = 3
+flagsOf false true = 5
+flagsOf true true = 7
+
+abbrev pub isListed : ℕ → Bool
+isListed flags = ltb 0 flags
+
+abbrev pub isBroken : ℕ → Bool
+isBroken flags = leb 2 (flags % 4)
+
+abbrev pub hasZero : ℕ → Bool
+hasZero flags = leb 4 flags
+
 -- A value that is no array of entries.
 abbrev pub notListed : Listing
-notListed = record { at = 0; fair = false; count = 0; broken = false; zero = false }
+notListed = record { at = 0; count = 0; flags = 0 }
 
 -- The entries of a side that has no array.
 abbrev pub nothingListed : Listing
-nothingListed = record { at = 0; fair = true; count = 0; broken = false; zero = false }
+nothingListed = record { at = 0; count = 0; flags = 1 }
 
 unfoldable pub listingOf : List ℕ → Reading Listed → Listing
-listingOf s (reads l) = record { at = l .at; fair = true; count = length (l .rows); broken = anyBroken s (l .rows); zero = anyZero s (l .rows) }
+listingOf s (reads l) = record { at = l .at; count = length (l .rows); flags = flagsOf (anyBroken s (l .rows)) (anyZero s (l .rows)) }
 listingOf s refused = notListed
 
 -- The same, made of what is told of the array at a position.
 unfoldable pub listingFrom : ℕ → Entries → Listing
-listingFrom at e = cond (e .fair) (record { at = at; fair = true; count = e .count; broken = e .broken; zero = e .zero }) notListed
+listingFrom at e = cond (e .fair) (record { at = at; count = e .count; flags = flagsOf (e .broken) (e .zero) }) notListed
 
 -- ---- the layout
 
@@ -67,11 +84,11 @@ outlineOf s refused = noOutline
 
 -- The same, made of what is told of the sides.
 unfoldable pub isBad : Bool → Listing → Bool
-isBad snapshot l = l .broken || (snapshot && l .zero)
+isBad snapshot l = isBroken (l .flags) || (snapshot && hasZero (l .flags))
 
 unfoldable pub outlineFrom : Bool → Listing → Listing → Bool → ℕ → ℕ → Outline
 outlineFrom snapshot bids asks sent sum number =
-    cond (bids .fair && asks .fair)
+    cond (isListed (bids .flags) && isListed (asks .flags))
     (record {
       fair = true;
       snapshot = snapshot;

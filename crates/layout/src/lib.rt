@@ -4,19 +4,16 @@ use entries::Entries;
 ghost use mathlib.Core.Path.{_≡_};
 ghost use mathlib.Core.Bool.{_||_};
 ghost use Rattle.layout.specs.Marks.{fewMore, unmarked, more, emptySlot};
-ghost use Rattle.layout.specs.Told.{notListed, nothingListed, listingFrom, isBad, outlineFrom, noOutline, noFrame};
+ghost use Rattle.layout.specs.Told.{notListed, nothingListed, listingFrom, flagsOf, isListed, isBroken, hasZero, isBad, outlineFrom, noOutline, noFrame};
 
 // The entries of one side.
 pub struct Listing {
     // Where the array of entries begins, or 0 where the message has none for this side.
     pub at: usize,
     pub count: usize,
-    // Whether it is an array of entries. If not, the rest says nothing.
-    pub fair: bool,
-    // Whether some price is no decimal or zero, or some size is no decimal.
-    pub broken: bool,
-    // Whether some size is zero.
-    pub zero: bool,
+    // 0 where it is no array of entries, and the rest then says nothing. Else 1, and 2 more where some price is no decimal or zero or some
+    // size is no decimal, and 4 more where some size is zero. One number and not three bools: a listing is copied much, padding and all.
+    pub flags: usize,
 }
 
 // The layout of a message.
@@ -72,10 +69,8 @@ pub fn listing_at(at: usize, entries: Entries) -> Listing
     if entries.fair {
         return Listing {
             at,
-            fair: true,
             count: entries.count,
-            broken: entries.broken,
-            zero: entries.zero,
+            flags: flags_of(entries.broken, entries.zero),
         };
     }
     not_listed()
@@ -87,10 +82,8 @@ fn not_listed() -> Listing
 {
     Listing {
         at: 0,
-        fair: false,
         count: 0,
-        broken: false,
-        zero: false,
+        flags: 0,
     }
 }
 
@@ -100,10 +93,8 @@ pub fn no_listing() -> Listing
 {
     Listing {
         at: 0,
-        fair: true,
         count: 0,
-        broken: false,
-        zero: false,
+        flags: 1,
     }
 }
 
@@ -118,8 +109,8 @@ pub fn outline_of(
 ) -> Outline
     ensures { λ r. ⌜ r ≡ outlineFrom snapshot bids asks printed checksum number ⌝ }
 {
-    if bids.fair {
-        if asks.fair {
+    if is_listed(bids.flags) {
+        if is_listed(asks.flags) {
             return Outline {
                 fair: true,
                 snapshot,
@@ -141,10 +132,42 @@ pub fn outline_of(
 fn is_bad(snapshot: bool, side: Listing) -> bool
     ensures { λ r. ⌜ r ≡ isBad snapshot side ⌝ }
 {
-    if side.broken {
+    if is_broken(side.flags) {
         return true;
     }
-    if snapshot { side.zero } else { false }
+    if snapshot {
+        has_zero(side.flags)
+    } else {
+        false
+    }
+}
+
+// The flags of an array of entries.
+fn flags_of(broken: bool, zero: bool) -> usize
+    ensures { λ r. ⌜ r ≡ flagsOf broken zero ⌝ }
+{
+    if broken {
+        return if zero { 7 } else { 3 };
+    }
+    if zero { 5 } else { 1 }
+}
+
+fn is_listed(flags: usize) -> bool
+    ensures { λ r. ⌜ r ≡ isListed flags ⌝ }
+{
+    0 < flags
+}
+
+fn is_broken(flags: usize) -> bool
+    ensures { λ r. ⌜ r ≡ isBroken flags ⌝ }
+{
+    2 <= flags % 4
+}
+
+fn has_zero(flags: usize) -> bool
+    ensures { λ r. ⌜ r ≡ hasZero flags ⌝ }
+{
+    4 <= flags
 }
 
 fn either(a: bool, b: bool) -> bool

@@ -1,16 +1,30 @@
 -- `is_bad` meets its contract: case by case.
 use Rattle.layout.proofs.Laws.{bad-broken, bad-snapshot, bad-update}
+use mathlib.Core.Path.{sym, _∙_}
+use borrow.Author.Needs.{needs}
 use Rattle.layout.proofs.is_bad.Statement.{statement}
 use Rattle.layout.proofs.is_bad.Tie as tie
 
+is-broken-requires : tie.Need-is-broken-requires
+is-broken-requires c κs = search needs
+
 returns : tie.Need-returns
-returns c = bad-broken (c .before .args .snapshot) (c .before .args .side) (c .if1 .taken)
+returns c =
+    let s = c .before .before in
+    bad-broken (s .args .snapshot) (s .args .side) (sym (c .before .is-broken .ensures) ∙ c .if1 .taken)
+
+has-zero-requires : tie.Need-has-zero-requires
+has-zero-requires c κs = search needs
 
 returns-2 : tie.Need-returns-2
-returns-2 c = bad-snapshot (c .before .before .args .snapshot) (c .before .before .args .side) (c .before .if1 .left) (c .if2 .taken)
+returns-2 c =
+    let s = c .before .before .before .before in
+    c .has-zero .ensures ∙ bad-snapshot (s .args .snapshot) (s .args .side) (sym (c .before .before .before .is-broken .ensures) ∙ c .before .before .if1 .left) (c .before .if2 .taken)
 
 returns-3 : tie.Need-returns-3
-returns-3 c = bad-update (c .before .before .args .snapshot) (c .before .before .args .side) (c .before .if1 .left) (c .if2 .left)
+returns-3 c =
+    let s = c .before .before .before in
+    bad-update (s .args .snapshot) (s .args .side) (sym (c .before .before .is-broken .ensures) ∙ c .before .if1 .left) (c .if2 .left)
 
 pub is-bad-spec : {M : Type 1} → statement M
-is-bad-spec = tie.close (tie.spec returns returns-2 returns-3)
+is-bad-spec = tie.close (tie.spec is-broken-requires returns has-zero-requires returns-2 returns-3)

@@ -5,8 +5,11 @@ use borrow.Author.Needs.{needs}
 use Rattle.layout.proofs.listing_at.Statement.{statement}
 use Rattle.layout.proofs.listing_at.Tie as tie
 
+flags-of-requires : tie.Need-flags-of-requires
+flags-of-requires c κs = search needs
+
 returns : tie.Need-returns
-returns c = listing-fair (c .before .args .at) (c .before .args .entries) (c .if1 .taken)
+returns c = listing-fair (c .before .before .args .at) (c .before .before .args .entries) (c .flags-of .result) (c .flags-of .ensures) (c .before .if1 .taken)
 
 not-listed-requires : tie.Need-not-listed-requires
 not-listed-requires c κs = search needs
@@ -15,4 +18,4 @@ returns-2 : tie.Need-returns-2
 returns-2 c = c .not-listed .ensures ∙ listing-unfair (c .before .before .args .at) (c .before .before .args .entries) (c .before .if1 .left)
 
 pub listing-at-spec : {M : Type 1} → statement M
-listing-at-spec = tie.close (tie.spec returns not-listed-requires returns-2)
+listing-at-spec = tie.close (tie.spec flags-of-requires returns not-listed-requires returns-2)

@@ -1,9 +1,15 @@
 -- `outline_of` meets its contract: by which sides are arrays of entries.
 use Rattle.layout.proofs.Laws.{outline-fair, outline-asks, outline-bids}
-use mathlib.Core.Path.{_∙_}
+use mathlib.Core.Path.{sym, _∙_}
 use borrow.Author.Needs.{needs}
 use Rattle.layout.proofs.outline_of.Statement.{statement}
 use Rattle.layout.proofs.outline_of.Tie as tie
+
+is-listed-requires : tie.Need-is-listed-requires
+is-listed-requires c κs = search needs
+
+is-listed-requires-2 : tie.Need-is-listed-requires-2
+is-listed-requires-2 c κs = search needs
 
 is-bad-requires : tie.Need-is-bad-requires
 is-bad-requires c κs = search needs
@@ -16,29 +22,34 @@ either-requires c κs = search needs
 
 returns : tie.Need-returns
 returns c =
-    let a = c .before .before .before .before .before .args in
-    outline-fair (a .snapshot) (a .bids) (a .asks) (a .printed) (a .checksum) (a .number) (c .before .before .before .before .if1 .taken) (c .before .before .before .if2 .taken) (c .before .before .is-bad .result) (c .before .is-bad2 .result) (c .either .result) (c .before .before .is-bad .ensures) (c .before .is-bad2 .ensures) (c .either .ensures)
+    let w = c .before .before .before .before .before .before in
+    let a = w .before .args in
+    let y = c .before .before .before .before in
+    outline-fair (a .snapshot) (a .bids) (a .asks) (a .printed) (a .checksum) (a .number) (sym (w .is-listed .ensures) ∙ y .before .if1 .taken) (sym (y .is-listed2 .ensures) ∙ c .before .before .before .if2 .taken) (c .before .before .is-bad .result) (c .before .is-bad2 .result) (c .either .result) (c .before .before .is-bad .ensures) (c .before .is-bad2 .ensures) (c .either .ensures)
 
 no-outline-requires : tie.Need-no-outline-requires
 no-outline-requires c κs = search needs
 
 returns-2 : tie.Need-returns-2
 returns-2 c =
-    let a = c .before .before .before .args in
-    c .no-outline .ensures ∙ outline-asks (a .snapshot) (a .bids) (a .asks) (a .printed) (a .checksum) (a .number) (c .before .before .if1 .taken) (c .before .if2 .left)
+    let w = c .before .before .before .before in
+    let a = w .before .args in
+    c .no-outline .ensures ∙ outline-asks (a .snapshot) (a .bids) (a .asks) (a .printed) (a .checksum) (a .number) (sym (w .is-listed .ensures) ∙ c .before .before .before .if1 .taken) (sym (c .before .before .is-listed2 .ensures) ∙ c .before .if2 .left)
 
 no-outline-requires-2 : tie.Need-no-outline-requires-2
 no-outline-requires-2 c κs = search needs
 
 returns-3 : tie.Need-returns-3
 returns-3 c =
-    let a = c .before .before .args in
-    c .no-outline2 .ensures ∙ outline-bids (a .snapshot) (a .bids) (a .asks) (a .printed) (a .checksum) (a .number) (c .before .if1 .left)
+    let a = c .before .before .before .args in
+    c .no-outline2 .ensures ∙ outline-bids (a .snapshot) (a .bids) (a .asks) (a .printed) (a .checksum) (a .number) (sym (c .before .before .is-listed .ensures) ∙ c .before .if1 .left)
 
 pub outline-of-spec : {M : Type 1} → statement M
 outline-of-spec =
     tie.close
     (tie.spec
+    is-listed-requires
+    is-listed-requires-2
     is-bad-requires
     is-bad-requires-2
     either-requires

@@ -25,16 +25,16 @@ use Rattle.side.specs.declared.Levels.{Levels}
 use Rattle.side.specs.declared.Found.{Found}
 use Rattle.side.specs.declared.Found.the-variants.{At, Nothing}
 use Rattle.sides.specs.Worked.{Sound}
-use Rattle.message.specs.Answers.{number as numberOf}
-use Rattle.message.specs.declared.Answer.{Answer}
-use Rattle.message.specs.declared.Answer.the-variants.{Taken, Shut, NoSnapshot, NoLevel}
-use Rattle.book.specs.Reference as r·
-use Rattle.book.specs.Reference.{Status, shut as shut′, waiting, live, isShut, Reference, opened, stands, asked, isTaken, ifTaken, Place, standing, absent, placeAt, placeAnswer, placeLevel, noLevel, sideOf, askedLevel, levelAsked, counts, level, amount, does, howMany, levelAt, whichNumber, howManyUpdates}
+use Rattle.answer.specs.Answers.{number as numberOf, isTaken}
+use Rattle.answer.specs.declared.Answer.{Answer}
+use Rattle.answer.specs.declared.Answer.the-variants.{Taken, Shut, NoSnapshot, NoLevel}
+use Rattle.reference.specs.Reference as r·
+use Rattle.reference.specs.Reference.{Status, shut as shut′, waiting, live, isShut, Reference, opened, stands, asked, ifTaken, Place, standing, absent, placeAt, placeAnswer, placeLevel, noLevel, sideOf, askedLevel, levelAsked, counts, level, amount, does, howMany, levelAt, whichNumber, howManyUpdates}
 use Rattle.settings.specs.Settings.{isM}
 use Rattle.book.specs.Shown.{statusOf, shows, Good, Opened, AnswersCounts, AnswersLevel, AnswersAmount}
 use Rattle.book.specs.Asking.{firstState, answers, refusalOf, levelIn}
-use Rattle.book.specs.declared.Scope.{Scope}
-use Rattle.book.specs.declared.Scope.the-variants.{Current, LastGood}
+use Rattle.reference.specs.declared.Scope.{Scope}
+use Rattle.reference.specs.declared.Scope.the-variants.{Current, LastGood}
 use Rattle.book.specs.declared.State.{State}
 use Rattle.book.specs.declared.Book.{Book}
 

@@ -23,8 +23,8 @@ use Rattle.entries.proofs.Claims.{zero-none}
 use Rattle.entries.proofs.Shift.{Even, k-even, m-even}
 use Rattle.layout.specs.Layout.{Listed, Layout, Heard}
 use Rattle.message.specs.Meaning.{Quote, quoteAt, Checked, fails, passes, bad, decimals, alsoDecimals, tooMany, counted, laidOut, addressed, heardIn, framed, checked}
-use Rattle.message.specs.declared.Answer.{Answer}
-use Rattle.message.specs.declared.Answer.the-variants.{TooLong, NotJson, Escaped, NotOurs, BadLayout, TooManyEntries, BadDecimal}
+use Rattle.answer.specs.declared.Answer.{Answer}
+use Rattle.answer.specs.declared.Answer.the-variants.{TooLong, NotJson, Escaped, NotOurs, BadLayout, TooManyEntries, BadDecimal}
 use Rattle.message.proofs.Entering.{Readable, entry-same, entry-even}
 use Rattle.message.proofs.Where.{entryIn, Lies, nowhere, there, LieIn, framed-lies}
 use Rattle.side.specs.Level.{PriceLevel, shownPrice}
@@ -33,7 +33,7 @@ use Rattle.loader.specs.Loaded.{Loadable, rowsAt, editFor, editAt}
 use Rattle.loader.specs.Reading.{entryFor, Ready}
 use Rattle.loader.proofs.Shift.{shifted-rows, shifted-loadable, edits-shift}
 use Rattle.sides.specs.Worked.{editsAt}
-use Rattle.book.specs.Reference.{editOf, pricesOf}
+use Rattle.reference.specs.Reference.{editOf, pricesOf}
 use Rattle.settings.specs.Settings.{isM}
 
 -- what a row says

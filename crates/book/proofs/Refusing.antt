@@ -9,17 +9,17 @@ use lib.Dec.{eqb, leb}
 use Rattle.settings.specs.declared.Dialect.{Dialect}
 use Rattle.layout.specs.Layout.{Printed, printed, unprinted, Layout}
 use Rattle.layout.specs.Told.{isPrinted, sumOf}
-use Rattle.message.specs.Answers.{number}
+use Rattle.answer.specs.Answers.{number, oneOf, isTaken, leavesStatus}
 use Rattle.message.specs.Meaning.{Checked, fails, passes, checked, Message, messageOf, saidOf, said}
 use Rattle.message.specs.Verdict.{verdictOf}
-use Rattle.message.specs.declared.Answer.{Answer}
-use Rattle.message.specs.declared.Answer.the-variants.{Taken, Shut, PriceTwice, NoSnapshot, OldNumber, TooManyLevels, WrongChecksum}
+use Rattle.answer.specs.declared.Answer.{Answer}
+use Rattle.answer.specs.declared.Answer.the-variants.{Taken, Shut, PriceTwice, NoSnapshot, OldNumber, TooManyLevels, WrongChecksum}
 use Rattle.message.specs.declared.Verdict.{Verdict}
 use Rattle.message.specs.declared.Verdict.the-variants.{Fails, Passes}
 use Rattle.layout.specs.declared.Outline.{Outline}
 use Rattle.layout.specs.Told.{outlineOf}
 use Rattle.decimal.specs.Digits.{reads}
-use Rattle.book.specs.Reference.{isShut, isLive, Reference, checksumOf, namesPriceTwice, lacksSnapshot, isOld, hasTooMany, differs, hasWrongChecksum, verdict, After, taken, leavesStatus, setWaiting, refusedBy, isTaken, answered, hearing, hear}
+use Rattle.reference.specs.Reference.{isShut, isLive, Reference, checksumOf, namesPriceTwice, lacksSnapshot, isOld, hasTooMany, differs, hasWrongChecksum, verdict, After, taken, setWaiting, refusedBy, answered, hearing, hear}
 use Rattle.settings.specs.Settings.{isM}
 use Rattle.book.specs.Shown.{statusOf, shows, Good, Told}
 use Rattle.book.specs.Taking.{refusedStanding, refusedStep, judgedUpdate, weighed}
@@ -74,7 +74,7 @@ hear-shut p s u = rw (u, hear)
 
 -- a shut book answers so, and stays as it is
 pub shut-told : (b : Book) (s : List ℕ) → Good b → isShut (statusOf (b .standing .state)) ≡ true → Told (hear (shows b) s) (refusedStep b Shut)
-unfolding shows refusedStep refusedStanding leavesStatus
+unfolding shows refusedStep refusedStanding leavesStatus number oneOf
 shut-told b s g u = told-as (refusedStep b Shut) (hear-shut (shows b) s u) (record { good = g; same = refl; answer = refl })
 
 module _ (p : Reference) (s : List ℕ) (u : isShut (p .status) ≡ false) where

@@ -8,10 +8,12 @@ use native.Mathlib.Omega.{arith}
 use borrow.Author.Tests.{leb-true, eqb-true, ltb-false, le-ltb}
 use lib.Dec.{eqb, leb, ltb}
 use lib.ListN.{length, take, length-take, length-map}
+use Rattle.answer.proofs.Laws.{taken-answer}
 use Rattle.decimal.specs.Digits.{Reading, reads, refused}
 use Rattle.decimal.specs.Decimal.{Number, read, isZero}
 use Rattle.json.specs.Json.{Span}
 use Rattle.settings.specs.Settings.{Terms, good, goodDepth, goodName, termsOf}
+use Rattle.settings.proofs.Depth.{good-depth}
 use Rattle.settings.specs.declared.Dialect.{Dialect}
 use Rattle.settings.specs.declared.Dialect.the-variants.{K, M, Unknown}
 use Rattle.entries.specs.Places.{inner}
@@ -35,13 +37,13 @@ use Rattle.layout.specs.Layout.{Layout}
 use Rattle.layout.specs.Told.{isPrinted, sumOf, outlineOf}
 use Rattle.layout.specs.declared.Outline.{Outline}
 use Rattle.message.specs.Meaning.{Quote, Message, quoteAt, messageOf, bad, passes}
-use Rattle.message.specs.Answers.{number}
-use Rattle.message.specs.declared.Answer.{Answer}
+use Rattle.answer.specs.Answers.{number, isTaken}
+use Rattle.answer.specs.declared.Answer.{Answer}
 use Rattle.message.specs.declared.Verdict.{Verdict}
 use Rattle.message.specs.declared.Verdict.the-variants.{Fails, Passes}
-use Rattle.message.specs.declared.Answer.the-variants.{Taken, PriceTwice, NoSnapshot, OldNumber, TooManyLevels, WrongChecksum}
+use Rattle.answer.specs.declared.Answer.the-variants.{Taken, PriceTwice, NoSnapshot, OldNumber, TooManyLevels, WrongChecksum}
 use Rattle.message.proofs.Where.{entryIn, LieIn, framed-lies}
-use Rattle.book.specs.Reference.{isLive, Reference, editOf, cut, afterQuotes, bidsAfter, asksAfter, pricesOf, checksumOf, namesPriceTwice, lacksSnapshot, isOld, hasTooMany, hasWrongChecksum, verdict, taken, refusedBy, isTaken, answered, hear}
+use Rattle.reference.specs.Reference.{isLive, Reference, editOf, cut, afterQuotes, bidsAfter, asksAfter, pricesOf, checksumOf, namesPriceTwice, lacksSnapshot, isOld, hasTooMany, hasWrongChecksum, verdict, taken, refusedBy, answered, hear}
 use Rattle.settings.specs.Settings.{isM}
 use Rattle.book.specs.Shown.{statusOf, shows, Good, Told}
 use Rattle.book.specs.Taking.{before, Passed, liveStanding, refusedStep, keptStep, judgedUpdate, Judged, weighed}
@@ -51,27 +53,6 @@ use Rattle.book.specs.declared.Step.{Step}
 use Rattle.book.proofs.Refusing.{refused-told, told-as, hear-passes, nine, ten, eleven, twelve, thirteen, none-fits, snapshot-not-old, snapshot-lacks-none, update-names-once, update-lacks, update-old, differs-is, judged-snapshot, judged-new}
 use Rattle.message.proofs.Entering.{Readable, is-k, is-m, good-readable, or-none, also-framed, framed-few, listed-ready}
 use Rattle.book.proofs.Entering.{listed-edits}
-use Rattle.book.proofs.Outcome.{taken-answer}
-
--- ---- settings
-
-and-first : (a b : Bool) → (a && b) ≡ true → a ≡ true
-and-first true b h = refl
-and-first false b h = h
-
-and-second : (a b : Bool) → (a && b) ≡ true → b ≡ true
-and-second true b h = h
-and-second false b h = absurd (true≢false (sym h))
-
-depth-goes : (d : Dialect) (depth : ℕ) → goodDepth d depth ≡ true → (depth ≤ 100) × (isM d ≡ true → depth ≡ 100)
-unfolding goodDepth isM
-depth-goes K depth h = (leb-true depth 100 (and-second (leb 10 depth) (leb depth 100) h), λ e. absurd (true≢false (sym e)))
-depth-goes M depth h = let e : depth ≡ 100 = eqb-true depth 100 h in (omega arith, λ q. e)
-depth-goes Unknown depth h = absurd (true≢false (sym h))
-
-pub good-depth : (t : Terms) → good t ≡ true → (t .depth ≤ 100) × (isM (t .dialect) ≡ true → t .depth ≡ 100)
-unfolding good
-good-depth t h = depth-goes (t .dialect) (t .depth) (and-first (goodDepth (t .dialect) (t .depth)) (goodName (t .name)) h)
 
 -- ---- a side after entries, cut in K and not in M
 

@@ -17,14 +17,14 @@ use Rattle.settings.specs.declared.Dialect.the-variants.{K, M, Unknown}
 use Rattle.side.specs.Level.{shown}
 use Rattle.side.specs.Kept.{held}
 use Rattle.checksum.specs.Text.{mChecksum}
-use Rattle.message.specs.Answers.{number as numberOf}
-use Rattle.message.specs.declared.Answer.{Answer}
-use Rattle.message.specs.declared.Answer.the-variants.{Taken, NoRoom}
+use Rattle.answer.specs.Answers.{number as numberOf, isTaken}
+use Rattle.answer.specs.declared.Answer.{Answer}
+use Rattle.answer.specs.declared.Answer.the-variants.{Taken, NoRoom}
 use Rattle.writer.specs.Snapshot.{kSnapshot, mSnapshot}
-use Rattle.book.specs.Reference.{Status, Reference, isTaken, ifTaken, asked, askedWriting, textIn, snapshotText, amount, does, write}
+use Rattle.reference.specs.Reference.{Status, Reference, ifTaken, asked, askedWriting, textIn, snapshotText, amount, does, write}
 use Rattle.book.specs.Shown.{statusOf, shows, Good, Wrote}
 use Rattle.book.specs.Asking.{answers, refusalOf}
-use Rattle.book.specs.declared.Scope.the-variants.{Current}
+use Rattle.reference.specs.declared.Scope.the-variants.{Current}
 use Rattle.book.specs.declared.Book.{Book}
 use Rattle.book.proofs.Asking.{asked-yes, asked-no, if-yes, if-no}
 

@@ -8,12 +8,12 @@ use Rattle.side.specs.Kept as kept·
 use Rattle.side.specs.declared.Side.{Side}
 use Rattle.side.specs.declared.Side.the-variants.{Bids, Asks}
 use Rattle.side.specs.declared.Found.{Found}
-use Rattle.message.specs.declared.Answer.{Answer}
-use Rattle.message.specs.declared.Answer.the-variants.{Taken, NoSnapshot}
-use Rattle.message.specs.declared.Answer.the-variants as answer·
-use Rattle.book.specs.Reference.{Status, shut, waiting, live}
-use Rattle.book.specs.declared.Scope.{Scope}
-use Rattle.book.specs.declared.Scope.the-variants.{Current, LastGood}
+use Rattle.answer.specs.declared.Answer.{Answer}
+use Rattle.answer.specs.declared.Answer.the-variants.{Taken, NoSnapshot}
+use Rattle.answer.specs.declared.Answer.the-variants as answer·
+use Rattle.reference.specs.Reference.{Status, shut, waiting, live}
+use Rattle.reference.specs.declared.Scope.{Scope}
+use Rattle.reference.specs.declared.Scope.the-variants.{Current, LastGood}
 use Rattle.book.specs.declared.State.{State}
 use Rattle.book.specs.declared.State.the-variants.{Shut, Waiting, Live}
 use Rattle.book.specs.declared.Book.{Book}

@@ -1,9 +1,4 @@
--- In reading order: the reference book; the claims about it; worked examples; what the code's book shows and ensures; what its methods ask and give on
--- their way.
-pub mod Reference
-pub mod Claims
-pub mod Examples
+-- In reading order: what the code's book shows and ensures; what its methods ask and give on their way.
 pub mod Shown
 pub mod Asking
 pub mod Taking
-pub mod Calls

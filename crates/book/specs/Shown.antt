@@ -12,9 +12,9 @@ use Rattle.side.specs.Kept.{keptIn, held}
 use Rattle.side.specs.declared.Side.{Side}
 use Rattle.side.specs.declared.Side.the-variants.{Bids, Asks}
 use Rattle.sides.specs.Worked.{Sound}
-use Rattle.book.specs.Reference.{Status, shut, waiting, live, isShut, Reference, opened, After, hear, Reply, Ask, message, howMany, levelAt, whichNumber, howManyUpdates, write, counts, level, amount, does}
+use Rattle.reference.specs.Reference.{Status, shut, waiting, live, isShut, Reference, opened, After, hear, Reply, Ask, message, howMany, levelAt, whichNumber, howManyUpdates, write, counts, level, amount, does}
 use Rattle.settings.specs.Settings.{isM}
-use Rattle.book.specs.declared.Scope.{Scope}
+use Rattle.reference.specs.declared.Scope.{Scope}
 use Rattle.book.specs.declared.State.{State}
 use Rattle.book.specs.declared.State.the-variants.{Shut, Waiting, Live}
 use Rattle.book.specs.declared.Book.{Book}

@@ -5,6 +5,7 @@ use mathlib.Core.Bool.{Bool, true, false, _&&_, _||_, not, cond}
 use mathlib.Core.List.{List, map}
 use lib.Dec.{eqb, leb, ltb}
 use lib.ListN.{length}
+use Rattle.answer.specs.Answers.{isTaken, leavesStatus}
 use Rattle.decimal.specs.Digits.{reads}
 use Rattle.settings.specs.Settings.{isM, termsOf, good}
 use Rattle.settings.specs.declared.Dialect.{Dialect}
@@ -17,11 +18,11 @@ use Rattle.layout.specs.Layout.{Layout}
 use Rattle.layout.specs.Told.{outlineOf}
 use Rattle.layout.specs.declared.Outline.{Outline}
 use Rattle.message.specs.Meaning.{passes, checked}
-use Rattle.message.specs.declared.Answer.{Answer}
-use Rattle.message.specs.declared.Answer.the-variants.{Taken, PriceTwice, NoSnapshot, OldNumber, TooManyLevels, WrongChecksum}
+use Rattle.answer.specs.declared.Answer.{Answer}
+use Rattle.answer.specs.declared.Answer.the-variants.{Taken, PriceTwice, NoSnapshot, OldNumber, TooManyLevels, WrongChecksum}
 use Rattle.message.specs.declared.Verdict.{Verdict}
 use Rattle.message.specs.declared.Verdict.the-variants.{Fails, Passes}
-use Rattle.book.specs.Reference.{maxLevels, isShut, isLive, isTaken, checksumOf, leavesStatus, oneMore, hear}
+use Rattle.reference.specs.Reference.{maxLevels, isShut, isLive, checksumOf, oneMore, hear}
 use Rattle.book.specs.Shown.{statusOf, shows, bookOf, stepOf, Good, Told}
 use Rattle.book.specs.declared.State.{State}
 use Rattle.book.specs.declared.State.the-variants.{Waiting, Live}

@@ -13,9 +13,10 @@
 mod taking;
 mod writing;
 
+use answer::Answer;
 use decimal::Decimal;
 use decimal::Written;
-use message::Answer;
+use reference::Scope;
 use settings::Dialect;
 use settings::Settings;
 use side::Found;
@@ -24,17 +25,9 @@ use side::MAX_WORDS;
 use side::Side;
 ghost use mathlib.Core.Path.{_≡_};
 ghost use Rattle.crc32.specs.Table.{ShiftTable};
-ghost use Rattle.book.specs.Reference.{hear, whichNumber, howManyUpdates};
+ghost use Rattle.reference.specs.Reference.{hear, whichNumber, howManyUpdates};
 ghost use Rattle.book.specs.Shown.{statusOf, shows, bookOf, headerOf, stepOf, Good, Opened, Told, CountsAnswered, AnswersCounts, AnswersLevel, AnswersAmount, Wrote};
 ghost use Rattle.book.specs.Asking.{firstState, answers, refusalOf, levelIn};
-
-// What a question is about.
-pub enum Scope {
-    // The book as it stands, if it is live.
-    Current,
-    // The book as it last was good, also while it waits for a snapshot.
-    LastGood,
-}
 
 pub enum State {
     // Opened with bad settings.

@@ -9,7 +9,7 @@ ghost use Rattle.side.specs.Kept.{keptIn, held};
 ghost use Rattle.side.specs.declared.Side.the-variants.{Bids, Asks};
 ghost use Rattle.settings.specs.Settings.{isM};
 ghost use Rattle.sides.specs.Worked.{Sound, sideAfter};
-ghost use Rattle.book.specs.Reference.{isShut, isTaken, leavesStatus, checksumOf, hear, oneMore};
+ghost use Rattle.reference.specs.Reference.{isShut, checksumOf, hear, oneMore};
 ghost use Rattle.book.specs.Shown.{statusOf, shows, bookOf, stepOf, Good, Told};
 ghost use Rattle.message.specs.declared.Verdict.the-variants.{Passes};
 ghost use Rattle.book.specs.Taking.{Passed, SidesAfter, Tried, Ruled, Judged, JudgedWith, judgedUpdate, weighedSides, takenHeader, refusedHeader, liveStanding, refusedStanding};
@@ -17,8 +17,10 @@ use crate::Answered;
 use crate::Header;
 use crate::Standing;
 use crate::State;
+use answer::Answer;
+use answer::is_taken;
+use answer::leaves_state;
 use layout::Outline;
-use message::Answer;
 use message::Verdict;
 use settings::Dialect;
 use settings::is_m;
@@ -344,30 +346,6 @@ fn refused(standing: Standing, answer: Answer) -> Standing
     }
 }
 
-// Whether a refusal leaves the book as it is; any other sets it waiting.
-fn leaves_state(answer: Answer) -> bool
-    ensures { λ r. ⌜ r ≡ leavesStatus answer ⌝ }
-{
-    match answer {
-        Answer::Taken => false,
-        Answer::Shut => true,
-        Answer::TooLong => false,
-        Answer::NotJson => false,
-        Answer::Escaped => false,
-        Answer::NotOurs => true,
-        Answer::BadLayout => false,
-        Answer::TooManyEntries => false,
-        Answer::BadDecimal => false,
-        Answer::PriceTwice => false,
-        Answer::NoSnapshot => true,
-        Answer::OldNumber => false,
-        Answer::TooManyLevels => false,
-        Answer::WrongChecksum => false,
-        Answer::NoLevel => true,
-        Answer::NoRoom => true,
-    }
-}
-
 fn is_shut(state: State) -> bool
     ensures { λ r. ⌜ r ≡ isShut (statusOf state) ⌝ }
 {
@@ -375,29 +353,6 @@ fn is_shut(state: State) -> bool
         State::Shut => true,
         State::Waiting => false,
         State::Live => false,
-    }
-}
-
-fn is_taken(answer: Answer) -> bool
-    ensures { λ r. ⌜ r ≡ isTaken answer ⌝ }
-{
-    match answer {
-        Answer::Taken => true,
-        Answer::Shut => false,
-        Answer::TooLong => false,
-        Answer::NotJson => false,
-        Answer::Escaped => false,
-        Answer::NotOurs => false,
-        Answer::BadLayout => false,
-        Answer::TooManyEntries => false,
-        Answer::BadDecimal => false,
-        Answer::PriceTwice => false,
-        Answer::NoSnapshot => false,
-        Answer::OldNumber => false,
-        Answer::TooManyLevels => false,
-        Answer::WrongChecksum => false,
-        Answer::NoLevel => false,
-        Answer::NoRoom => false,
     }
 }
 

@@ -8,8 +8,9 @@
 //     r                       writes it, opens a new book with the same settings, hands it the text, and goes on with that book
 //
 // Other lines are written as they are. What is to come was worked out apart from the crate, by tools/book_vectors.py.
+use answer::Answer;
+use answer::number_of;
 use book::Book;
-use book::Scope;
 use decimal::Decimal;
 use decimal::ParsedWhole;
 use decimal::Step;
@@ -17,8 +18,7 @@ use libc::STDIN_FILENO;
 use libc::STDOUT_FILENO;
 use lines::LINE_END;
 use lines::find;
-use message::Answer;
-use message::number_of;
+use reference::Scope;
 use side::Side;
 ghost use mathlib.Core.Path.{_≡_};
 ghost use Prim.Native.Nat.{_≤_};

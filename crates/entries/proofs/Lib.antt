@@ -7,3 +7,4 @@ pub mod Summary
 pub mod Claims
 pub mod Decimals
 pub mod Shift
+pub mod Numbers

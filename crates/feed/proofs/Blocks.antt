@@ -9,9 +9,9 @@ use lib.Dec.{leb}
 use lib.ListN.{length, take}
 use lib.Seq.{take-all, length-take-le}
 use Rattle.settings.specs.Settings.{Terms}
-use Rattle.message.specs.declared.Answer.the-variants.{TooLong, Shut}
+use Rattle.answer.specs.declared.Answer.the-variants.{TooLong, Shut}
 use Rattle.message.specs.Meaning.{maxMessage, framed, alsoDecimals, checked, Said, refuses, saidOf, said}
-use Rattle.book.specs.Reference.{Reference, opened, isShut, After, hear, hearing}
+use Rattle.reference.specs.Reference.{Reference, opened, isShut, After, hear, hearing}
 use Rattle.lines.specs.Lines.{linesOf, joined, inBlocks}
 use Rattle.lines.proofs.Blocks.{blocks-lines}
 use Rattle.line_text.specs.Opening.{lineOne}

@@ -14,7 +14,7 @@ use Rattle.lines.specs.Lines.{before, lineEnd, complete, unfinished}
 use Rattle.lines.proofs.Split.{next-complete, next-unfinished, no-more}
 use Rattle.writer.specs.Parts.{Room, Put}
 use Rattle.writer.proofs.Owed.{put-length, length-overlaid, overlaid-twice}
-use Rattle.book.specs.Reference.{Reference, hear}
+use Rattle.reference.specs.Reference.{Reference, hear}
 use Rattle.book.specs.Shown.{Good, shows}
 use Rattle.book.specs.declared.Book.{Book}
 use Rattle.feed.specs.Feed.{replyTo, replies, maxReply, Progress, hearing, HeardLines}

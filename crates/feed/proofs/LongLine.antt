@@ -16,7 +16,7 @@ use Rattle.decimal.proofs.WholeNumber.{whole-wrong}
 use Rattle.settings.specs.Settings.{Terms, shut, goodDepth, goodName, good, kept}
 use Rattle.settings.specs.declared.Dialect.{Dialect}
 use Rattle.line_text.specs.Opening.{blank, dialectOf, withDepth, depthAndName, lineOne}
-use Rattle.book.specs.Reference.{opened}
+use Rattle.reference.specs.Reference.{opened}
 use Rattle.feed.specs.Feed.{carried}
 
 and-no : (b : Bool) → b && false ≡ false

@@ -8,13 +8,13 @@ use native.Mathlib.Omega.{arith}
 use lib.ListN.{length, take, drop, length-drop}
 use lib.Seq.{take-all}
 use Rattle.line_text.specs.Reply.{replyText}
-use Rattle.message.specs.Answers.{number}
-use Rattle.message.specs.declared.Answer.{Answer}
-use Rattle.message.specs.declared.Answer.the-variants.{Taken, NoSnapshot}
-use Rattle.message.specs.declared.Answer.the-variants as answer·
-use Rattle.book.specs.Reference.{Status, shut, waiting, live, isShut, isLive, isTaken, Reference, hear, Value, counts, stands, asked, ifTaken, howMany, does}
+use Rattle.answer.specs.Answers.{number, isTaken}
+use Rattle.answer.specs.declared.Answer.{Answer}
+use Rattle.answer.specs.declared.Answer.the-variants.{Taken, NoSnapshot}
+use Rattle.answer.specs.declared.Answer.the-variants as answer·
+use Rattle.reference.specs.Reference.{Status, shut, waiting, live, isShut, isLive, Reference, hear, Value, counts, stands, asked, ifTaken, howMany, does}
 use Rattle.book.specs.Shown.{shows, Told, AnswersCounts}
-use Rattle.book.specs.declared.Scope.the-variants.{Current}
+use Rattle.reference.specs.declared.Scope.the-variants.{Current}
 use Rattle.book.specs.declared.Step.{Step}
 use Rattle.book.specs.declared.Counted.{Counted}
 use Rattle.feed.specs.Feed.{replyTo}

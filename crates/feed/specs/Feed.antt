@@ -10,7 +10,7 @@ use Rattle.decimal.specs.Buffer.{overlaid}
 use Rattle.lines.specs.Lines.{linesOf, complete, unfinished}
 use Rattle.line_text.specs.Opening.{lineOne}
 use Rattle.line_text.specs.Reply.{replyText}
-use Rattle.book.specs.Reference.{Reference, opened, isLive, After, hear}
+use Rattle.reference.specs.Reference.{Reference, opened, isLive, After, hear}
 use Rattle.book.specs.Shown.{Good, shows}
 use Rattle.feed.specs.declared.Heard.{Heard}
 

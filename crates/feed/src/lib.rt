@@ -7,11 +7,11 @@ ghost use Rattle.line_text.specs.Opening.{lineOne};
 ghost use Rattle.book.specs.Shown.{Good, Opened, shows};
 ghost use Rattle.feed.specs.Feed.{HeardLines};
 use book::Book;
-use book::Scope;
 use book::join;
 use line_text::MAX_REPLY;
 use lines::LINE_END;
 use lines::find;
+use reference::Scope;
 
 // A book after some lines: where the next line begins, and how many bytes of replies were laid.
 pub struct Heard {
@@ -55,7 +55,7 @@ pub fn hear_lines(book: Book, s: &[u8], table: &[u32], buffer: &mut [u8]) -> Hea
         header = answered.header;
         let counts = header.counts(Scope::Current);
         let asked = counts.answer;
-        let live = message::number_of(asked) == 0;
+        let live = answer::number_of(asked) == 0;
         written = line_text::write_reply(answer, live, counts.bids, counts.asks, buffer, written);
         next = end + 1;
     }

@@ -9,9 +9,9 @@ use lib.ListN.{length, length-append}
 use Rattle.decimal.specs.Ascii.{ascii}
 use Rattle.decimal.specs.Digits.{written}
 use Rattle.decimal.proofs.Digits.{length-written}
-use Rattle.message.specs.Answers.{number}
-use Rattle.message.specs.declared.Answer.{Answer}
-use Rattle.message.specs.declared.Answer.the-variants.{Taken, Shut, TooLong, NotJson, Escaped, NotOurs, BadLayout, TooManyEntries, BadDecimal, PriceTwice, NoSnapshot, OldNumber, TooManyLevels, WrongChecksum, NoLevel, NoRoom}
+use Rattle.answer.specs.Answers.{number}
+use Rattle.answer.specs.declared.Answer.{Answer}
+use Rattle.answer.specs.declared.Answer.the-variants.{Taken, Shut, TooLong, NotJson, Escaped, NotOurs, BadLayout, TooManyEntries, BadDecimal, PriceTwice, NoSnapshot, OldNumber, TooManyLevels, WrongChecksum, NoLevel, NoRoom}
 use Rattle.line_text.specs.Reply.{countsText, replyText}
 
 -- a number of 64 bits

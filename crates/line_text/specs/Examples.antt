@@ -10,8 +10,8 @@ use Rattle.decimal.specs.Decimal.{isWhole}
 use Rattle.decimal.specs.Whole.{readWhole}
 use Rattle.settings.specs.Settings.{goodDepth, nameByte, nameBytes, goodName, good}
 use Rattle.settings.specs.declared.Dialect.the-variants.{M}
-use Rattle.message.specs.Answers.{number}
-use Rattle.message.specs.declared.Answer.the-variants.{Taken, NotOurs, NotJson, NoSnapshot}
+use Rattle.answer.specs.Answers.{number}
+use Rattle.answer.specs.declared.Answer.the-variants.{Taken, NotOurs, NotJson, NoSnapshot}
 use Rattle.line_text.specs.Opening.{dialectOf, withDepth, depthAndName, lineOne}
 use Rattle.line_text.specs.Reply.{countsText, replyText}
 

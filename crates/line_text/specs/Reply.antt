@@ -5,8 +5,8 @@ use mathlib.Core.Bool.{Bool, cond}
 use mathlib.Core.List.{List, _++_}
 use Rattle.decimal.specs.Ascii.{ascii}
 use Rattle.decimal.specs.Digits.{written}
-use Rattle.message.specs.Answers.{number}
-use Rattle.message.specs.declared.Answer.{Answer}
+use Rattle.answer.specs.Answers.{number}
+use Rattle.answer.specs.declared.Answer.{Answer}
 
 unfoldable pub countsText : ℕ → ℕ → List ℕ
 countsText bids asks = (ascii " " ++ written bids) ++ ((ascii " " ++ written asks) ++ ascii "\n")

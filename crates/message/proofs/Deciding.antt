@@ -24,7 +24,7 @@ use Rattle.layout.specs.declared.Told.{Told}
 use Rattle.message.specs.Meaning.{Checked, fails, passes, maxMessage, bad, decimals, alsoDecimals, tooMany, counted, laidOut, addressed}
 use Rattle.message.specs.Verdict.{verdictOf}
 use Rattle.message.specs.Deciding.{laidOutline, addressedTold, decided}
-use Rattle.message.specs.declared.Answer.the-variants.{TooLong, NotJson, Escaped, NotOurs, BadLayout, TooManyEntries, BadDecimal}
+use Rattle.answer.specs.declared.Answer.the-variants.{TooLong, NotJson, Escaped, NotOurs, BadLayout, TooManyEntries, BadDecimal}
 use Rattle.message.specs.declared.Verdict.{Verdict}
 use Rattle.message.specs.declared.Verdict.the-variants.{Fails, Passes}
 

@@ -23,8 +23,8 @@ use Rattle.entries.proofs.Claims.{zero-none}
 use Rattle.entries.proofs.Shift.{Even, k-even, m-even}
 use Rattle.layout.specs.Layout.{Listed, Layout, Heard}
 use Rattle.message.specs.Meaning.{Quote, quoteAt, Checked, fails, passes, bad, decimals, alsoDecimals, tooMany, counted, laidOut, addressed, heardIn, framed, checked}
-use Rattle.message.specs.declared.Answer.{Answer}
-use Rattle.message.specs.declared.Answer.the-variants.{TooLong, NotJson, Escaped, NotOurs, BadLayout, TooManyEntries, BadDecimal}
+use Rattle.answer.specs.declared.Answer.{Answer}
+use Rattle.answer.specs.declared.Answer.the-variants.{TooLong, NotJson, Escaped, NotOurs, BadLayout, TooManyEntries, BadDecimal}
 use Rattle.message.proofs.Where.{entryIn, Lies, nowhere, there, LieIn, framed-lies}
 use Rattle.loader.specs.Reading.{entryFor, Ready}
 use Rattle.loader.proofs.Shift.{shifted-loadable}

@@ -26,7 +26,7 @@ use Rattle.first_bad.specs.declared.Place.{Place}
 use Rattle.message.specs.Meaning.{Checked, fails, passes, framed, earlier, firstBad, firstBadOf, badDecimal}
 use Rattle.message.specs.Verdict.{verdictOf}
 use Rattle.message.specs.Bad.{partOf, movedBy, badAt, earlierPlace, Within, PlaceIs, PartIs}
-use Rattle.message.specs.declared.Answer.{Answer}
+use Rattle.answer.specs.declared.Answer.{Answer}
 use Rattle.message.specs.declared.Part.{Part}
 use Rattle.message.specs.declared.Verdict.{Verdict}
 use Rattle.message.specs.declared.Verdict.the-variants.{Fails, Passes}

@@ -22,8 +22,8 @@ use Rattle.layout.specs.declared.Told.{Told}
 use Rattle.message.specs.Meaning.{Checked, fails, passes, decimals, alsoDecimals, addressed, heardIn, framed, checked, judged}
 use Rattle.message.specs.Verdict.{verdictOf}
 use Rattle.message.specs.Deciding.{decided}
-use Rattle.message.specs.declared.Answer.{Answer}
-use Rattle.message.specs.declared.Answer.the-variants.{Shut, TooLong, NotJson, BadDecimal}
+use Rattle.answer.specs.declared.Answer.{Answer}
+use Rattle.answer.specs.declared.Answer.the-variants.{Shut, TooLong, NotJson, BadDecimal}
 use Rattle.message.specs.declared.Verdict.{Verdict}
 use Rattle.message.specs.declared.Verdict.the-variants.{Fails, Passes}
 use Rattle.message.proofs.Deciding.{decided-is, none-bad, some-bad}

@@ -25,8 +25,8 @@ use Rattle.message_m.specs.LayoutM.{isSnapshotAt, listedIn as listedInM, layout
 use lib.Dec.{leb, ltb, eqb, lit<}
 use lib.ListN.{length, getD}
 use Rattle.message.specs.Meaning.{Checked, fails, passes, tooMany, counted, laidOut, addressed, heardIn, framed}
-use Rattle.message.specs.declared.Answer.{Answer}
-use Rattle.message.specs.declared.Answer.the-variants.{TooLong, NotJson, Escaped, NotOurs, BadLayout, TooManyEntries}
+use Rattle.answer.specs.declared.Answer.{Answer}
+use Rattle.answer.specs.declared.Answer.the-variants.{TooLong, NotJson, Escaped, NotOurs, BadLayout, TooManyEntries}
 
 -- The entries of dialect d.
 unfoldable pub entryIn : Dialect → List ℕ → Span → Reading Row

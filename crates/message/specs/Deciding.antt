@@ -5,7 +5,7 @@ use lib.Dec.{ltb, eqb}
 use Rattle.layout.specs.declared.Outline.{Outline}
 use Rattle.layout.specs.declared.Told.{Told}
 use Rattle.message.specs.Meaning.{maxEntries}
-use Rattle.message.specs.declared.Answer.the-variants.{NotJson, Escaped, NotOurs, BadLayout, TooManyEntries}
+use Rattle.answer.specs.declared.Answer.the-variants.{NotJson, Escaped, NotOurs, BadLayout, TooManyEntries}
 use Rattle.message.specs.declared.Verdict.{Verdict}
 use Rattle.message.specs.declared.Verdict.the-variants.{Fails, Passes}
 

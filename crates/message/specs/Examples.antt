@@ -7,7 +7,7 @@ use Prim.Native.String.{String}
 use Rattle.decimal.specs.Ascii.{ascii}
 use Rattle.settings.specs.declared.Dialect.the-variants.{K, M}
 use Rattle.settings.specs.Settings.{Terms}
-use Rattle.message.specs.Answers.{number}
+use Rattle.answer.specs.Answers.{number}
 use Rattle.message.specs.Meaning.{Said, refuses, says, said}
 use Rattle.decimal.specs.Digits as d·
 use Rattle.decimal.specs.Decimal as d2·

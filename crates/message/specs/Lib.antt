@@ -1,5 +1,4 @@
--- In reading order: the numbers of the answers; what a message says; what its reader answers, and how that is decided; the first bad text; worked examples.
-pub mod Answers
+-- In reading order: what a message says; what its reader answers, and how that is decided; the first bad text; worked examples.
 pub mod Meaning
 pub mod Verdict
 pub mod Deciding

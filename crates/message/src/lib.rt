@@ -2,6 +2,7 @@
 // lie, its checksum and its sequence number. One walk over the message finds out all of it.
 mod bad;
 
+use answer::Answer;
 use json::MAX_DEPTH;
 use json::value_end;
 use json_tokens::is_ended;
@@ -16,7 +17,6 @@ ghost use mathlib.Core.Path.{_≡_};
 ghost use mathlib.Core.Bool.{true};
 ghost use Rattle.settings.specs.Settings.{good};
 ghost use Rattle.layout.specs.Told.{toldAt};
-ghost use Rattle.message.specs.Answers.{number};
 ghost use Rattle.message.specs.Meaning.{heardIn, framed, checked, judged};
 ghost use Rattle.message.specs.Verdict.{verdictOf};
 pub use bad::bad_decimal;
@@ -28,66 +28,6 @@ pub const MAX_MESSAGE: usize = 32768;
 
 // The most entries of a side in one message.
 pub const MAX_ENTRIES: usize = 100;
-
-// The answers of a book to messages and questions.
-pub enum Answer {
-    // The message is taken, or the question is answered.
-    Taken,
-    // The book has bad settings.
-    Shut,
-    // The message is over MAX_MESSAGE bytes.
-    TooLong,
-    // It is not JSON, or nested too deep.
-    NotJson,
-    // A backslash stands where the book's name could be written with one.
-    Escaped,
-    // It is not this book's.
-    NotOurs,
-    // The layout is broken.
-    BadLayout,
-    // Over MAX_ENTRIES entries on one side.
-    TooManyEntries,
-    // A price or a size is no decimal, or is zero where it must not be.
-    BadDecimal,
-    // A snapshot names one price twice on a side.
-    PriceTwice,
-    // There is no snapshot that could be spoken of.
-    NoSnapshot,
-    // The sequence number of an update is not greater than the book's.
-    OldNumber,
-    // Too many levels on a side after the message.
-    TooManyLevels,
-    // The checksum differs.
-    WrongChecksum,
-    // The level asked for is not there.
-    NoLevel,
-    // The lent buffer is too small.
-    NoRoom,
-}
-
-// The number of an answer.
-pub fn number_of(answer: Answer) -> u64
-    ensures { λ r. ⌜ r ≡ number answer ⌝ }
-{
-    match answer {
-        Answer::Taken => 0,
-        Answer::Shut => 1,
-        Answer::TooLong => 2,
-        Answer::NotJson => 3,
-        Answer::Escaped => 4,
-        Answer::NotOurs => 5,
-        Answer::BadLayout => 6,
-        Answer::TooManyEntries => 7,
-        Answer::BadDecimal => 8,
-        Answer::PriceTwice => 9,
-        Answer::NoSnapshot => 10,
-        Answer::OldNumber => 11,
-        Answer::TooManyLevels => 12,
-        Answer::WrongChecksum => 13,
-        Answer::NoLevel => 14,
-        Answer::NoRoom => 15,
-    }
-}
 
 pub enum Verdict {
     Fails(Answer),

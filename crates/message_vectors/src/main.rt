@@ -7,6 +7,7 @@
 // Of a message it writes the number of the first of checks 1 to 8 that fails, or 0 and where the entries lie, the checksum and the
 // sequence number; then where the first bad decimal lies, and its text. Other lines are written as they are. What is to come was
 // worked out apart from the crate, by tools/message_vectors.py.
+use answer::number_of;
 use decimal::ParsedWhole;
 use layout::Outline;
 use libc::STDIN_FILENO;
@@ -14,7 +15,6 @@ use libc::STDOUT_FILENO;
 use lines::LINE_END;
 use lines::find;
 use message::Verdict;
-use message::number_of;
 use settings::Dialect;
 ghost use mathlib.Core.Path.{_≡_};
 ghost use Prim.Native.Nat.{_≤_};

@@ -9,16 +9,16 @@ use lib.Dec.{eqb}
 use lib.ListN.{length, take, drop, length-drop}
 use lib.Seq.{take-all}
 use Rattle.decimal.specs.Decimal as decimal
-use Rattle.message.specs.Answers.{number}
-use Rattle.message.specs.declared.Answer.{Answer}
+use Rattle.answer.specs.Answers.{number}
+use Rattle.answer.specs.declared.Answer.{Answer}
 use Rattle.side.specs.declared.Side.{Side}
-use Rattle.book.specs.declared.Scope.{Scope}
+use Rattle.reference.specs.declared.Scope.{Scope}
 use Rattle.book.specs.declared.Book.{Book}
 use Rattle.book.specs.declared.Step.{Step}
 use Rattle.book.specs.declared.Counted.{Counted}
 use Rattle.book.specs.declared.Levelled.{Levelled}
 use Rattle.book.specs.declared.Amounted.{Amounted}
-use Rattle.book.specs.Reference.{Reference, Reply, Value, Ask, message, howMany, levelAt, whichNumber, howManyUpdates, write, does, hear}
+use Rattle.reference.specs.Reference.{Reference, Reply, Value, Ask, message, howMany, levelAt, whichNumber, howManyUpdates, write, does, hear}
 use Rattle.book.specs.Shown.{Good, shows, Told, AnswersCounts, AnswersLevel, AnswersAmount, Wrote}
 use Rattle.replay.specs.Format.{wordAt, opcode, scopeOf, sideOf, askOf, levelWords, valueWords, replyWords}
 use Rattle.replay.specs.Calls.{Answered, toldOf, countedOf, levelledOf, amountedOf}

@@ -14,11 +14,11 @@ use Rattle.crc32_spec.specs.Text.{Bytes, word}
 use Rattle.side.specs.Side.{All}
 use Rattle.side.specs.declared.Side.{Side}
 use Rattle.side.specs.declared.Side.the-variants.{Bids, Asks}
-use Rattle.book.specs.declared.Scope.{Scope}
-use Rattle.book.specs.declared.Scope.the-variants.{Current, LastGood}
-use Rattle.book.specs.Reference.{Ask, message, howMany, levelAt, whichNumber, howManyUpdates, write, Call, run, opened}
-use Rattle.book.specs.Claims.{call}
-use Rattle.book.proofs.Claims.{from-snapshot}
+use Rattle.reference.specs.declared.Scope.{Scope}
+use Rattle.reference.specs.declared.Scope.the-variants.{Current, LastGood}
+use Rattle.reference.specs.Reference.{Ask, message, howMany, levelAt, whichNumber, howManyUpdates, write, Call, run, opened}
+use Rattle.reference.specs.Claims.{call}
+use Rattle.reference.proofs.Claims.{from-snapshot}
 use Rattle.replay.specs.Format.{bytesOf, wordsOf, wordAt, isWhole, scopeOf, sideOf, askOf, callLength, replyLength, called, decode, script, laidIn}
 use Rattle.replay.specs.Claims.{opcodeOf, scopeNumber, sideNumber, scopeIn, sideIn, indexIn, messageIn, headerWords, scriptOf, outOf, Holds, Plain, Every-list, Every-script, Listed, Replayed-list, Replayed-snapshot}
 use Rattle.replay.proofs.Fields.{length-bytes, whole-by}

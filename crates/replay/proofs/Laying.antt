@@ -8,7 +8,7 @@ use lib.Seq.{take-all, drop-at, length-take-le}
 use Rattle.decimal.specs.Buffer.{overlaid}
 use Rattle.writer.specs.Parts.{Put}
 use Rattle.writer.proofs.Owed.{Owed, Whole, owed-all, owed-rest, put-none}
-use Rattle.book.specs.Reference.{Reference, Ask, does}
+use Rattle.reference.specs.Reference.{Reference, Ask, does}
 use Rattle.book.specs.Shown.{Good, shows}
 use Rattle.replay.specs.Format.{bytesOf, wordsOf, replyWords, replyBytes}
 use Rattle.replay.specs.Calls.{wordsIn, Answered, Called}

@@ -7,7 +7,7 @@ use native.Mathlib.Omega.{arith}
 use lib.ListN.{take-append-drop, length, take, drop, length-drop, length-append}
 use lib.Seq.{drop-drop, length-take-le, take-at, drop-at}
 use Rattle.settings.specs.Settings.{Terms}
-use Rattle.book.specs.Reference.{Reference, Ask, Call, Reply, opened, does, run}
+use Rattle.reference.specs.Reference.{Reference, Ask, Call, Reply, opened, does, run}
 use Rattle.book.specs.Shown.{Good, shows}
 use Rattle.book.specs.declared.Book.{Book}
 use Rattle.replay.specs.Format.{askOf, isWhole, callLength, replyLength, replyBytes, called, decode, script, laidIn}

@@ -4,8 +4,8 @@ use mathlib.Core.Path.{_≡_}
 use mathlib.Core.List.{List, [], _∷_}
 use lib.ListN.{length, drop}
 use Rattle.settings.specs.Settings.{Terms}
-use Rattle.message.specs.Answers.{number}
-use Rattle.book.specs.Reference.{Reference, Ask, opened, does, run}
+use Rattle.answer.specs.Answers.{number}
+use Rattle.reference.specs.Reference.{Reference, Ask, opened, does, run}
 use Rattle.book.specs.Shown.{Good, shows}
 use Rattle.book.specs.declared.Book.{Book}
 use Rattle.book.specs.declared.Step.{Step}

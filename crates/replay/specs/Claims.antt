@@ -11,11 +11,11 @@ use Rattle.side.specs.Side.{All}
 use Rattle.side.specs.declared.Side.{Side}
 use Rattle.side.specs.declared.Side.the-variants.{Bids, Asks}
 use Rattle.message.specs.Meaning.{Message, says, said}
-use Rattle.message.specs.declared.Answer.the-variants.{Taken}
-use Rattle.book.specs.declared.Scope.{Scope}
-use Rattle.book.specs.declared.Scope.the-variants.{Current, LastGood}
-use Rattle.book.specs.Reference.{Ask, message, howMany, levelAt, whichNumber, howManyUpdates, write, Call, opened, hear, run, final}
-use Rattle.book.specs.Claims.{call}
+use Rattle.answer.specs.declared.Answer.the-variants.{Taken}
+use Rattle.reference.specs.declared.Scope.{Scope}
+use Rattle.reference.specs.declared.Scope.the-variants.{Current, LastGood}
+use Rattle.reference.specs.Reference.{Ask, message, howMany, levelAt, whichNumber, howManyUpdates, write, Call, opened, hear, run, final}
+use Rattle.reference.specs.Claims.{call}
 use Rattle.replay.specs.Format.{wordsOf, script, laidIn}
 use Rattle.replay.specs.Calls.{Replayed}
 

@@ -10,10 +10,10 @@ use Rattle.settings.specs.declared.Dialect.the-variants.{K, M, Unknown}
 use Rattle.side.specs.Level.{PriceLevel}
 use Rattle.side.specs.declared.Side.{Side}
 use Rattle.side.specs.declared.Side.the-variants.{Bids, Asks}
-use Rattle.message.specs.Answers.{number}
-use Rattle.book.specs.declared.Scope.{Scope}
-use Rattle.book.specs.declared.Scope.the-variants.{Current, LastGood}
-use Rattle.book.specs.Reference.{Reply, Value, nothing, counts, level, amount, Ask, message, howMany, levelAt, whichNumber, howManyUpdates, write, Call}
+use Rattle.answer.specs.Answers.{number}
+use Rattle.reference.specs.declared.Scope.{Scope}
+use Rattle.reference.specs.declared.Scope.the-variants.{Current, LastGood}
+use Rattle.reference.specs.Reference.{Reply, Value, nothing, counts, level, amount, Ask, message, howMany, levelAt, whichNumber, howManyUpdates, write, Call}
 
 -- ---- words: 8 bytes, the lowest first
 

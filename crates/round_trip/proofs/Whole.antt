@@ -17,7 +17,7 @@ use Rattle.settings.specs.Settings.{Terms}
 use Rattle.entries.specs.Places.{top}
 use Rattle.layout.specs.Layout.{Printed, Listed, Layout, Heard}
 use Rattle.message.specs.Meaning.{fails, passes, says, tooMany, counted, laidOut, addressed, heardIn, framed, bad, decimals, alsoDecimals, checked, messageOf, saidOf, said}
-use Rattle.message.specs.declared.Answer.the-variants.{TooManyEntries}
+use Rattle.answer.specs.declared.Answer.the-variants.{TooManyEntries}
 use Rattle.side.specs.Level.{PriceLevel}
 use Rattle.round_trip.specs.Claims.{quoteOf}
 use Rattle.round_trip.proofs.Places.{no-blanks, nothing-stops, Is}

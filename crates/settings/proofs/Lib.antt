@@ -1,2 +1,3 @@
 -- Laws of good settings.
 pub mod Good
+pub mod Depth

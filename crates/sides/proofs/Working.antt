@@ -6,15 +6,12 @@ use mathlib.Core.Bool.{Bool, true, false, cond}
 use Prim.Native.Nat.{ℕ, _≤_}
 use native.Mathlib.Omega.{arith}
 use borrow.Author.Tests.{eq-eqb, ne-eqb}
-use lib.Dec.{eqb, lit<}
+use lib.Dec.{eqb}
 use lib.ListN.{length, take, drop, length-map}
 use lib.Seq.{take-all}
-use Rattle.decimal.specs.Digits.{Reading, reads, refused}
-use Rattle.decimal.specs.Decimal.{Number, read, isZero, Within}
-use Rattle.decimal.proofs.RoundTrip.{read-within}
-use Rattle.json.specs.Json.{Span}
-use Rattle.entries.specs.Places.{inner}
+use Rattle.decimal.specs.Decimal.{isZero, Within}
 use Rattle.entries.specs.Rows.{Row, numberAt}
+use Rattle.entries.proofs.Numbers.{number-within}
 use Rattle.side.specs.Level.{PriceLevel, levelPrice, levelSize, shown, shownPrice}
 use Rattle.side.specs.Side.{Edit, sets, removes, mapEdit, All, IfSet, applyAll, ranked, afterMessage, met}
 use Rattle.side.specs.Words.{entriesOf}
@@ -32,15 +29,6 @@ use Rattle.loader.specs.Reading.{entryFor, pieceFor}
 use Rattle.sides.specs.Worked.{Sound, editsAt, sideAfter, Worked}
 
 -- ---- sizes keep the limits of decimals
-
--- a number that is read of a message does
-pub number-within : (s : List ℕ) (a : Span) → Within (numberAt s a)
-unfolding numberAt
-number-within s a = go (read (inner s a)) refl
-  where
-    go : (x : Reading Number) → read (inner s a) ≡ x → Within (elim x [ reads n ↦ n | refused ↦ record { digits = 0; decimals = 0 } ])
-    go (reads n) h = read-within (inner s a) n h
-    go refused h = record { few = omega arith; low = lit< tt }
 
 abbrev Sized : Level → Type 0
 Sized level = Within (levelSize level)

@@ -8,7 +8,7 @@ use mathlib.Core.List.{List}
 use lib.ListN.{length, take, drop}
 use Rattle.line_text.specs.Reply.{replyText}
 use Rattle.line_text.proofs.Length.{length-reply}
-use Rattle.book.specs.Reference.{hear}
+use Rattle.reference.specs.Reference.{hear}
 use Rattle.feed.specs.Feed.{replyTo}
 use Rattle.feed.proofs.Replying.{reply-is}
 use Rattle.book.specs.Shown.{Good, shows, bookOf}

@@ -5,7 +5,7 @@ use mathlib.Core.Bool.{Bool, true, false, cond}
 use mathlib.Core.List.{List, _++_}
 use Rattle.decimal.specs.Ascii.{ascii}
 use Rattle.decimal.specs.Digits.{written}
-use Rattle.message.specs.Answers.{number}
+use Rattle.answer.specs.Answers.{number}
 use Rattle.writer.proofs.Owed.{Whole, owed-as, owed-rest-as, room-first-as, room-all, put-last}
 use Rattle.line_text.specs.Reply.{countsText, replyText}
 use borrow.Author.Needs.{needs}

@@ -2,7 +2,7 @@
 use mathlib.Core.Path.{_≡_, sym, subst}
 use mathlib.Core.List.{[]}
 use denote.Ref.{now}
-use Rattle.book.specs.Reference.{hear}
+use Rattle.reference.specs.Reference.{hear}
 use Rattle.book.specs.Shown.{shows, bookOf, Good, Told}
 use Rattle.book.specs.declared.Book.{Book}
 use Rattle.book.specs.declared.Header.{Header}

@@ -1,6 +1,6 @@
 -- `checksum_of` meets its contract: dialect by dialect.
 use Rattle.book.proofs.Settling.{k-sums, m-sums}
-use Rattle.book.specs.Reference.{checksumOf}
+use Rattle.reference.specs.Reference.{checksumOf}
 use denote.Ref.{now}
 use Rattle.side.specs.Kept.{keptIn}
 use borrow.Author.Needs.{needs}

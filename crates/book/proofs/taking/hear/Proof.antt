@@ -2,7 +2,7 @@
 use mathlib.Core.Path.{sym, subst}
 use denote.Ref.{now}
 use Rattle.message.specs.declared.Verdict.the-variants.{Passes}
-use Rattle.book.specs.Reference.{hear}
+use Rattle.reference.specs.Reference.{hear}
 use Rattle.book.specs.Shown.{shows, bookOf, stepOf, Told}
 use Rattle.book.specs.Taking.{Judged, refusedStep}
 use Rattle.book.specs.declared.Book.{Book}

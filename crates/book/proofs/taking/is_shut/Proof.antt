@@ -1,5 +1,5 @@
 -- `is_shut` meets its contract: state by state.
-use Rattle.book.specs.Reference.{isShut}
+use Rattle.reference.specs.Reference.{isShut}
 use Rattle.book.specs.Shown.{statusOf}
 use borrow.Author.Needs.{needs}
 use Rattle.book.proofs.taking.is_shut.Statement.{statement}

@@ -1,6 +1,6 @@
 -- `judge_update` meets its contract: a snapshot passes, an update by the state and its number.
 use mathlib.Core.Path.{sym, ap, _∙_}
-use Rattle.book.specs.Reference.{isLive}
+use Rattle.reference.specs.Reference.{isLive}
 use Rattle.book.specs.Shown.{statusOf}
 use Rattle.book.specs.declared.State.{State}
 use Rattle.book.proofs.Refusing.{judged-snapshot, judged-idle, judged-old, judged-new}

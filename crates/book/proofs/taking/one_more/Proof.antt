@@ -1,6 +1,6 @@
 -- `one_more` meets its contract: below the end of the count, and at it.
 use borrow.Author.Tests.{lt-ltb, le-ltb}
-use Rattle.book.specs.Reference.{oneMore}
+use Rattle.reference.specs.Reference.{oneMore}
 use borrow.Author.Needs.{needs}
 use Rattle.book.proofs.taking.one_more.Statement.{statement}
 use Rattle.book.proofs.taking.one_more.Tie as tie

@@ -8,7 +8,7 @@ use Rattle.settings.specs.Settings.{isM}
 use Rattle.sides.specs.Worked.{SideAfter, sideAfter}
 use Rattle.layout.specs.declared.Outline.{Outline}
 use Rattle.message.specs.declared.Verdict.the-variants.{Passes}
-use Rattle.book.specs.Reference.{hear}
+use Rattle.reference.specs.Reference.{hear}
 use Rattle.book.specs.Shown.{shows, bookOf, stepOf, Told}
 use Rattle.book.specs.Taking.{Passed, Judged, judgedUpdate, refusedStep, keptStep}
 use Rattle.book.specs.declared.Book.{Book}

@@ -27,23 +27,23 @@ use Rattle.side.specs.declared.Side.the-variants.{Bids, Asks}
 use Rattle.side.proofs.All.{all-take}
 use Rattle.side.proofs.Ranking.{all-applyAll, all-ranked, applyRanked, commute, without-none, place-middle, ranked-sorted, sorted-take, sorted-distinct, distinct-applyAll, distinct-once}
 use Rattle.side.proofs.Lengths.{length-ranked}
-use Rattle.sides.proofs.Working.{number-within}
+use Rattle.entries.proofs.Numbers.{number-within}
 use Rattle.crc32_spec.specs.Crc.{crc, run}
 use Rattle.writer.specs.Snapshot.{kSnapshot, mSnapshot}
 use Rattle.checksum.specs.Text.{interleaved, colonJoined, mText, mChecksum}
 use Rattle.layout.specs.Layout.{Printed, printed, unprinted, Layout}
 use Rattle.message.specs.Meaning.{Quote, quoteAt, Message, messageOf, Checked, fails, passes, bad, checked, saidOf, said, says, refuses}
-use Rattle.message.specs.declared.Answer.the-variants.{Taken}
+use Rattle.answer.specs.declared.Answer.the-variants.{Taken}
 use Rattle.message.proofs.Where.{LieIn, entryIn, framed-lies}
 use Rattle.message.proofs.Entering.{Readable, is-k, is-m, good-readable, also-framed}
 use Rattle.round_trip.specs.Claims.{quoteOf, Positive, FineLevel, Each, each-none, each-more, Fine}
 use Rattle.round_trip.proofs.Claims.{k-round-trip, m-round-trip}
-use Rattle.book.specs.Reference.{Status, shut, waiting, live, isShut, isLive, Reference, opened, editOf, cut, afterQuotes, bidsAfter, asksAfter, pricesOf, checksumOf, taken, After, hear, textIn, snapshotText, Ask, does, Call, final}
-use Rattle.book.specs.Claims.{Ready, restarts, Agrees, carries-none, the-same, Acceptable, withStatus, ReadsBack, Round-trip}
-use Rattle.book.proofs.Outcome.{or-none, ready-open, acceptable-taken}
-use Rattle.book.proofs.Carried.{said-carries}
-use Rattle.book.proofs.Runs.{Steps, stays, moves, steps, Reached, reached, reached-step, reached-opened}
-use Rattle.book.proofs.Settling.{good-depth}
+use Rattle.reference.specs.Reference.{Status, shut, waiting, live, isShut, isLive, Reference, opened, editOf, cut, afterQuotes, bidsAfter, asksAfter, pricesOf, checksumOf, taken, After, hear, textIn, snapshotText, Ask, does, Call, final}
+use Rattle.reference.specs.Claims.{Ready, restarts, Agrees, carries-none, the-same, Acceptable, withStatus, ReadsBack, Round-trip}
+use Rattle.reference.proofs.Outcome.{or-none, ready-open, acceptable-taken}
+use Rattle.reference.proofs.Carried.{said-carries}
+use Rattle.reference.proofs.Runs.{Steps, stays, moves, steps, Reached, reached, reached-step, reached-opened}
+use Rattle.settings.proofs.Depth.{good-depth}
 
 -- ---- a sorted side, set level by level on an empty one and ranked, is the side
 

@@ -16,13 +16,13 @@ use Rattle.side.specs.declared.Side.{Side}
 use Rattle.side.specs.declared.Side.the-variants.{Bids, Asks}
 use Rattle.checksum.specs.Text.{kChecksum, mChecksum}
 use Rattle.layout.specs.Layout.{Printed, printed, unprinted}
-use Rattle.message.specs.Answers.{number}
+use Rattle.answer.specs.Answers.{isTaken, leavesStatus}
 use Rattle.message.specs.Meaning.{Quote, Message, Said, refuses, says, said}
-use Rattle.message.specs.declared.Answer.{Answer}
-use Rattle.message.specs.declared.Answer.the-variants.{Taken, Shut, TooLong, NotJson, Escaped, NotOurs, BadLayout, TooManyEntries, BadDecimal, PriceTwice, NoSnapshot, OldNumber, TooManyLevels, WrongChecksum, NoLevel, NoRoom}
+use Rattle.answer.specs.declared.Answer.{Answer}
+use Rattle.answer.specs.declared.Answer.the-variants.{Taken, Shut, TooLong, NotJson, Escaped, NotOurs, BadLayout, TooManyEntries, BadDecimal, PriceTwice, NoSnapshot, OldNumber, TooManyLevels, WrongChecksum, NoLevel, NoRoom}
 use Rattle.writer.specs.Snapshot.{kSnapshot, mSnapshot}
-use Rattle.book.specs.declared.Scope.{Scope}
-use Rattle.book.specs.declared.Scope.the-variants.{Current, LastGood}
+use Rattle.reference.specs.declared.Scope.{Scope}
+use Rattle.reference.specs.declared.Scope.the-variants.{Current, LastGood}
 
 pub data Status : Type 0 where
   shut : Status
@@ -145,33 +145,11 @@ taken p m =
       ever = m .snapshot || p .ever;
     }
 
--- The table's last column: which refusals leave the book unchanged; the others set it waiting.
-unfoldable pub leavesStatus : Answer → Bool
-leavesStatus Shut = true
-leavesStatus NotOurs = true
-leavesStatus NoSnapshot = true
-leavesStatus NoLevel = true
-leavesStatus NoRoom = true
-leavesStatus Taken = false
-leavesStatus TooLong = false
-leavesStatus NotJson = false
-leavesStatus Escaped = false
-leavesStatus BadLayout = false
-leavesStatus TooManyEntries = false
-leavesStatus BadDecimal = false
-leavesStatus PriceTwice = false
-leavesStatus OldNumber = false
-leavesStatus TooManyLevels = false
-leavesStatus WrongChecksum = false
-
 unfoldable pub setWaiting : Reference → Reference
 setWaiting p = record { terms = p .terms; status = waiting; bids = p .bids; asks = p .asks; number = p .number; updates = p .updates; ever = p .ever }
 
 unfoldable pub refusedBy : Reference → Answer → After
 refusedBy p a = record { book = cond (leavesStatus a) p (setWaiting p); answer = a }
-
-unfoldable pub isTaken : Answer → Bool
-isTaken a = eqb (number a) 0
 
 unfoldable pub answered : Reference → Message → Answer → After
 answered p m a = cond (isTaken a) (record { book = taken p m; answer = Taken }) (refusedBy p a)

@@ -15,23 +15,24 @@ use Rattle.settings.specs.declared.Dialect.the-variants.{K, M, Unknown}
 use Rattle.side.specs.Side.{namesTwice}
 use Rattle.entries.specs.Places.{top}
 use Rattle.layout.specs.Layout.{Printed, printed, unprinted, Layout, Heard}
-use Rattle.message.specs.Answers.{number}
+use Rattle.answer.specs.Answers.{number, oneOf, toMessages, isTaken, leavesStatus}
+use Rattle.answer.proofs.Laws.{taken-answer}
 use Rattle.message.specs.Meaning.{Message, Said, refuses, says, said, Checked, fails, passes, heardIn, checked, saidOf}
-use Rattle.message.specs.declared.Answer.{Answer}
-use Rattle.message.specs.declared.Answer.the-variants.{Taken, Shut, TooLong, NotJson, Escaped, NotOurs, BadLayout, TooManyEntries, BadDecimal, PriceTwice, NoSnapshot, OldNumber, TooManyLevels, WrongChecksum, NoLevel, NoRoom}
-use Rattle.book.specs.Reference.{Status, shut, waiting, live, isShut, isLive, Reference, checksumOf, pricesOf, namesPriceTwice, lacksSnapshot, isOld, hasTooMany, differs, hasWrongChecksum, bidsAfter, asksAfter, verdict, taken, leavesStatus, setWaiting, refusedBy, isTaken, answered, hearing, hear}
+use Rattle.answer.specs.declared.Answer.{Answer}
+use Rattle.answer.specs.declared.Answer.the-variants.{Taken, Shut, TooLong, NotJson, Escaped, NotOurs, BadLayout, TooManyEntries, BadDecimal, PriceTwice, NoSnapshot, OldNumber, TooManyLevels, WrongChecksum, NoLevel, NoRoom}
+use Rattle.reference.specs.Reference.{Status, shut, waiting, live, isShut, isLive, Reference, checksumOf, pricesOf, namesPriceTwice, lacksSnapshot, isOld, hasTooMany, differs, hasWrongChecksum, bidsAfter, asksAfter, verdict, taken, setWaiting, refusedBy, answered, hearing, hear}
 use Rattle.settings.specs.Settings.{isM}
-use Rattle.book.proofs.Checks.{Refusals, Read, Either, checked-either}
-use Rattle.book.specs.Claims.{oneOf, unchanging, statusAfter, Ready, is-live, restarts, Agrees, carries-none, the-same, Acceptable, withStatus}
+use Rattle.reference.proofs.Checks.{Refusals, Read, Either, checked-either}
+use Rattle.reference.specs.Claims.{statusAfter, Ready, is-live, restarts, Agrees, carries-none, the-same, Acceptable, withStatus}
 
 -- ---- what a message is refused with: checks 2 to 8
 
 -- a refusal that a message can get
 refusal : Answer → Bool
-refusal a = not (isTaken a) && leb (number a) 13
+refusal a = not (isTaken a) && oneOf toMessages (number a)
 
 said-refusal : (t : Terms) (s : List ℕ) (a : Answer) → said t s ≡ refuses a → refusal a ≡ true
-unfolding said saidOf refusal isTaken number
+unfolding said saidOf refusal isTaken number oneOf
 said-refusal t s a h = go (checked t s) (checked-either F (λ l. Unit {0}) every t s (any (heardIn (t .dialect) t s (top s)))) h
   where
     F : Answer → Type 0
@@ -52,45 +53,17 @@ said-refusal t s a h = go (checked t s) (checked-either F (λ l. Unit {0}) every
     go (fails b) r g = let e : b ≡ a = cc in rw e at r
     go (passes l) r g = let z : _≡_ {A = ℕ} 0 1 = cc in absurd (omega arith)
 
--- ---- an answer is that of a taken message, or another
-
-pub taken-answer : (a : Answer) → isTaken a ≡ true → a ≡ Taken
-unfolding isTaken number
-taken-answer Taken h = refl
-taken-answer Shut h = absurd (false≢true h)
-taken-answer TooLong h = absurd (false≢true h)
-taken-answer NotJson h = absurd (false≢true h)
-taken-answer Escaped h = absurd (false≢true h)
-taken-answer NotOurs h = absurd (false≢true h)
-taken-answer BadLayout h = absurd (false≢true h)
-taken-answer TooManyEntries h = absurd (false≢true h)
-taken-answer BadDecimal h = absurd (false≢true h)
-taken-answer PriceTwice h = absurd (false≢true h)
-taken-answer NoSnapshot h = absurd (false≢true h)
-taken-answer OldNumber h = absurd (false≢true h)
-taken-answer TooManyLevels h = absurd (false≢true h)
-taken-answer WrongChecksum h = absurd (false≢true h)
-taken-answer NoLevel h = absurd (false≢true h)
-taken-answer NoRoom h = absurd (false≢true h)
-
-pub is-taken : (a : Answer) → a ≡ Taken → isTaken a ≡ true
-unfolding isTaken number
-is-taken a h = rw (h, isTaken, number)
-
 refusal-other : (a : Answer) → refusal a ≡ true → isTaken a ≡ false
 unfolding refusal
 refusal-other a h = at (isTaken a) h
   where
-    at : (b : Bool) → (not b && leb (number a) 13) ≡ true → b ≡ false
+    at : (b : Bool) → (not b && oneOf toMessages (number a)) ≡ true → b ≡ false
     at true h = absurd (false≢true h)
     at false h = refl
 
-refusal-number : (a : Answer) → refusal a ≡ true → number a ≤ 13
+refusal-number : (a : Answer) → refusal a ≡ true → oneOf toMessages (number a) ≡ true
 unfolding refusal
-refusal-number a h = leb-true (number a) 13 (rw (refusal-other a h) at h)
-
-pub not-taken : (a : Answer) → isTaken a ≡ false → a ≡ Taken → ⊥
-not-taken a h e = true≢false (sym (is-taken a e) ∙ h)
+refusal-number a h = rw (refusal-other a h) at h
 
 -- ---- the checks 9 to 13, each as a test and as a statement
 
@@ -137,7 +110,7 @@ none-fits false false false false false h = (refl, refl, refl, refl, refl)
 some-fits : (a b c d e : Bool)
     → isTaken (cond a PriceTwice (cond b NoSnapshot (cond c OldNumber (cond d TooManyLevels (cond e WrongChecksum Taken))))) ≡ false
     → refusal (cond a PriceTwice (cond b NoSnapshot (cond c OldNumber (cond d TooManyLevels (cond e WrongChecksum Taken))))) ≡ true
-unfolding refusal isTaken number
+unfolding refusal isTaken number oneOf
 some-fits true b c d e h = refl
 some-fits false true c d e h = refl
 some-fits false false true d e h = refl
@@ -219,33 +192,13 @@ module _ (p : Reference) (m : Message) where
 -- ---- a message is refused or taken
 
 pub data Outcome (p : Reference) (s : List ℕ) : Type 0 where
-  is-refused : isTaken (hear p s .answer) ≡ false → number (hear p s .answer) ≤ 13 → isShut (statusAfter (hear p s .answer) (p .status)) ≡ isShut (p .status)
+  is-refused : isTaken (hear p s .answer) ≡ false → oneOf toMessages (number (hear p s .answer)) ≡ true → isShut (statusAfter (hear p s .answer) (p .status)) ≡ isShut (p .status)
       → hear p s .book ≡ withStatus (statusAfter (hear p s .answer) (p .status)) p → Outcome p s
   is-accepted : (m : Message) → said (p .terms) s ≡ says m → Acceptable p m → hear p s ≡ record { book = taken p m; answer = Taken } → Outcome p s
 
--- the table's last column, by number
-leaves-number : (a : Answer) → leavesStatus a ≡ oneOf unchanging (number a)
-unfolding leavesStatus oneOf number
-leaves-number Taken = refl
-leaves-number Shut = refl
-leaves-number TooLong = refl
-leaves-number NotJson = refl
-leaves-number Escaped = refl
-leaves-number NotOurs = refl
-leaves-number BadLayout = refl
-leaves-number TooManyEntries = refl
-leaves-number BadDecimal = refl
-leaves-number PriceTwice = refl
-leaves-number NoSnapshot = refl
-leaves-number OldNumber = refl
-leaves-number TooManyLevels = refl
-leaves-number WrongChecksum = refl
-leaves-number NoLevel = refl
-leaves-number NoRoom = refl
-
 refused-book : (p : Reference) (a : Answer) → refusedBy p a .book ≡ withStatus (statusAfter a (p .status)) p
 unfolding refusedBy withStatus statusAfter setWaiting
-refused-book p a = rw (leaves-number a) (at (oneOf unchanging (number a)))
+refused-book p a = at (leavesStatus a)
   where
     at : (b : Bool) → cond b p (setWaiting p) ≡ withStatus (cond b (p .status) waiting) p
     at true = refl
@@ -253,7 +206,7 @@ refused-book p a = rw (leaves-number a) (at (oneOf unchanging (number a)))
 
 stays-open : (a : Answer) (status : Status) → isShut status ≡ false → isShut (statusAfter a status) ≡ isShut status
 unfolding statusAfter isShut
-stays-open a status u = at (oneOf unchanging (number a))
+stays-open a status u = at (leavesStatus a)
   where
     at : (b : Bool) → isShut (cond b status waiting) ≡ isShut status
     at true = refl

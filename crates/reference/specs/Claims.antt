@@ -4,20 +4,19 @@ use Prim.Native.Nat.{ℕ, _≤_, _<_}
 use mathlib.Core.Path.{_≡_}
 use mathlib.Core.Bool.{Bool, true, false, _&&_, _||_, cond}
 use mathlib.Core.List.{List, [], _∷_, _++_}
-use lib.Dec.{eqb}
 use lib.ListN.{length}
 use Rattle.settings.specs.Settings.{Terms, kept}
 use Rattle.settings.specs.declared.Dialect.{Dialect}
 use Rattle.settings.specs.declared.Dialect.the-variants.{K, M}
 use Rattle.side.specs.Side.{namesTwice}
 use Rattle.layout.specs.Layout.{Printed, printed, unprinted}
-use Rattle.message.specs.Answers.{number as numberOf}
+use Rattle.answer.specs.Answers.{number as numberOf, oneOf, toMessages, toQuestions, isTaken, leavesStatus}
 use Rattle.message.specs.Meaning.{Message, Said, refuses, says, said}
-use Rattle.message.specs.declared.Answer.{Answer}
-use Rattle.message.specs.declared.Answer.the-variants.{Taken}
-use Rattle.book.specs.Reference.{Status, waiting, live, Reference, isLive, opened, bidsAfter, asksAfter, maxLevels, pricesOf, checksumOf, taken, isTaken, hear, Value, nothing, counts, level, amount, Reply, noLevel, Ask, message, howMany, levelAt, whichNumber, howManyUpdates, write, does, Call, run, final, snapshotText}
-use Rattle.book.specs.declared.Scope.{Scope}
-use Rattle.book.specs.declared.Scope.the-variants.{Current, LastGood}
+use Rattle.answer.specs.declared.Answer.{Answer}
+use Rattle.answer.specs.declared.Answer.the-variants.{Taken}
+use Rattle.reference.specs.Reference.{Status, waiting, live, Reference, isLive, opened, bidsAfter, asksAfter, maxLevels, pricesOf, checksumOf, taken, hear, Value, nothing, counts, level, amount, Reply, noLevel, Ask, message, howMany, levelAt, whichNumber, howManyUpdates, write, does, Call, run, final, snapshotText}
+use Rattle.reference.specs.declared.Scope.{Scope}
+use Rattle.reference.specs.declared.Scope.the-variants.{Current, LastGood}
 
 -- ---- demand 1: every call on every book has an answer of the table, and a refusal touches nothing but the status, as the table's last column says.
 -- Rules out a refusal that loses levels, a half-applied message, a value beside a refusal, and a question that changes something.
@@ -31,16 +30,8 @@ zeros (whichNumber scope) = amount 0
 zeros (howManyUpdates scope) = amount 0
 zeros write = amount 0
 
-unfoldable pub oneOf : List ℕ → ℕ → Bool
-oneOf [] n = false
-oneOf (k ∷ ks) n = eqb n k || oneOf ks n
-
--- The table's last column: the refusals that leave the book unchanged; the others set it waiting.
-abbrev pub unchanging : List ℕ
-unchanging = 1 ∷ 5 ∷ 10 ∷ 14 ∷ 15 ∷ []
-
 unfoldable pub statusAfter : Answer → Status → Status
-statusAfter a status = cond (oneOf unchanging (numberOf a)) status waiting
+statusAfter a status = cond (leavesStatus a) status waiting
 
 unfoldable pub isMessage : Ask → Bool
 isMessage (message s) = true
@@ -71,10 +62,9 @@ pub record Refused (p : Reference) (ask : Ask) (lent : List ℕ) (r : Reply) : T
   pub buffer : r .buffer ≡ lent
 
 pub record Demand1 (p : Reference) (ask : Ask) (buffer : List ℕ) : Type 0 where
-  pub in-table : numberOf (does p ask buffer .answer) ≤ 15
-  -- "Questions and the writer use 1, 10, 14, 15", and a message the checks before 14.
-  pub of-question : isMessage ask ≡ false → oneOf (0 ∷ 1 ∷ 10 ∷ 14 ∷ 15 ∷ []) (numberOf (does p ask buffer .answer)) ≡ true
-  pub of-message : isMessage ask ≡ true → numberOf (does p ask buffer .answer) ≤ 13
+  -- "No number is given otherwise."
+  pub of-message : isMessage ask ≡ true → oneOf toMessages (numberOf (does p ask buffer .answer)) ≡ true
+  pub of-question : isMessage ask ≡ false → oneOf toQuestions (numberOf (does p ask buffer .answer)) ≡ true
   pub refused : (does p ask buffer .answer ≡ Taken → ⊥) → Refused p ask buffer (does p ask buffer)
   -- "Questions and the writer .. change no book", answered or not.
   pub question : isMessage ask ≡ false → does p ask buffer .after ≡ p
@@ -219,7 +209,7 @@ pub record No-price : Type 0 where
       → hear p s .answer ≡ Taken → ⊥
   pub not-live : (p : Reference) (cs : List Call) → isLive (p .status) ≡ false → anySnapshot (takenOf p cs) ≡ false → prices p cs ≡ []
   pub at-first : (t : Terms) (cs : List Call) → anySnapshot (takenOf (opened t) cs) ≡ false → prices (opened t) cs ≡ []
-  pub after-refusal : (p : Reference) (s : List ℕ) (cs : List Call) → (hear p s .answer ≡ Taken → ⊥) → oneOf unchanging (numberOf (hear p s .answer)) ≡ false
+  pub after-refusal : (p : Reference) (s : List ℕ) (cs : List Call) → (hear p s .answer ≡ Taken → ⊥) → leavesStatus (hear p s .answer) ≡ false
       → anySnapshot (takenOf (hear p s .book) cs) ≡ false → prices (hear p s .book) cs ≡ []
 
 -- ---- the round trip: what the writer writes of a live book is taken by a new book with the same settings, which then shows the same levels and number,

@@ -6,13 +6,13 @@ use mathlib.Core.Bool.{Bool, true, false, true≢false, _&&_, cond}
 use Prim.Native.Nat.{ℕ}
 use lib.Dec.{ltb}
 use lib.ListN.{length}
-use Rattle.message.specs.Answers.{number}
-use Rattle.message.specs.declared.Answer.{Answer}
-use Rattle.message.specs.declared.Answer.the-variants.{Taken, Shut, NoSnapshot, NoLevel, NoRoom}
-use Rattle.book.specs.Reference.{isShut, isLive, Reference, isTaken, stands, asked, ifTaken, noLevel, sideOf, Place, standing, absent, placeAt, placeAnswer, placeLevel, askedLevel, snapshotText, askedWriting, Ask, message, howMany, levelAt, whichNumber, howManyUpdates, write, does}
-use Rattle.book.specs.Claims.{isMessage, isCurrent, asksPrice}
-use Rattle.book.specs.declared.Scope.{Scope}
-use Rattle.book.specs.declared.Scope.the-variants.{Current, LastGood}
+use Rattle.answer.specs.Answers.{number, isTaken}
+use Rattle.answer.specs.declared.Answer.{Answer}
+use Rattle.answer.specs.declared.Answer.the-variants.{Taken, Shut, NoSnapshot, NoLevel, NoRoom}
+use Rattle.reference.specs.Reference.{isShut, isLive, Reference, stands, asked, ifTaken, noLevel, sideOf, Place, standing, absent, placeAt, placeAnswer, placeLevel, askedLevel, snapshotText, askedWriting, Ask, message, howMany, levelAt, whichNumber, howManyUpdates, write, does}
+use Rattle.reference.specs.Claims.{isMessage, isCurrent, asksPrice}
+use Rattle.reference.specs.declared.Scope.{Scope}
+use Rattle.reference.specs.declared.Scope.the-variants.{Current, LastGood}
 
 -- ---- a question answers 0, 1, 10, 14 or 15
 

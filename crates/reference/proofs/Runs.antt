@@ -4,16 +4,17 @@ use mathlib.Core.Path.{_≡_, refl, sym, ap, _∙_}
 use mathlib.Core.List.{List, [], _∷_, _++_}
 use mathlib.Core.Bool.{Bool, true, false, true≢false, false≢true, _||_, cond, or-true, or-assoc, or-comm}
 use Prim.Native.Nat.{ℕ}
+use Rattle.answer.proofs.Laws.{is-taken}
 use Rattle.settings.specs.Settings.{Terms, kept, good}
 use Rattle.settings.specs.declared.Dialect.the-variants.{K}
-use Rattle.message.specs.Answers.{number}
+use Rattle.answer.specs.Answers.{number, isTaken, leavesStatus}
 use Rattle.message.specs.Meaning.{Message, Said, refuses, says, said}
-use Rattle.message.specs.declared.Answer.{Answer}
-use Rattle.message.specs.declared.Answer.the-variants.{Taken}
-use Rattle.book.specs.Reference.{Status, shut, waiting, live, isShut, isLive, Reference, opened, bidsAfter, asksAfter, taken, isTaken, After, hear, Reply, Ask, message, howMany, levelAt, whichNumber, howManyUpdates, write, does, Call, run, final}
-use Rattle.book.specs.Claims.{oneOf, unchanging, statusAfter, Ready, is-live, restarts, Acceptable, withStatus, ifAnswered, takenIn, takenOf, anySnapshot, sinceSnapshot, Begins, begins, rebuilt}
-use Rattle.book.proofs.Carried.{said-carries}
-use Rattle.book.proofs.Outcome.{Outcome, is-refused, is-accepted, outcome, ready-open, is-taken}
+use Rattle.answer.specs.declared.Answer.{Answer}
+use Rattle.answer.specs.declared.Answer.the-variants.{Taken}
+use Rattle.reference.specs.Reference.{Status, shut, waiting, live, isShut, isLive, Reference, opened, bidsAfter, asksAfter, taken, After, hear, Reply, Ask, message, howMany, levelAt, whichNumber, howManyUpdates, write, does, Call, run, final}
+use Rattle.reference.specs.Claims.{statusAfter, Ready, is-live, restarts, Acceptable, withStatus, ifAnswered, takenIn, takenOf, anySnapshot, sinceSnapshot, Begins, begins, rebuilt}
+use Rattle.reference.proofs.Carried.{said-carries}
+use Rattle.reference.proofs.Outcome.{Outcome, is-refused, is-accepted, outcome, ready-open}
 
 -- ---- a step: the book is as it was but for its status, or a message was taken
 
@@ -38,7 +39,7 @@ steps p (message s) buffer = go (outcome p s)
   where
     go : Outcome p s → Steps p (message s) (hear p s .book)
     go (is-refused h n k e) =
-        stays (statusAfter (hear p s .answer) (p .status)) k (refused-live (oneOf unchanging (number (hear p s .answer))) (p .status)) (none-taken (hear p s .answer) (said (p .terms) s) h) e
+        stays (statusAfter (hear p s .answer) (p .status)) k (refused-live (leavesStatus (hear p s .answer)) (p .status)) (none-taken (hear p s .answer) (said (p .terms) s) h) e
     go (is-accepted m q a e) = moves s m q a (rw (e, q, is-taken Taken refl)) (ap (λ (x : After). x .book) e)
 steps p (howMany scope) buffer = stays (p .status) refl (λ h. h) refl refl
 steps p (levelAt scope side i) buffer = stays (p .status) refl (λ h. h) refl refl

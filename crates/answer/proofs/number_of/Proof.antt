@@ -1,8 +1,8 @@
 -- `number_of` meets its contract: answer by answer.
-use Rattle.message.specs.Answers.{number}
+use Rattle.answer.specs.Answers.{number}
 use borrow.Author.Needs.{needs}
-use Rattle.message.proofs.number_of.Statement.{statement}
-use Rattle.message.proofs.number_of.Tie as tie
+use Rattle.answer.proofs.number_of.Statement.{statement}
+use Rattle.answer.proofs.number_of.Tie as tie
 
 enum-told : tie.Need-enum-told
 enum-told c = search needs

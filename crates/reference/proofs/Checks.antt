@@ -11,8 +11,8 @@ use Rattle.settings.specs.Settings.{Terms}
 use Rattle.entries.specs.Places.{top}
 use Rattle.layout.specs.Layout.{Layout, Heard}
 use Rattle.message.specs.Meaning.{Checked, fails, passes, tooMany, counted, laidOut, addressed, heardIn, framed, bad, decimals, alsoDecimals, checked, maxMessage}
-use Rattle.message.specs.declared.Answer.{Answer}
-use Rattle.message.specs.declared.Answer.the-variants.{TooLong, NotJson, Escaped, NotOurs, BadLayout, TooManyEntries, BadDecimal}
+use Rattle.answer.specs.declared.Answer.{Answer}
+use Rattle.answer.specs.declared.Answer.the-variants.{TooLong, NotJson, Escaped, NotOurs, BadLayout, TooManyEntries, BadDecimal}
 
 pub record Refusals (F : Answer → Type 0) : Type 0 where
   pub long : F TooLong

@@ -18,8 +18,8 @@ use Rattle.message_k.specs.LayoutK as k·
 use Rattle.message_m.specs.LayoutM.{isSnapshotAt, layoutM, heardM}
 use Rattle.message_m.specs.LayoutM as m·
 use Rattle.message.specs.Meaning.{Message, says, said, Checked, fails, passes, heardIn, checked, saidOf, messageOf}
-use Rattle.book.specs.Claims.{Carries}
-use Rattle.book.proofs.Checks.{Refusals, Read, Either, checked-either}
+use Rattle.reference.specs.Claims.{Carries}
+use Rattle.reference.proofs.Checks.{Refusals, Read, Either, checked-either}
 
 -- ---- reading
 

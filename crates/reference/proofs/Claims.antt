@@ -6,62 +6,43 @@ use mathlib.Core.Bool.{Bool, true, false, true≢false, false≢true, cond, or-f
 use Prim.Native.Nat.{ℕ, _≤_}
 use native.Mathlib.Omega.{arith}
 use Rattle.settings.specs.Settings.{Terms, kept, good}
-use Rattle.message.specs.Answers.{number}
+use Rattle.answer.specs.Answers.{number, oneOf, toMessages, toQuestions, isTaken, leavesStatus}
+use Rattle.answer.proofs.Laws.{not-taken, other-answer, taken-answer}
 use Rattle.message.specs.Meaning.{Message, says, said}
-use Rattle.message.specs.declared.Answer.{Answer}
-use Rattle.message.specs.declared.Answer.the-variants.{Taken}
-use Rattle.book.specs.Reference.{Status, shut, waiting, live, isShut, isLive, Reference, opened, taken, isTaken, After, hear, asked, sideOf, placeAt, askedLevel, levelAsked, askedWriting, level, amount, Reply, Ask, message, howMany, levelAt, whichNumber, howManyUpdates, write, does, Call, run, final}
-use Rattle.book.specs.Calls.{Demand-3}
-use Rattle.book.proofs.Back.{reached-back}
-use Rattle.book.proofs.Contracts.{ran-opened}
-use Rattle.book.specs.Claims.{Round-trip, zeros, statusAfter, isMessage, isWrite, oneOf, unchanging, Refused, Demand-1, Ready, is-live, restarts, Acceptable, Demand-2, All-compared, call, From-snapshot, takenIn, takenOf, anySnapshot, sinceSnapshot, rebuilt, withStatus, Latest-snapshot, K-number, prices, No-price}
-use Rattle.book.proofs.Carried.{said-carries}
-use Rattle.book.proofs.Outcome.{Outcome, is-refused, is-accepted, outcome, acceptable-taken, ready-open, taken-answer, not-taken, or-none}
-use Rattle.book.proofs.Questions.{question-one, if-refused, no-level, no-answer}
-use Rattle.book.proofs.Runs.{Steps, stays, moves, steps, Reached, opened-waits, reached, run-append, taken-fresh, acceptable-fresh, final-rebuilt, rebuilt-ever, since-begins, since-rebuilt, begins-live}
+use Rattle.answer.specs.declared.Answer.{Answer}
+use Rattle.answer.specs.declared.Answer.the-variants.{Taken}
+use Rattle.reference.specs.Reference.{Status, shut, waiting, live, isShut, isLive, Reference, opened, taken, After, hear, asked, sideOf, placeAt, askedLevel, levelAsked, askedWriting, level, amount, Reply, Ask, message, howMany, levelAt, whichNumber, howManyUpdates, write, does, Call, run, final}
+use Rattle.reference.proofs.Back.{reached-back}
+use Rattle.reference.specs.Claims.{Round-trip, zeros, statusAfter, isMessage, isWrite, Refused, Demand-1, Ready, is-live, restarts, Acceptable, Demand-2, All-compared, call, From-snapshot, takenIn, takenOf, anySnapshot, sinceSnapshot, rebuilt, withStatus, Latest-snapshot, K-number, prices, No-price}
+use Rattle.reference.proofs.Carried.{said-carries}
+use Rattle.reference.proofs.Outcome.{Outcome, is-refused, is-accepted, outcome, acceptable-taken, ready-open, or-none}
+use Rattle.reference.proofs.Questions.{question-one, if-refused, no-level, no-answer}
+use Rattle.reference.proofs.Runs.{Steps, stays, moves, steps, Reached, opened-waits, reached, run-append, taken-fresh, acceptable-fresh, final-rebuilt, rebuilt-ever, since-begins, since-rebuilt, begins-live}
 
 -- ---- demand 1
 
-other-answer : (a : Answer) → (a ≡ Taken → ⊥) → isTaken a ≡ false
-other-answer a h = at (isTaken a) refl
-  where
-    at : (b : Bool) → isTaken a ≡ b → b ≡ false
-    at true e = absurd (h (taken-answer a e))
-    at false e = refl
-
 module _ (p : Reference) (ask : Ask) (buffer : List ℕ) (h : isMessage ask ≡ false) where
-  question-number : number (does p ask buffer .answer) ≤ 15
-  unfolding number
-  question-number = question-one (λ a. number a ≤ 15) (omega arith) (omega arith) (omega arith) (omega arith) (omega arith) p ask buffer h
-
-  of-question : oneOf (0 ∷ 1 ∷ 10 ∷ 14 ∷ 15 ∷ []) (number (does p ask buffer .answer)) ≡ true
+  of-question : oneOf toQuestions (number (does p ask buffer .answer)) ≡ true
   unfolding number oneOf
-  of-question = question-one (λ a. oneOf (0 ∷ 1 ∷ 10 ∷ 14 ∷ 15 ∷ []) (number a) ≡ true) refl refl refl refl refl p ask buffer h
+  of-question = question-one (λ a. oneOf toQuestions (number a) ≡ true) refl refl refl refl refl p ask buffer h
 
   -- a refused question leaves the status
-  leaves : isTaken (does p ask buffer .answer) ≡ false → oneOf unchanging (number (does p ask buffer .answer)) ≡ true
-  unfolding oneOf isTaken number
-  leaves = question-one (λ a. isTaken a ≡ false → oneOf unchanging (number a) ≡ true) (λ k. absurd (true≢false k)) (λ k. refl) (λ k. refl) (λ k. refl) (λ k. refl) p ask buffer h
+  leaves : isTaken (does p ask buffer .answer) ≡ false → leavesStatus (does p ask buffer .answer) ≡ true
+  unfolding oneOf isTaken leavesStatus number
+  leaves = question-one (λ a. isTaken a ≡ false → leavesStatus a ≡ true) (λ k. absurd (true≢false k)) (λ k. refl) (λ k. refl) (λ k. refl) (λ k. refl) p ask buffer h
 
-of-message : (p : Reference) (ask : Ask) (buffer : List ℕ) → isMessage ask ≡ true → number (does p ask buffer .answer) ≤ 13
-unfolding does isMessage number
+of-message : (p : Reference) (ask : Ask) (buffer : List ℕ) → isMessage ask ≡ true → oneOf toMessages (number (does p ask buffer .answer)) ≡ true
+unfolding does isMessage number oneOf
 of-message p (message s) buffer h = go (outcome p s)
   where
-    go : Outcome p s → number (hear p s .answer) ≤ 13
+    go : Outcome p s → oneOf toMessages (number (hear p s .answer)) ≡ true
     go (is-refused n l k e) = l
-    go (is-accepted m q a e) = rw (e, number) (omega arith)
+    go (is-accepted m q a e) = rw (e, number, oneOf)
 of-message p (howMany scope) buffer h = absurd (false≢true h)
 of-message p (levelAt scope side i) buffer h = absurd (false≢true h)
 of-message p (whichNumber scope) buffer h = absurd (false≢true h)
 of-message p (howManyUpdates scope) buffer h = absurd (false≢true h)
 of-message p write buffer h = absurd (false≢true h)
-
-in-table : (p : Reference) (ask : Ask) (buffer : List ℕ) → number (does p ask buffer .answer) ≤ 15
-in-table p ask buffer = at (isMessage ask) refl
-  where
-    at : (b : Bool) → isMessage ask ≡ b → number (does p ask buffer .answer) ≤ 15
-    at true h = let l = of-message p ask buffer h in omega arith
-    at false h = question-number p ask buffer h
 
 question : (p : Reference) (ask : Ask) (buffer : List ℕ) → isMessage ask ≡ false → does p ask buffer .after ≡ p
 unfolding does isMessage
@@ -110,7 +91,6 @@ others-buffer p write buffer h = absurd (true≢false h)
 pub demand-1 : Demand-1
 demand-1 p ask buffer =
     record {
-      in-table = in-table p ask buffer;
       of-question = of-question p ask buffer;
       of-message = of-message p ask buffer;
       refused = λ h. refused p ask buffer (other-answer (does p ask buffer .answer) h);
@@ -250,7 +230,7 @@ not-live p (c ∷ cs) h n =
     let w = still-waits p q (c .ask) (takenOf q cs) h n (steps p (c .ask) (c .buffer)) in
     rw (no-answer p (c .ask) (c .buffer) h) (not-live q cs (w .0) (w .1))
 
-refusal-waits : (p : Reference) (s : List ℕ) → (hear p s .answer ≡ Taken → ⊥) → oneOf unchanging (number (hear p s .answer)) ≡ false → isLive (hear p s .book .status) ≡ false
+refusal-waits : (p : Reference) (s : List ℕ) → (hear p s .answer ≡ Taken → ⊥) → leavesStatus (hear p s .answer) ≡ false → isLive (hear p s .book .status) ≡ false
 unfolding withStatus statusAfter isLive
 refusal-waits p s h w = go (outcome p s)
   where
@@ -267,10 +247,7 @@ no-price =
       after-refusal = λ p s cs h l n. not-live (hear p s .book) cs (refusal-waits p s h l) n;
     }
 
--- ---- demand 2's round trip, and demand 3 of the code
+-- ---- the round trip
 
 pub round-trip : Round-trip
 round-trip = reached-back
-
-pub demand-3 : Demand-3
-demand-3 = ran-opened

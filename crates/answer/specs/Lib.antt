@@ -1,0 +1,2 @@
+-- In reading order: the table of answers.
+pub mod Answers

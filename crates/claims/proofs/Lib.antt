@@ -1,0 +1,2 @@
+-- The claim of the code.
+pub mod Claims

@@ -1,0 +1,8 @@
+-- In reading order: the chain of checks; what a message makes of a book; questions; what messages carry; lists of calls; the round trip; the claims.
+pub mod Checks
+pub mod Outcome
+pub mod Questions
+pub mod Carried
+pub mod Runs
+pub mod Back
+pub mod Claims

@@ -1,0 +1,28 @@
+-- Good settings have a depth of at most 100, and of 100 in M. Assumes nothing.
+use mathlib.Core.Path.{_≡_, refl, sym}
+use mathlib.Core.Bool.{Bool, true, false, true≢false, _&&_}
+use Prim.Native.Nat.{ℕ, _≤_}
+use native.Mathlib.Omega.{arith}
+use borrow.Author.Tests.{leb-true, eqb-true}
+use lib.Dec.{leb}
+use Rattle.settings.specs.Settings.{Terms, isM, good, goodDepth, goodName}
+use Rattle.settings.specs.declared.Dialect.{Dialect}
+use Rattle.settings.specs.declared.Dialect.the-variants.{K, M, Unknown}
+
+and-first : (a b : Bool) → (a && b) ≡ true → a ≡ true
+and-first true b h = refl
+and-first false b h = h
+
+and-second : (a b : Bool) → (a && b) ≡ true → b ≡ true
+and-second true b h = h
+and-second false b h = absurd (true≢false (sym h))
+
+depth-goes : (d : Dialect) (depth : ℕ) → goodDepth d depth ≡ true → (depth ≤ 100) × (isM d ≡ true → depth ≡ 100)
+unfolding goodDepth isM
+depth-goes K depth h = (leb-true depth 100 (and-second (leb 10 depth) (leb depth 100) h), λ e. absurd (true≢false (sym e)))
+depth-goes M depth h = let e : depth ≡ 100 = eqb-true depth 100 h in (omega arith, λ q. e)
+depth-goes Unknown depth h = absurd (true≢false (sym h))
+
+pub good-depth : (t : Terms) → good t ≡ true → (t .depth ≤ 100) × (isM (t .dialect) ≡ true → t .depth ≡ 100)
+unfolding good
+good-depth t h = depth-goes (t .dialect) (t .depth) (and-first (goodDepth (t .dialect) (t .depth)) (goodName (t .name)) h)

@@ -7,23 +7,24 @@ use Prim.Native.Nat.{ℕ, zero, suc}
 use native.Mathlib.Omega.{arith}
 use lib.Dec.{lit<}
 use lib.ListN.{length, length-map}
-use Rattle.side.proofs.Held.{held-length}
+use Rattle.level.proofs.Held.{held-length}
 use Rattle.decimal.specs.Decimal.{Number, number}
 use Rattle.decimal.specs.declared.Decimal.{Decimal}
 use Rattle.settings.specs.Settings.{Terms, good, goodDepth, goodName, kept, shut, termsOf, Chosen}
 use Rattle.settings.specs.declared.Settings.{Settings}
 use Rattle.settings.specs.declared.Dialect.{Dialect}
 use Rattle.settings.specs.declared.Dialect.the-variants.{K, M, Unknown}
-use Rattle.side.specs.Level.{PriceLevel, levelPrice, levelSize, shown}
-use Rattle.side.specs.Kept as kept·
-use Rattle.side.specs.Kept.{held, Empty}
-use Rattle.side.specs.Side.{All}
-use Rattle.side.specs.declared.Side.{Side}
-use Rattle.side.specs.declared.Side.the-variants.{Bids, Asks}
-use Rattle.side.specs.declared.Level.{Level}
-use Rattle.side.specs.declared.Levels.{Levels}
-use Rattle.side.specs.declared.Found.{Found}
-use Rattle.side.specs.declared.Found.the-variants.{At, Nothing}
+use Rattle.level.specs.Level.{PriceLevel}
+use Rattle.level.specs.Words.{levelPrice, levelSize, shown}
+use Rattle.level.specs.Kept as kept·
+use Rattle.level.specs.Kept.{held, Empty}
+use Rattle.level.specs.Ranked.{All}
+use Rattle.level.specs.declared.Side.{Side}
+use Rattle.level.specs.declared.Side.the-variants.{Bids, Asks}
+use Rattle.level.specs.declared.Level.{Level}
+use Rattle.level.specs.declared.Levels.{Levels}
+use Rattle.level.specs.declared.Found.{Found}
+use Rattle.level.specs.declared.Found.the-variants.{At, Nothing}
 use Rattle.sides.specs.Worked.{Sound}
 use Rattle.answer.specs.Answers.{number as numberOf, isTaken}
 use Rattle.answer.specs.declared.Answer.{Answer}

@@ -27,8 +27,9 @@ use Rattle.answer.specs.declared.Answer.{Answer}
 use Rattle.answer.specs.declared.Answer.the-variants.{TooLong, NotJson, Escaped, NotOurs, BadLayout, TooManyEntries, BadDecimal}
 use Rattle.message.proofs.Entering.{Readable, entry-same, entry-even}
 use Rattle.message.proofs.Where.{entryIn, Lies, nowhere, there, LieIn, framed-lies}
-use Rattle.side.specs.Level.{PriceLevel, shownPrice}
-use Rattle.side.specs.Side.{Edit, sets, removes, All, IsSet, named}
+use Rattle.level.specs.Level.{PriceLevel, shownPrice}
+use Rattle.level.specs.Side.{Edit, sets, removes}
+use Rattle.level.specs.Ranked.{All, IsSet, named}
 use Rattle.loader.specs.Loaded.{Loadable, rowsAt, editFor, editAt}
 use Rattle.loader.specs.Reading.{entryFor, Ready}
 use Rattle.loader.proofs.Shift.{shifted-rows, shifted-loadable, edits-shift}

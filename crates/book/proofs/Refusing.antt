@@ -25,9 +25,9 @@ use Rattle.book.specs.Shown.{statusOf, shows, Good, Told}
 use Rattle.book.specs.Taking.{refusedStanding, refusedStep, judgedUpdate, weighed}
 use Rattle.book.specs.declared.State.{State}
 use Rattle.book.specs.declared.State.the-variants.{Waiting}
-use Rattle.side.specs.Level.{shown}
-use Rattle.side.specs.Kept.{held}
-use Rattle.side.specs.declared.Levels.{Levels}
+use Rattle.level.specs.Words.{shown}
+use Rattle.level.specs.Kept.{held}
+use Rattle.level.specs.declared.Levels.{Levels}
 use borrow.Author.Tests.{eq-eqb, ne-eqb}
 use Rattle.book.specs.declared.Book.{Book}
 use Rattle.book.specs.declared.Standing.{Standing}

@@ -20,17 +20,19 @@ use Rattle.entries.specs.Places.{inner}
 use Rattle.entries.specs.Rows.{Row, numberAt, badPrice, badSize, badTexts}
 use Rattle.entries.specs.Summary.{zeroSize, anyBroken, anyZero}
 use Rattle.entries.proofs.Claims.{zero-none}
-use Rattle.side.specs.Level.{PriceLevel, shown, shownPrice}
-use Rattle.side.specs.Side.{Edit, sets, removes, All, IsSet, named, namesTwice, Sorted, applyAll, ranked, afterMessage, met}
-use Rattle.side.specs.Kept.{keptIn, held}
-use Rattle.side.specs.Kept as kept·
+use Rattle.level.specs.Level.{PriceLevel, shownPrice}
+use Rattle.level.specs.Words.{shown}
+use Rattle.level.specs.Side.{Edit, sets, removes, namesTwice, applyAll, ranked}
+use Rattle.level.specs.Ranked.{All, IsSet, named, Sorted, afterMessage, met}
+use Rattle.level.specs.Kept.{keptIn, held}
+use Rattle.level.specs.Kept as kept·
 use Rattle.piece.specs.Piece.{kPiece, mPiece}
 use Rattle.checksum.specs.Carried.{Carries}
-use Rattle.side.specs.declared.Side.{Side}
-use Rattle.side.specs.declared.Side.the-variants.{Bids, Asks}
-use Rattle.side.specs.declared.Levels.{Levels}
-use Rattle.side.proofs.Lengths.{length-ranked, length-applyAll, afterMessage-whole}
-use Rattle.side.proofs.Meeting.{met-snapshot}
+use Rattle.level.specs.declared.Side.{Side}
+use Rattle.level.specs.declared.Side.the-variants.{Bids, Asks}
+use Rattle.level.specs.declared.Levels.{Levels}
+use Rattle.level.proofs.Lengths.{length-ranked, length-applyAll, afterMessage-whole}
+use Rattle.level.proofs.Meeting.{met-snapshot}
 use Rattle.sides.specs.Worked.{SideAfter, Sound, editsAt, Worked}
 use Rattle.loader.specs.Reading.{Ready}
 use Rattle.layout.specs.Layout.{Layout}

@@ -14,8 +14,8 @@ use Rattle.decimal.specs.declared.Written.the-variants.{To, Full}
 use Rattle.settings.specs.Settings.{termsOf}
 use Rattle.settings.specs.declared.Dialect.{Dialect}
 use Rattle.settings.specs.declared.Dialect.the-variants.{K, M, Unknown}
-use Rattle.side.specs.Level.{shown}
-use Rattle.side.specs.Kept.{held}
+use Rattle.level.specs.Words.{shown}
+use Rattle.level.specs.Kept.{held}
 use Rattle.checksum.specs.Text.{mChecksum}
 use Rattle.answer.specs.Answers.{number as numberOf, isTaken}
 use Rattle.answer.specs.declared.Answer.{Answer}

@@ -3,11 +3,11 @@ use Prim.Native.Nat.{ℕ}
 use mathlib.Core.Bool.{Bool, true, false}
 use Rattle.settings.specs.declared.Dialect.{Dialect}
 use Rattle.settings.specs.declared.Dialect.the-variants.{K, M, Unknown}
-use Rattle.side.specs.Kept.{held}
-use Rattle.side.specs.Kept as kept·
-use Rattle.side.specs.declared.Side.{Side}
-use Rattle.side.specs.declared.Side.the-variants.{Bids, Asks}
-use Rattle.side.specs.declared.Found.{Found}
+use Rattle.level.specs.Kept.{held}
+use Rattle.level.specs.Kept as kept·
+use Rattle.level.specs.declared.Side.{Side}
+use Rattle.level.specs.declared.Side.the-variants.{Bids, Asks}
+use Rattle.level.specs.declared.Found.{Found}
 use Rattle.answer.specs.declared.Answer.{Answer}
 use Rattle.answer.specs.declared.Answer.the-variants.{Taken, NoSnapshot}
 use Rattle.answer.specs.declared.Answer.the-variants as answer·

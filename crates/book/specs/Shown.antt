@@ -7,10 +7,10 @@ use lib.ListN.{length}
 use Rattle.decimal.specs.Decimal.{number}
 use Rattle.decimal.specs.declared.Decimal.{Decimal}
 use Rattle.settings.specs.Settings.{Terms, good, termsOf}
-use Rattle.side.specs.Level.{shown}
-use Rattle.side.specs.Kept.{keptIn, held}
-use Rattle.side.specs.declared.Side.{Side}
-use Rattle.side.specs.declared.Side.the-variants.{Bids, Asks}
+use Rattle.level.specs.Words.{shown}
+use Rattle.level.specs.Kept.{keptIn, held}
+use Rattle.level.specs.declared.Side.{Side}
+use Rattle.level.specs.declared.Side.the-variants.{Bids, Asks}
 use Rattle.sides.specs.Worked.{Sound}
 use Rattle.reference.specs.Reference.{Status, shut, waiting, live, isShut, Reference, opened, After, hear, Reply, Ask, message, howMany, levelAt, whichNumber, howManyUpdates, write, counts, level, amount, does}
 use Rattle.settings.specs.Settings.{isM}

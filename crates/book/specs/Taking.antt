@@ -9,11 +9,11 @@ use Rattle.answer.specs.Answers.{isTaken, leavesStatus}
 use Rattle.decimal.specs.Digits.{reads}
 use Rattle.settings.specs.Settings.{isM, termsOf, good}
 use Rattle.settings.specs.declared.Dialect.{Dialect}
-use Rattle.side.specs.Level.{shown}
-use Rattle.side.specs.Kept.{keptIn, held}
-use Rattle.side.specs.declared.Side.the-variants.{Bids, Asks}
+use Rattle.level.specs.Words.{shown}
+use Rattle.level.specs.Kept.{keptIn, held}
+use Rattle.level.specs.declared.Side.the-variants.{Bids, Asks}
 use Rattle.sides.specs.Worked.{SideAfter, editsAt, Worked}
-use Rattle.side.specs.declared.Levels.{Levels}
+use Rattle.level.specs.declared.Levels.{Levels}
 use Rattle.layout.specs.Layout.{Layout}
 use Rattle.layout.specs.Told.{outlineOf}
 use Rattle.layout.specs.declared.Outline.{Outline}

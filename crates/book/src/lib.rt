@@ -16,13 +16,13 @@ mod writing;
 use answer::Answer;
 use decimal::Decimal;
 use decimal::Written;
+use level::Found;
+use level::Levels;
+use level::MAX_WORDS;
+use level::Side;
 use reference::Scope;
 use settings::Dialect;
 use settings::Settings;
-use side::Found;
-use side::Levels;
-use side::MAX_WORDS;
-use side::Side;
 ghost use mathlib.Core.Path.{_≡_};
 ghost use Rattle.crc32.specs.Table.{ShiftTable};
 ghost use Rattle.reference.specs.Reference.{hear, whichNumber, howManyUpdates};
@@ -114,7 +114,7 @@ pub fn open(dialect: Dialect, depth: usize, name: &[u8]) -> Book
 {
     let settings = settings::choose(dialect, depth, name);
     let dialect = settings.dialect;
-    let none = side::empty();
+    let none = level::empty();
     Book {
         bids: none,
         asks: none,
@@ -256,8 +256,8 @@ impl Book {
                 Found::At(level) => Levelled {
                     book: self,
                     answer: Answer::Taken,
-                    price: side::price_of(level),
-                    size: side::size_of(level),
+                    price: level::price_of(level),
+                    size: level::size_of(level),
                 },
                 Found::Nothing => no_level(self, Answer::NoLevel),
             };
@@ -355,8 +355,8 @@ fn level_in(book: Book, side: Side, i: usize) -> Found
     let bids = book.bids;
     let asks = book.asks;
     match side {
-        Side::Bids => side::level_at(bids, i),
-        Side::Asks => side::level_at(asks, i),
+        Side::Bids => level::level_at(bids, i),
+        Side::Asks => level::level_at(asks, i),
     }
 }
 

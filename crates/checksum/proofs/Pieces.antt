@@ -16,12 +16,13 @@ use Rattle.crc32_spec.specs.Laws.{xor-assoc, bits-xor, bits-add}
 use Rattle.crc32_spec.specs.Text.{run-append, run-from}
 use Rattle.piece.specs.Piece.{kPiece, mPiece, SumsTo}
 use Rattle.piece.specs.declared.Piece.{Piece}
-use Rattle.side.specs.Level.{PriceLevel, levelPrice, levelSize, shown}
-use Rattle.side.specs.Side.{All}
-use Rattle.side.specs.Words.{levelsIn, noLevel}
-use Rattle.side.specs.Kept.{maxLevels, maxWords}
-use Rattle.side.proofs.Stored.{length-levels}
-use Rattle.side.specs.declared.Level.{Level}
+use Rattle.level.specs.Level.{PriceLevel}
+use Rattle.level.specs.Words.{levelPrice, levelSize, shown}
+use Rattle.level.specs.Ranked.{All}
+use Rattle.level.specs.Words.{levelsIn, noLevel}
+use Rattle.level.specs.Kept.{maxLevels, maxWords}
+use Rattle.level.proofs.Stored.{length-levels}
+use Rattle.level.specs.declared.Level.{Level}
 use Rattle.checksum.specs.Text.{joined, kLevel, kText, kLevels, kChecksum, mLevel, interleaved, colonJoined, mText, mLevels, mChecksum, colon}
 use Rattle.checksum.specs.Carried.{Carries, Made, MadeOf, summed}
 

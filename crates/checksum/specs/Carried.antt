@@ -8,8 +8,9 @@ use Rattle.decimal.specs.Decimal.{Number, number}
 use Rattle.decimal.specs.declared.Decimal.{Decimal}
 use Rattle.crc32_spec.specs.Crc.{bits, run}
 use Rattle.piece.specs.declared.Piece.{Piece}
-use Rattle.side.specs.Level.{PriceLevel, levelPrice, levelSize, shown}
-use Rattle.side.specs.declared.Level.{Level}
+use Rattle.level.specs.Level.{PriceLevel}
+use Rattle.level.specs.Words.{levelPrice, levelSize, shown}
+use Rattle.level.specs.declared.Level.{Level}
 
 -- The piece is K's (`kPiece`) or M's (`mPiece`).
 pub record Carries (piece : Number → Number → List ℕ) (level : Level) : Type 0 where

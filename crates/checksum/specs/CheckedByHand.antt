@@ -8,8 +8,8 @@ use Rattle.decimal.specs.Digits.{Reading, reads, refused, isDigit, leading, val
 use Rattle.decimal.specs.Decimal.{Number, isWhole, fractional, pointed, prefix, read, text, afterPoint, withoutPoint, withoutZeros, stripped, value, orderOf, order}
 use Rattle.decimal.specs.declared.Order.the-variants.{Equal}
 use Rattle.crc32_spec.specs.Crc.{bit, bits, step, run, crc}
-use Rattle.side.specs.Level.{PriceLevel}
-use Rattle.side.specs.Side.{All}
+use Rattle.level.specs.Level.{PriceLevel}
+use Rattle.level.specs.Ranked.{All}
 use Rattle.checksum.specs.Text.{joined, kLevel, kText, interleaved, colonJoined, mLevel, mText}
 
 -- A decimal and a level from their texts.

@@ -5,7 +5,7 @@ use mathlib.Core.List.{List, [], _∷_, _++_, map}
 use lib.ListN.{take, drop}
 use Rattle.decimal.specs.Decimal.{text, stripped}
 use Rattle.crc32_spec.specs.Crc.{crc}
-use Rattle.side.specs.Level.{PriceLevel}
+use Rattle.level.specs.Level.{PriceLevel}
 
 unfoldable pub joined : List (List ℕ) → List ℕ
 joined [] = []

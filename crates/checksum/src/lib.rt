@@ -14,17 +14,17 @@ ghost use lib.ListN.{length, take, drop};
 ghost use Rattle.decimal.specs.Decimal.{number, Within};
 ghost use Rattle.crc32.specs.Table.{ShiftTable};
 ghost use Rattle.piece.specs.Piece.{kPiece, mPiece};
-ghost use Rattle.side.specs.declared.Side.the-variants.{Bids, Asks};
-ghost use Rattle.side.specs.Level.{shown};
-ghost use Rattle.side.specs.Side.{All};
-ghost use Rattle.side.specs.Words.{levelsIn};
-ghost use Rattle.side.specs.Kept.{keptIn, maxLevels, maxWords, held, Good};
+ghost use Rattle.level.specs.declared.Side.the-variants.{Bids, Asks};
+ghost use Rattle.level.specs.Words.{shown};
+ghost use Rattle.level.specs.Ranked.{All};
+ghost use Rattle.level.specs.Words.{levelsIn};
+ghost use Rattle.level.specs.Kept.{keptIn, maxLevels, maxWords, held, Good};
 ghost use Rattle.checksum.specs.Text.{kChecksum, mChecksum, interleaved};
 ghost use Rattle.checksum.specs.Carried.{Carries, Made, MadeOf, summed};
 use decimal::Decimal;
+use level::Level;
+use level::MAX_WORDS;
 use piece::Piece;
-use side::Level;
-use side::MAX_WORDS;
 
 // How many levels a side K sums.
 const K_LEVELS: usize = 10;
@@ -120,7 +120,7 @@ fn sum_levels<'a>(
     let mut sum = state;
     let mut i = from;
     while i < to {
-        let level = side::level_in(words, i);
+        let level = level::level_in(words, i);
         sum = crc32::combine_with(table, sum, level.sum, level.length as usize);
         i += 1;
     }
@@ -142,8 +142,8 @@ fn sum_pairs<'a>(
     let mut sum = state;
     let mut i = 0;
     while i < n {
-        let bid = side::level_in(bids, i);
-        let ask = side::level_in(asks, i);
+        let bid = level::level_in(bids, i);
+        let ask = level::level_in(asks, i);
         let bid_length = bid.length as usize;
         let ask_length = ask.length as usize;
         let pair = crc32::combine_with(table, bid.sum, ask.sum, ask_length);

@@ -11,17 +11,20 @@ use lib.ListN.{length, take, set, length-append, length-set}
 use lib.Seq.{take-suc-set, length-take-le}
 use Rattle.decimal.specs.Decimal.{Number, number, Within}
 use Rattle.decimal.specs.declared.Decimal.{Decimal}
-use Rattle.side.specs.Level.{PriceLevel, levelPrice, levelSize, shown}
-use Rattle.side.specs.Side.{Edit, sets, removes, All, IfSet, named}
-use Rattle.side.specs.Words.{Packed, packed, editOf, entriesOf}
-use Rattle.side.specs.Kept.{keptIn, Good, Given, AfterEntries, held}
-use Rattle.side.specs.declared.Side.{Side}
-use Rattle.side.specs.declared.Level.{Level}
-use Rattle.side.specs.declared.Levels.{Levels}
+use Rattle.level.specs.Level.{PriceLevel}
+use Rattle.level.specs.Words.{levelPrice, levelSize, shown}
+use Rattle.level.specs.Side.{Edit, sets, removes}
+use Rattle.level.specs.Ranked.{All, IfSet, named}
+use Rattle.level.specs.Words.{Packed, packed, editOf, entriesOf}
+use Rattle.level.specs.Kept.{keptIn, Good, held}
+use Rattle.side.specs.Applying.{Given, AfterEntries}
+use Rattle.level.specs.declared.Side.{Side}
+use Rattle.level.specs.declared.Level.{Level}
+use Rattle.level.specs.declared.Levels.{Levels}
 use Rattle.side.specs.declared.Applied.{Applied}
-use Rattle.side.proofs.All.{all-append}
-use Rattle.side.proofs.Ranking.{all-afterMessage}
-use Rattle.side.proofs.Packing.{edit-packed, edit-removal, entries-snoc}
+use Rattle.level.proofs.All.{all-append}
+use Rattle.level.proofs.Ranking.{all-afterMessage}
+use Rattle.level.proofs.Packing.{edit-packed, edit-removal, entries-snoc}
 use Rattle.checksum.specs.Carried.{Carries, Made}
 use Rattle.checksum_vectors.specs.Book.{pieceFor, FineSide, FineLevel, Stored}
 

@@ -6,16 +6,17 @@ use mathlib.Core.Path.{_≡_}
 use lib.ListN.{length, take}
 use Rattle.decimal.specs.Decimal.{Number, Within}
 use Rattle.piece.specs.Piece.{kPiece, mPiece}
-use Rattle.side.specs.Level.{levelPrice}
-use Rattle.side.specs.Side.{All, IfSet}
-use Rattle.side.specs.Words.{entriesOf}
-use Rattle.side.specs.Kept.{Good, Given, held}
-use Rattle.side.specs.declared.Side.{Side}
-use Rattle.side.specs.declared.Side.the-variants.{Bids, Asks}
-use Rattle.side.specs.declared.Level.{Level}
-use Rattle.side.specs.declared.Levels.{Levels}
-use Rattle.side.specs.declared.Found.{Found}
-use Rattle.side.specs.declared.Found.the-variants.{At, Nothing}
+use Rattle.level.specs.Words.{levelPrice}
+use Rattle.level.specs.Ranked.{All, IfSet}
+use Rattle.level.specs.Words.{entriesOf}
+use Rattle.level.specs.Kept.{Good, held}
+use Rattle.side.specs.Applying.{Given}
+use Rattle.level.specs.declared.Side.{Side}
+use Rattle.level.specs.declared.Side.the-variants.{Bids, Asks}
+use Rattle.level.specs.declared.Level.{Level}
+use Rattle.level.specs.declared.Levels.{Levels}
+use Rattle.level.specs.declared.Found.{Found}
+use Rattle.level.specs.declared.Found.the-variants.{At, Nothing}
 use Rattle.checksum.specs.Carried.{Carries}
 use Rattle.checksum_vectors.specs.declared.Book.{Book}
 

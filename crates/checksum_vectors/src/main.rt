@@ -13,14 +13,14 @@ ghost use Rattle.checksum_vectors.specs.Book.{pieceFor, Fine, FineSide, 
 use decimal::Decimal;
 use decimal::Parsed;
 use decimal::ParsedWhole;
+use level::Found;
+use level::Level;
+use level::Levels;
+use level::Side;
 use libc::STDIN_FILENO;
 use libc::STDOUT_FILENO;
 use lines::LINE_END;
 use lines::find;
-use side::Found;
-use side::Level;
-use side::Levels;
-use side::Side;
 
 const BLANK: u8 = 32;
 
@@ -58,8 +58,8 @@ fn new_book(m: bool, depth: usize) -> Book
     Book {
         m: m,
         depth: depth,
-        bids: side::empty(),
-        asks: side::empty(),
+        bids: level::empty(),
+        asks: level::empty(),
     }
 }
 
@@ -199,7 +199,7 @@ fn read_entries(
             Found::At(level) => {
                 prices[k] = level.price;
                 sizes[k] = level.size;
-                rests[k] = side::pack(level);
+                rests[k] = level::pack(level);
                 k += 1;
                 at = size_end;
             }
@@ -270,7 +270,7 @@ fn show_levels(levels: Levels)
 {
     let mut i = 0;
     while i < levels.count {
-        show_level(side::level_in(&levels.words, i));
+        show_level(level::level_in(&levels.words, i));
         i += 1;
     }
 }

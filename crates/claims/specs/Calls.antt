@@ -8,7 +8,7 @@ use denote.Ref.{RefT, now}
 use Rattle.decimal.specs.Decimal.{number as numberOf}
 use Rattle.answer.specs.declared.Answer.{Answer}
 use Rattle.settings.specs.declared.Dialect.{Dialect}
-use Rattle.side.specs.declared.Side.{Side}
+use Rattle.level.specs.declared.Side.{Side}
 use Rattle.reference.specs.Reference.{opened, Value, nothing, counts, level, amount, Reply, message, howMany, levelAt, whichNumber, howManyUpdates, write, Call, run}
 use Rattle.reference.specs.Claims.{call}
 use Rattle.reference.specs.declared.Scope.{Scope}

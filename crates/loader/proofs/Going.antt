@@ -14,8 +14,8 @@ use Rattle.entries.specs.Summary.{foundOf, foundAt}
 use Rattle.entries.specs.declared.Found.{Found}
 use Rattle.entries.proofs.Strings.{Sound, k-sound, m-sound}
 use Rattle.entries.proofs.Summary.{found-laid}
-use Rattle.side.specs.Words.{Packed}
-use Rattle.side.specs.declared.Level.{Level}
+use Rattle.level.specs.Words.{Packed}
+use Rattle.level.specs.declared.Level.{Level}
 use Rattle.loader.specs.Loaded.{rowsAt, Loadable, Room, Loaded}
 use Rattle.loader.specs.Reading.{entryFor, firstAt, Placed, LevelAt}
 use Rattle.loader.proofs.Rows.{Left, first-left, Here, left-here}

@@ -10,8 +10,8 @@ use Rattle.decimal.specs.Decimal.{Number}
 use Rattle.json.specs.Json.{Span}
 use Rattle.entries.specs.Rows.{Row, entriesAt}
 use Rattle.entries.proofs.Shift.{shiftedRow, changed, Even, number-shift, rows-shift}
-use Rattle.side.specs.Side.{Edit}
-use Rattle.side.specs.Level.{PriceLevel}
+use Rattle.level.specs.Side.{Edit}
+use Rattle.level.specs.Level.{PriceLevel}
 use Rattle.loader.specs.Loaded.{editFor, editAt, rowsAt, Loadable, Loaded}
 use Rattle.loader.proofs.Rows.{no-rows, same-rows, rows-are, loadable}
 

@@ -17,12 +17,14 @@ use Rattle.json.specs.Json.{Span}
 use Rattle.entries.specs.Places.{inner}
 use Rattle.entries.specs.Rows.{Row, numberAt}
 use Rattle.entries.specs.declared.Found.{Found}
-use Rattle.side.specs.Level.{PriceLevel, levelPrice, levelSize, shown}
-use Rattle.side.specs.Side.{Edit, sets, removes, mapEdit, All, IfSet, named}
-use Rattle.side.specs.Words.{Packed, editOf, entriesOf}
-use Rattle.side.specs.declared.Level.{Level}
-use Rattle.side.proofs.All.{all-append}
-use Rattle.side.proofs.Packing.{edit-packed, edit-removal, entries-snoc}
+use Rattle.level.specs.Level.{PriceLevel}
+use Rattle.level.specs.Words.{levelPrice, levelSize, shown}
+use Rattle.level.specs.Side.{Edit, sets, removes}
+use Rattle.level.specs.Ranked.{mapEdit, All, IfSet, named}
+use Rattle.level.specs.Words.{Packed, editOf, entriesOf}
+use Rattle.level.specs.declared.Level.{Level}
+use Rattle.level.proofs.All.{all-append}
+use Rattle.level.proofs.Packing.{edit-packed, edit-removal, entries-snoc}
 use Rattle.checksum.specs.Carried.{Carries, Made}
 use Rattle.loader.specs.Loaded.{editFor, editAt, Room, Loaded}
 use Rattle.loader.specs.Reading.{priceSpan, sizeSpan, NumberOf, LevelAt}

@@ -8,10 +8,12 @@ use Rattle.decimal.specs.Digits.{Reading, reads, refused}
 use Rattle.decimal.specs.Decimal.{Number, isZero}
 use Rattle.json.specs.Json.{Span}
 use Rattle.entries.specs.Rows.{Row, entriesAt, numberAt}
-use Rattle.side.specs.Level.{PriceLevel, shown}
-use Rattle.side.specs.Side.{Edit, sets, removes, mapEdit, All, IfSet}
-use Rattle.side.specs.Words.{entriesOf}
-use Rattle.side.specs.Kept.{maxEntries, Given}
+use Rattle.level.specs.Level.{PriceLevel}
+use Rattle.level.specs.Words.{shown}
+use Rattle.level.specs.Side.{Edit, sets, removes}
+use Rattle.level.specs.Ranked.{mapEdit, All, IfSet}
+use Rattle.level.specs.Words.{entriesOf}
+use Rattle.side.specs.Applying.{maxEntries, Given}
 use Rattle.checksum.specs.Carried.{Carries}
 
 -- ---- what an entry does to its side

@@ -14,8 +14,8 @@ use Rattle.entries.specs.Rows.{Row, entryK, entryM, numberAt}
 use Rattle.entries.specs.Counting.{Quoted}
 use Rattle.entries.specs.Summary.{foundAt}
 use Rattle.entries.specs.declared.Found.{Found}
-use Rattle.side.specs.Level.{levelPrice, shown}
-use Rattle.side.specs.declared.Level.{Level}
+use Rattle.level.specs.Words.{levelPrice, shown}
+use Rattle.level.specs.declared.Level.{Level}
 use Rattle.checksum.specs.Carried.{Carries}
 use Rattle.loader.specs.Loaded.{Loadable}
 use Rattle.loader.specs.declared.Entry.{Entry}

@@ -17,7 +17,7 @@ use entries::Found;
 use json_tokens::array_close_end;
 use json_tokens::comma_end;
 use json_tokens::skip_blanks;
-use side::Level;
+use level::Level;
 
 // How many entries a message may have for one side.
 pub const MAX_ENTRIES: usize = 100;
@@ -48,7 +48,7 @@ pub fn load(
         let level = level_of(entry.price, entry.size, m);
         prices[k] = level.price;
         sizes[k] = level.size;
-        rests[k] = side::pack(level);
+        rests[k] = level::pack(level);
         k += 1;
         at = comma_end(s, entry.end);
     }

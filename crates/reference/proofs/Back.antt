@@ -20,13 +20,14 @@ use Rattle.entries.specs.Places.{inner}
 use Rattle.entries.specs.Rows.{Row, numberAt, badPrice, badSize, badTexts}
 use Rattle.entries.specs.Summary.{anyBroken}
 use Rattle.entries.proofs.Claims.{broken-none, zero-none}
-use Rattle.side.specs.Level.{PriceLevel, shownPrice}
-use Rattle.side.specs.Side.{Edit, sets, removes, All, IfSet, before, place, apply, applyAll, ranked, Sorted, Distinct, namesTwice}
-use Rattle.side.specs.declared.Side.{Side}
-use Rattle.side.specs.declared.Side.the-variants.{Bids, Asks}
-use Rattle.side.proofs.All.{all-take}
-use Rattle.side.proofs.Ranking.{all-applyAll, all-ranked, applyRanked, commute, without-none, place-middle, ranked-sorted, sorted-take, sorted-distinct, distinct-applyAll, distinct-once}
-use Rattle.side.proofs.Lengths.{length-ranked}
+use Rattle.level.specs.Level.{PriceLevel, shownPrice}
+use Rattle.level.specs.Side.{Edit, sets, removes, before, place, apply, applyAll, ranked, namesTwice}
+use Rattle.level.specs.Ranked.{All, IfSet, Sorted, Distinct}
+use Rattle.level.specs.declared.Side.{Side}
+use Rattle.level.specs.declared.Side.the-variants.{Bids, Asks}
+use Rattle.level.proofs.All.{all-take}
+use Rattle.level.proofs.Ranking.{all-applyAll, all-ranked, applyRanked, commute, without-none, place-middle, ranked-sorted, sorted-take, sorted-distinct, distinct-applyAll, distinct-once}
+use Rattle.level.proofs.Lengths.{length-ranked}
 use Rattle.entries.proofs.Numbers.{number-within}
 use Rattle.crc32_spec.specs.Crc.{crc, run}
 use Rattle.writer.specs.Snapshot.{kSnapshot, mSnapshot}

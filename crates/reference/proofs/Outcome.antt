@@ -12,7 +12,7 @@ use Rattle.decimal.specs.Digits.{Reading, reads, refused}
 use Rattle.settings.specs.Settings.{Terms}
 use Rattle.settings.specs.declared.Dialect.{Dialect}
 use Rattle.settings.specs.declared.Dialect.the-variants.{K, M, Unknown}
-use Rattle.side.specs.Side.{namesTwice}
+use Rattle.level.specs.Side.{namesTwice}
 use Rattle.entries.specs.Places.{top}
 use Rattle.layout.specs.Layout.{Printed, printed, unprinted, Layout, Heard}
 use Rattle.answer.specs.Answers.{number, oneOf, toMessages, isTaken, leavesStatus}

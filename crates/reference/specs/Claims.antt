@@ -8,7 +8,7 @@ use lib.ListN.{length}
 use Rattle.settings.specs.Settings.{Terms, kept}
 use Rattle.settings.specs.declared.Dialect.{Dialect}
 use Rattle.settings.specs.declared.Dialect.the-variants.{K, M}
-use Rattle.side.specs.Side.{namesTwice}
+use Rattle.level.specs.Side.{namesTwice}
 use Rattle.layout.specs.Layout.{Printed, printed, unprinted}
 use Rattle.answer.specs.Answers.{number as numberOf, oneOf, toMessages, toQuestions, isTaken, leavesStatus}
 use Rattle.message.specs.Meaning.{Message, Said, refuses, says, said}

@@ -6,7 +6,7 @@ use mathlib.Core.List.{List, [], _∷_, map}
 use Rattle.decimal.specs.Ascii.{ascii}
 use Rattle.settings.specs.declared.Dialect.the-variants.{K, M}
 use Rattle.settings.specs.Settings.{Terms}
-use Rattle.side.specs.Side.{All}
+use Rattle.level.specs.Ranked.{All}
 use Rattle.answer.specs.Answers.{number}
 use Rattle.reference.specs.Reference.{Value, nothing, counts, Reply, message, howMany, Call, opened, run, final, snapshotText}
 use Rattle.reference.specs.declared.Scope.the-variants.{Current}
@@ -24,7 +24,7 @@ use Rattle.message_k.specs.LayoutK as k·
 use Rattle.message_m.specs.LayoutM as m·
 use Rattle.message.specs.Meaning as w·
 use Rattle.settings.specs.Settings as s·
-use Rattle.side.specs.Side as side·
+use Rattle.level.specs.Side as side·
 use Rattle.crc32_spec.specs.Crc as crc·
 use Rattle.checksum.specs.Text as c·
 use Rattle.writer.specs.Snapshot as n·

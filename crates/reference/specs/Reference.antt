@@ -10,10 +10,10 @@ use Rattle.decimal.specs.Buffer.{overlaid}
 use Rattle.settings.specs.Settings.{Terms, isM, good, kept}
 use Rattle.settings.specs.declared.Dialect.{Dialect}
 use Rattle.settings.specs.declared.Dialect.the-variants.{K, M, Unknown}
-use Rattle.side.specs.Level.{PriceLevel, shownPrice}
-use Rattle.side.specs.Side.{Edit, sets, removes, namesTwice, applyAll, ranked}
-use Rattle.side.specs.declared.Side.{Side}
-use Rattle.side.specs.declared.Side.the-variants.{Bids, Asks}
+use Rattle.level.specs.Level.{PriceLevel, shownPrice}
+use Rattle.level.specs.Side.{Edit, sets, removes, namesTwice, applyAll, ranked}
+use Rattle.level.specs.declared.Side.{Side}
+use Rattle.level.specs.declared.Side.the-variants.{Bids, Asks}
 use Rattle.checksum.specs.Text.{kChecksum, mChecksum}
 use Rattle.layout.specs.Layout.{Printed, printed, unprinted}
 use Rattle.answer.specs.Answers.{isTaken, leavesStatus}

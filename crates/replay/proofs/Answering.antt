@@ -11,7 +11,7 @@ use lib.Seq.{take-all}
 use Rattle.decimal.specs.Decimal as decimal
 use Rattle.answer.specs.Answers.{number}
 use Rattle.answer.specs.declared.Answer.{Answer}
-use Rattle.side.specs.declared.Side.{Side}
+use Rattle.level.specs.declared.Side.{Side}
 use Rattle.reference.specs.declared.Scope.{Scope}
 use Rattle.book.specs.declared.Book.{Book}
 use Rattle.book.specs.declared.Step.{Step}

@@ -11,9 +11,9 @@ use lib.ListN.{length, getD, take, drop, length-append}
 use lib.Pow.{shr-lt, split}
 use lib.Seq.{drop-drop, take-at, drop-at}
 use Rattle.crc32_spec.specs.Text.{Bytes, word}
-use Rattle.side.specs.Side.{All}
-use Rattle.side.specs.declared.Side.{Side}
-use Rattle.side.specs.declared.Side.the-variants.{Bids, Asks}
+use Rattle.level.specs.Ranked.{All}
+use Rattle.level.specs.declared.Side.{Side}
+use Rattle.level.specs.declared.Side.the-variants.{Bids, Asks}
 use Rattle.reference.specs.declared.Scope.{Scope}
 use Rattle.reference.specs.declared.Scope.the-variants.{Current, LastGood}
 use Rattle.reference.specs.Reference.{Ask, message, howMany, levelAt, whichNumber, howManyUpdates, write, Call, run, opened}

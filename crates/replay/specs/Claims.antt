@@ -7,9 +7,9 @@ use mathlib.Core.List.{List, [], _∷_, _++_}
 use lib.ListN.{length}
 use Rattle.crc32_spec.specs.Text.{Bytes}
 use Rattle.settings.specs.Settings.{Terms, kept}
-use Rattle.side.specs.Side.{All}
-use Rattle.side.specs.declared.Side.{Side}
-use Rattle.side.specs.declared.Side.the-variants.{Bids, Asks}
+use Rattle.level.specs.Ranked.{All}
+use Rattle.level.specs.declared.Side.{Side}
+use Rattle.level.specs.declared.Side.the-variants.{Bids, Asks}
 use Rattle.message.specs.Meaning.{Message, says, said}
 use Rattle.answer.specs.declared.Answer.the-variants.{Taken}
 use Rattle.reference.specs.declared.Scope.{Scope}

@@ -7,9 +7,9 @@ use lib.ListN.{length, take, drop}
 use Rattle.crc32_spec.specs.Text.{word}
 use Rattle.settings.specs.declared.Dialect.{Dialect}
 use Rattle.settings.specs.declared.Dialect.the-variants.{K, M, Unknown}
-use Rattle.side.specs.Level.{PriceLevel}
-use Rattle.side.specs.declared.Side.{Side}
-use Rattle.side.specs.declared.Side.the-variants.{Bids, Asks}
+use Rattle.level.specs.Level.{PriceLevel}
+use Rattle.level.specs.declared.Side.{Side}
+use Rattle.level.specs.declared.Side.the-variants.{Bids, Asks}
 use Rattle.answer.specs.Answers.{number}
 use Rattle.reference.specs.declared.Scope.{Scope}
 use Rattle.reference.specs.declared.Scope.the-variants.{Current, LastGood}

@@ -16,7 +16,7 @@ use Rattle.entries.specs.Places.{andThen, all, arrayAt, inner}
 use Rattle.entries.specs.Rows.{Row, rowK, entryK, rowM, entryM, entriesAt, badPrice, badSize, badTexts, numberAt}
 use Rattle.layout.specs.Layout.{Listed, listedAt}
 use Rattle.message.specs.Meaning.{Quote, quoteAt}
-use Rattle.side.specs.Level.{PriceLevel}
+use Rattle.level.specs.Level.{PriceLevel}
 use Rattle.writer.specs.Snapshot.{quoted, array, kEntry, mEntry}
 use Rattle.round_trip.specs.Claims.{quoteOf, Positive, FineLevel, Each, each-none, each-more}
 use Rattle.round_trip.proofs.Places.{Is}

@@ -7,7 +7,7 @@ use lib.ListN.{length, length-append}
 use Rattle.decimal.specs.Ascii.{ascii}
 use Rattle.decimal.specs.Decimal.{Number, text}
 use Rattle.decimal.proofs.Text.{length-text}
-use Rattle.side.specs.Level.{PriceLevel}
+use Rattle.level.specs.Level.{PriceLevel}
 use Rattle.writer.specs.Snapshot.{quoted, commaJoined, array, kEntry, mEntry}
 use Rattle.round_trip.specs.Claims.{Positive, FineLevel, Fine, Each, each-none, each-more}
 use Rattle.round_trip.proofs.Tokens.{length-quoted}

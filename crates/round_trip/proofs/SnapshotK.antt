@@ -19,7 +19,7 @@ use Rattle.message_k.specs.LayoutK.{Frame, frameOf, escapedK, oursK, times, tog
 use Rattle.message.specs.Meaning.{heardIn, said, says}
 use Rattle.settings.specs.Settings.{Terms, good}
 use Rattle.settings.specs.declared.Dialect.the-variants.{K}
-use Rattle.side.specs.Level.{PriceLevel}
+use Rattle.level.specs.Level.{PriceLevel}
 use Rattle.writer.specs.Snapshot.{quoted, commaJoined, array, kEntry, kSnapshot}
 use Rattle.round_trip.specs.Claims.{Each, each-none, each-more, FineLevel, Fine, quoteOf}
 use Rattle.round_trip.proofs.Places.{Is, part-is}

@@ -20,7 +20,7 @@ use Rattle.message_m.specs.LayoutM.{someName, someString, escapedM, someMeans, 
 use Rattle.message.specs.Meaning.{heardIn, said, says}
 use Rattle.settings.specs.Settings.{Terms, good}
 use Rattle.settings.specs.declared.Dialect.the-variants.{M}
-use Rattle.side.specs.Level.{PriceLevel}
+use Rattle.level.specs.Level.{PriceLevel}
 use Rattle.writer.specs.Snapshot.{quoted, commaJoined, array, mEntry, mSnapshot}
 use Rattle.round_trip.specs.Claims.{Each, each-none, each-more, FineLevel, Fine, quoteOf}
 use Rattle.round_trip.proofs.Places.{Is, part-is}

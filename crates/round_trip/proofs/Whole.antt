@@ -18,7 +18,7 @@ use Rattle.entries.specs.Places.{top}
 use Rattle.layout.specs.Layout.{Printed, Listed, Layout, Heard}
 use Rattle.message.specs.Meaning.{fails, passes, says, tooMany, counted, laidOut, addressed, heardIn, framed, bad, decimals, alsoDecimals, checked, messageOf, saidOf, said}
 use Rattle.answer.specs.declared.Answer.the-variants.{TooManyEntries}
-use Rattle.side.specs.Level.{PriceLevel}
+use Rattle.level.specs.Level.{PriceLevel}
 use Rattle.round_trip.specs.Claims.{quoteOf}
 use Rattle.round_trip.proofs.Places.{no-blanks, nothing-stops, Is}
 use Rattle.round_trip.proofs.Lists.{Matched}

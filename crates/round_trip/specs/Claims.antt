@@ -5,7 +5,7 @@ use mathlib.Core.Bool.{true, false}
 use mathlib.Core.List.{List, [], _∷_, map}
 use lib.ListN.{length}
 use Rattle.decimal.specs.Decimal.{Number, Within, isZero}
-use Rattle.side.specs.Level.{PriceLevel}
+use Rattle.level.specs.Level.{PriceLevel}
 use Rattle.settings.specs.Settings.{good}
 use Rattle.settings.specs.declared.Dialect.the-variants.{K, M}
 use Rattle.layout.specs.Layout.{printed, unprinted}

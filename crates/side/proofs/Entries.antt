@@ -12,18 +12,19 @@ use lib.Seq.{drop-cons, take-suc, take-suc-set, take-take, take-all, length-take
 use Rattle.decimal.specs.Decimal.{Number, number, value, order, Within}
 use Rattle.decimal.specs.declared.Decimal.{Decimal}
 use Rattle.decimal.specs.declared.Order.{Order}
-use Rattle.side.specs.declared.Side.{Side}
-use Rattle.side.specs.declared.Level.{Level}
-use Rattle.side.specs.Level.{levelPrice}
-use Rattle.side.specs.Side.{Edit, sets, removes, before, All, standing, without, applyAll, ranked, afterMessage, named, meets, met, Sorted, IfSet}
-use Rattle.side.specs.Order.{aheadOf, equalOf}
-use Rattle.side.specs.Words.{noLevel, editOf, entriesOf}
-use Rattle.side.specs.Kept.{Given}
-use Rattle.side.proofs.Order.{ahead-is, equal-is}
-use Rattle.side.proofs.All.{all-at}
-use Rattle.side.proofs.Ranking.{all-without, all-place, applyRanked, allRanked, commute-all, sorted-ranked, sorted-entry}
-use Rattle.side.proofs.Lengths.{length-ranked}
-use Rattle.side.proofs.Meeting.{metRanked, met-ranked}
+use Rattle.level.specs.declared.Side.{Side}
+use Rattle.level.specs.declared.Level.{Level}
+use Rattle.level.specs.Words.{levelPrice}
+use Rattle.level.specs.Side.{Edit, sets, removes, before, without, applyAll, ranked}
+use Rattle.level.specs.Ranked.{All, standing, afterMessage, named, meets, met, Sorted, IfSet}
+use Rattle.level.specs.Order.{aheadOf, equalOf}
+use Rattle.level.specs.Words.{noLevel, editOf, entriesOf}
+use Rattle.side.specs.Applying.{Given}
+use Rattle.level.proofs.Order.{ahead-is, equal-is}
+use Rattle.level.proofs.All.{all-at}
+use Rattle.level.proofs.Ranking.{all-without, all-place, applyRanked, allRanked, commute-all, sorted-ranked, sorted-entry}
+use Rattle.level.proofs.Lengths.{length-ranked}
+use Rattle.level.proofs.Meeting.{metRanked, met-ranked}
 
 -- a price that can be compared
 abbrev pub Sound : Level → Type 0

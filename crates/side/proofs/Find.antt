@@ -9,12 +9,13 @@ use native.Mathlib.Omega.{arith}
 use lib.ListN.{length, getD, set, take, drop, take-append-drop, drop-of-length-le}
 use lib.Seq.{length-take-le, take-suc, drop-cons, split-at, set-split, take-set-lt}
 use Rattle.decimal.specs.Decimal.{Number, value}
-use Rattle.side.specs.declared.Side.{Side}
-use Rattle.side.specs.Side.{sets, removes, before, All, standing, without, place, Sorted}
-use Rattle.side.proofs.Order.{before-ne, before-trans, before-or-after, after-not-before}
-use Rattle.side.proofs.All.{all-map, all-append, all-at}
-use Rattle.side.proofs.Ranking.{applyRanked, without-new, without-same, placed}
-use Rattle.side.proofs.Meeting.{standing-none}
+use Rattle.level.specs.declared.Side.{Side}
+use Rattle.level.specs.Side.{sets, removes, before, without, place}
+use Rattle.level.specs.Ranked.{All, standing, Sorted}
+use Rattle.level.proofs.Order.{before-ne, before-trans, before-or-after, after-not-before}
+use Rattle.level.proofs.All.{all-map, all-append, all-at}
+use Rattle.level.proofs.Ranking.{applyRanked, without-new, without-same, placed}
+use Rattle.level.proofs.Meeting.{standing-none}
 use Rattle.side.proofs.Shift.{up, up-end, down, down-end}
 
 module _ {A : Type 0} (priceOf : A → Number) (side : Side) where

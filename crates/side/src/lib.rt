@@ -1,68 +1,26 @@
-// One side of an order book: price levels in order, and what a message's entries do to them.
+// A message's entries applied to one side of an order book, in their written order; then, and never between entries, the side is cut
+// to its best `depth` levels.
 //
-// A side keeps up to 100 levels, best first: bids from high to low, asks from low to high, at most one level a price,
-// prices compared by value. A message's entries for a side are applied in their written order; then, and never
-// between entries, the side is cut to its best `depth` levels.
-//
-//     let rest = side::pack(level);                               // a level's price, size and rest: three words
 //     let applied = side::apply(&mut bids, count, Side::Bids, 10, prices, sizes, rests); // each entry a place of the three slices
-//     side::level_at(Levels { words: bids, count: applied.left }, 0)  // the best bid now
-mod applying;
-mod words;
-
-ghost use mathlib.Core.Path.{_≡_};
+//     level::level_at(Levels { words: bids, count: applied.left }, 0)                    // the best bid now
 ghost use Prim.Native.Nat.{_≤_};
-ghost use Rattle.decimal.specs.Decimal.{number};
-ghost use Rattle.side.specs.Level.{levelPrice, levelSize};
-ghost use Rattle.side.specs.Kept.{maxLevels, held, levelAt, Empty};
-pub use applying::apply;
-use decimal::Decimal;
-pub use words::entry_at;
-pub use words::level_in;
-pub use words::pack;
+ghost use Rattle.level.specs.Words.{entriesOf};
+ghost use Rattle.level.specs.Kept.{maxLevels, keptIn, Good};
+ghost use Rattle.side.specs.Applying.{Given, AfterEntries};
+use level::Change;
+use level::EMPTY;
+use level::MAX_WORDS;
+use level::Side;
+use level::entry_at;
+use level::is_ahead;
+use level::is_equal;
+use level::level_in;
+use level::price_named;
+use level::price_of;
+use level::put_level;
 
-// How many levels a side keeps, and how many there is room for while one message is worked: a message has at most 100
-// entries for a side.
-pub const MAX_LEVELS: usize = 100;
-
+// How many levels there is room for while one message is worked: 100 that stood, and 100 entries.
 const MAX_WORKING: usize = 200;
-
-// The words of a side that is kept: three a level.
-pub const MAX_WORDS: usize = 300;
-
-pub enum Side {
-    Bids,
-    Asks,
-}
-
-// A price and a size as they were sent: the digits as one whole number, and how many of them stand after the point.
-// `sum` and `length` are the CRC of the level's own piece of checksum text and its length, made by whoever makes the level.
-pub struct Level {
-    pub price: u64,
-    pub size: u64,
-    pub sum: u32,
-    pub length: u16,
-    pub price_decimals: u8,
-    pub size_decimals: u8,
-}
-
-pub enum Change {
-    Set(Level),
-    Remove(Decimal),
-}
-
-// An entry of a message.
-pub struct Entry {
-    pub side: Side,
-    pub change: Change,
-}
-
-// A side that is kept: `count` levels at the front of `words`, best first. A level is three words, since an array of numbers can
-// be lent, and one of structs cannot.
-pub struct Levels {
-    pub words: [u64; MAX_WORDS],
-    pub count: usize,
-}
 
 // A side with a message's entries applied and cut: how many levels are left, how many stood before the cut, and whether some
 // entry set a level at a price where one stood by then.
@@ -72,55 +30,115 @@ pub struct Applied {
     pub met: bool,
 }
 
-pub enum Found {
-    At(Level),
-    Nothing,
-}
-
-const EMPTY: Level = Level {
-    price: 0,
-    size: 0,
-    sum: 0,
-    length: 0,
-    price_decimals: 0,
-    size_decimals: 0,
-};
-
-// A side with no level.
-pub fn empty() -> Levels
-    ensures { λ r. ⌜ Empty r ⌝ }
+// A side after a message's entries for it: each a place of the three slices, which are as long as each other. The side is the
+// first `kept` levels of the words, and then the first `left` of what is answered.
+pub fn apply(
+    words: &mut [u64; MAX_WORDS],
+    kept: usize,
+    side: Side,
+    depth: usize,
+    prices: &[u64],
+    sizes: &[u64],
+    rests: &[u64],
+) -> Applied
+    requires { ⌜ Good side (keptIn (now words) kept) × Given (now prices) (now sizes) (now rests) × (depth ≤ maxLevels) ⌝ }
+    ensures { λ r. ⌜ AfterEntries side depth (entriesOf (now (prices .entry)) (now (sizes .entry)) (now (rests .entry))) (keptIn (now (words .entry)) kept) (now (words .exit)) r ⌝ }
 {
-    Levels {
-        words: [0; MAX_WORDS],
-        count: 0,
+    if prices.len() == 0 {
+        if kept <= depth {
+            return Applied {
+                left: kept,
+                count: kept,
+                met: false,
+            };
+        }
     }
+    work(words, kept, side, depth, prices, sizes, rests)
 }
 
-// The level at a place, counted from 0 as best.
-pub fn level_at(kept: Levels, i: usize) -> Found
-    requires { ⌜ kept .count ≤ maxLevels ⌝ }
-    ensures { λ r. ⌜ r ≡ levelAt i (held kept) ⌝ }
+// All in one function, since it owns the working side: an entry moves the levels that it shifts, and copies no side.
+// The side is loaded; each entry's price is searched for, and its level set or removed there; then the best are kept.
+fn work(
+    words: &mut [u64; MAX_WORDS],
+    kept: usize,
+    side: Side,
+    depth: usize,
+    prices: &[u64],
+    sizes: &[u64],
+    rests: &[u64],
+) -> Applied
+    requires { ⌜ Good side (keptIn (now words) kept) × Given (now prices) (now sizes) (now rests) × (depth ≤ maxLevels) ⌝ }
+    ensures { λ r. ⌜ AfterEntries side depth (entriesOf (now (prices .entry)) (now (sizes .entry)) (now (rests .entry))) (keptIn (now (words .entry)) kept) (now (words .exit)) r ⌝ }
 {
-    if i < kept.count {
-        return Found::At(level_in(&kept.words, i));
+    let mut levels = [EMPTY; MAX_WORKING];
+    let mut count = kept;
+    let mut i = 0;
+    'load: while i < count {
+        levels[i] = level_in(words, i);
+        i += 1;
     }
-    Found::Nothing
-}
-
-pub fn price_of(level: Level) -> Decimal
-    ensures { λ r. ⌜ number r ≡ levelPrice level ⌝ }
-{
-    Decimal {
-        digits: level.price,
-        decimals: level.price_decimals as u64,
+    let mut met = false;
+    let mut k = 0;
+    'entry: while k < prices.len() {
+        let entry = entry_at(side, prices[k], sizes[k], rests[k]);
+        k += 1;
+        let change = entry.change;
+        let price = price_named(change);
+        // the levels before `low` stand nearer the top than the price, and those from `high` on do not
+        let mut low = 0;
+        let mut high = count;
+        'find: while low < high {
+            let middle = low + ((high - low) >> 1);
+            let level = levels[middle];
+            if is_ahead(side, decimal::compare(price_of(level), price)) {
+                low = middle + 1;
+            } else {
+                high = middle;
+            }
+        }
+        if low < count {
+            let level = levels[low];
+            if is_equal(decimal::compare(price_of(level), price)) {
+                match change {
+                    Change::Set(new) => {
+                        levels[low] = new;
+                        met = true;
+                    }
+                    Change::Remove(_) => {
+                        count -= 1;
+                        let mut j = low;
+                        'down: while j < count {
+                            levels[j] = levels[j + 1];
+                            j += 1;
+                        }
+                    }
+                }
+                continue;
+            }
+        }
+        if let Change::Set(new) = change {
+            let mut j = count;
+            'up: while low < j {
+                levels[j] = levels[j - 1];
+                j -= 1;
+            }
+            levels[low] = new;
+            count += 1;
+        }
     }
-}
-
-pub fn size_of(level: Level) -> Decimal
-    ensures { λ r. ⌜ number r ≡ levelSize level ⌝ }
-{
-    Decimal {
-        digits: level.size,
-        decimals: level.size_decimals as u64,
+    let mut left = count;
+    if depth < left {
+        left = depth;
+    }
+    i = 0;
+    'cut: while i < left {
+        let level = levels[i];
+        put_level(words, i, level);
+        i += 1;
+    }
+    Applied {
+        left: left,
+        count: count,
+        met: met,
     }
 }

@@ -12,17 +12,21 @@ use lib.Seq.{take-all}
 use Rattle.decimal.specs.Decimal.{isZero, Within}
 use Rattle.entries.specs.Rows.{Row, numberAt}
 use Rattle.entries.proofs.Numbers.{number-within}
-use Rattle.side.specs.Level.{PriceLevel, levelPrice, levelSize, shown, shownPrice}
-use Rattle.side.specs.Side.{Edit, sets, removes, mapEdit, All, IfSet, applyAll, ranked, afterMessage, met}
-use Rattle.side.specs.Words.{entriesOf}
-use Rattle.side.specs.Kept.{held, Good, AfterEntries}
-use Rattle.side.specs.declared.Side.{Side}
-use Rattle.side.specs.declared.Level.{Level}
-use Rattle.side.specs.declared.Levels.{Levels}
+use Rattle.level.specs.Level.{PriceLevel, shownPrice}
+use Rattle.level.specs.Words.{levelPrice, levelSize, shown}
+use Rattle.level.specs.Side.{Edit, sets, removes, applyAll, ranked}
+use Rattle.level.specs.Ranked.{mapEdit, All, IfSet, afterMessage, met}
+use Rattle.level.specs.Words.{entriesOf}
+use Rattle.level.specs.Kept.{held, Good}
+use Rattle.side.specs.Applying.{AfterEntries}
+use Rattle.level.specs.declared.Side.{Side}
+use Rattle.level.specs.declared.Level.{Level}
+use Rattle.level.specs.declared.Levels.{Levels}
 use Rattle.side.specs.declared.Applied.{Applied}
-use Rattle.side.proofs.Held.{held-length}
-use Rattle.side.proofs.Ranking.{all-afterMessage, sorted-ranked}
-use Rattle.side.proofs.Mapping.{shown-afterMessage, applied-levels, applied-count, applied-met}
+use Rattle.level.proofs.Held.{held-length}
+use Rattle.level.proofs.Ranking.{all-afterMessage, sorted-ranked}
+use Rattle.level.proofs.Mapping.{shown-afterMessage}
+use Rattle.side.proofs.Mapped.{applied-levels, applied-count, applied-met}
 use Rattle.checksum.specs.Carried.{Carries}
 use Rattle.loader.specs.Loaded.{editFor, editAt, rowsAt, Loaded}
 use Rattle.loader.specs.Reading.{entryFor, pieceFor}

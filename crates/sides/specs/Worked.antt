@@ -6,11 +6,13 @@ use mathlib.Core.Path.{_≡_}
 use lib.Dec.{eqb}
 use lib.ListN.{length, drop}
 use Rattle.decimal.specs.Decimal.{Within}
-use Rattle.side.specs.Level.{PriceLevel, levelSize, shown, shownPrice}
-use Rattle.side.specs.Side.{Edit, All, applyAll, afterMessage, met}
-use Rattle.side.specs.Kept.{keptIn, held, Good}
-use Rattle.side.specs.declared.Side.{Side}
-use Rattle.side.specs.declared.Levels.{Levels}
+use Rattle.level.specs.Level.{PriceLevel, shownPrice}
+use Rattle.level.specs.Words.{levelSize, shown}
+use Rattle.level.specs.Side.{Edit, applyAll}
+use Rattle.level.specs.Ranked.{All, afterMessage, met}
+use Rattle.level.specs.Kept.{keptIn, held, Good}
+use Rattle.level.specs.declared.Side.{Side}
+use Rattle.level.specs.declared.Levels.{Levels}
 use Rattle.side.specs.declared.Applied.{Applied}
 use Rattle.checksum.specs.Carried.{Carries}
 use Rattle.loader.specs.Loaded.{rowsAt, editAt}

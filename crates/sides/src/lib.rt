@@ -2,13 +2,13 @@
 ghost use mathlib.Core.Path.{_≡_};
 ghost use Prim.Native.Nat.{_≤_};
 ghost use lib.ListN.{length};
-ghost use Rattle.side.specs.Kept.{keptIn, held};
+ghost use Rattle.level.specs.Kept.{keptIn, held};
 ghost use Rattle.loader.specs.Reading.{Ready};
 ghost use Rattle.sides.specs.Worked.{Sound, editsAt, sideAfter, Worked};
+use level::MAX_WORDS;
+use level::Side;
 use loader::MAX_ENTRIES;
 use side::Applied;
-use side::MAX_WORDS;
-use side::Side;
 
 // The side after the entries in the array at `at`, of which there are `count`; `m` says that the dialect is M, else it is K. The side
 // is the first `kept` levels of the words, and then the first `left` of what is answered. No entries leave the words as they are.

@@ -10,13 +10,13 @@ use lib.Seq.{drop-cons, getD-take, length-take-le}
 use Rattle.decimal.specs.Ascii.{ascii}
 use Rattle.decimal.specs.Decimal.{text}
 use Rattle.decimal.proofs.Text.{length-text}
-use Rattle.side.specs.declared.Level.{Level}
-use Rattle.side.specs.declared.Levels.{Levels}
-use Rattle.side.specs.Level.{levelPrice, levelSize, shown}
-use Rattle.side.specs.Words.{levelsIn, noLevel}
-use Rattle.side.specs.Kept.{maxLevels, held}
-use Rattle.side.proofs.All.{all-at}
-use Rattle.side.proofs.Stored.{length-levels}
+use Rattle.level.specs.declared.Level.{Level}
+use Rattle.level.specs.declared.Levels.{Levels}
+use Rattle.level.specs.Words.{levelPrice, levelSize, shown}
+use Rattle.level.specs.Words.{levelsIn, noLevel}
+use Rattle.level.specs.Kept.{maxLevels, held}
+use Rattle.level.proofs.All.{all-at}
+use Rattle.level.proofs.Stored.{length-levels}
 use Rattle.writer.specs.Snapshot.{quoted, commaJoined, array, kEntry, mEntry}
 use Rattle.writer.specs.Parts.{entry, nextEntry, entries, Writable, WritableSide, maxEntry}
 

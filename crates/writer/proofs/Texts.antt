@@ -11,12 +11,12 @@ use Rattle.decimal.specs.Ascii.{ascii}
 use Rattle.decimal.specs.Digits.{written}
 use Rattle.decimal.specs.Decimal.{Within}
 use Rattle.decimal.proofs.Digits.{length-written}
-use Rattle.side.specs.declared.Side.{Side}
-use Rattle.side.specs.declared.Level.{Level}
-use Rattle.side.specs.declared.Levels.{Levels}
-use Rattle.side.specs.Level.{levelPrice, levelSize, shown}
-use Rattle.side.specs.Side.{All}
-use Rattle.side.specs.Kept.{held, Good}
+use Rattle.level.specs.declared.Side.{Side}
+use Rattle.level.specs.declared.Level.{Level}
+use Rattle.level.specs.declared.Levels.{Levels}
+use Rattle.level.specs.Words.{levelPrice, levelSize, shown}
+use Rattle.level.specs.Ranked.{All}
+use Rattle.level.specs.Kept.{held, Good}
 use Rattle.writer.specs.Snapshot.{quoted, commaJoined, array, kEntry, mEntry, kSnapshot, mSnapshot}
 use Rattle.writer.specs.Parts.{entry, entries, kText, mText, Writable, WritableSide, Sized}
 

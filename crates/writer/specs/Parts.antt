@@ -7,11 +7,11 @@ use lib.ListN.{length}
 use Rattle.decimal.specs.Ascii.{ascii}
 use Rattle.decimal.specs.Decimal.{Within}
 use Rattle.decimal.specs.Buffer.{overlaid}
-use Rattle.side.specs.declared.Level.{Level}
-use Rattle.side.specs.declared.Levels.{Levels}
-use Rattle.side.specs.Level.{levelPrice, levelSize, shown}
-use Rattle.side.specs.Side.{All}
-use Rattle.side.specs.Kept.{maxLevels, maxWords, held}
+use Rattle.level.specs.declared.Level.{Level}
+use Rattle.level.specs.declared.Levels.{Levels}
+use Rattle.level.specs.Words.{levelPrice, levelSize, shown}
+use Rattle.level.specs.Ranked.{All}
+use Rattle.level.specs.Kept.{maxLevels, maxWords, held}
 use Rattle.writer.specs.Snapshot.{commaJoined, kEntry, mEntry, kSnapshot, mSnapshot}
 
 -- ---- the parts

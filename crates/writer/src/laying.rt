@@ -5,9 +5,9 @@ ghost use Rattle.decimal.specs.Decimal.{number, text, Within};
 ghost use Rattle.writer.specs.Parts.{Room, Put, Writable, WritableSide, entry, nextEntry, entries};
 use decimal::Decimal;
 use decimal::Written;
-use side::Level;
-use side::Levels;
-use side::level_in;
+use level::Level;
+use level::Levels;
+use level::level_in;
 
 // Lays a text into a buffer at a position, and answers the position past it.
 pub fn lay(bytes: &[u8], buffer: &mut [u8], at: usize) -> usize
@@ -81,9 +81,9 @@ fn lay_entry(stamped: bool, level: Level, buffer: &mut [u8], at: usize) -> usize
     ensures { λ r. ⌜ Put (now (buffer .entry)) at (entry stamped level) (now (buffer .exit)) r ⌝ }
 {
     let before_price = lay(b"[\"", buffer, at);
-    let after_price = lay_decimal(side::price_of(level), buffer, before_price);
+    let after_price = lay_decimal(level::price_of(level), buffer, before_price);
     let before_size = lay(b"\",\"", buffer, after_price);
-    let after_size = lay_decimal(side::size_of(level), buffer, before_size);
+    let after_size = lay_decimal(level::size_of(level), buffer, before_size);
     if stamped {
         return lay(b"\",\"0.000000\"]", buffer, after_size);
     }

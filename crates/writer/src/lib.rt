@@ -11,9 +11,9 @@ ghost use mathlib.Core.List.{map};
 ghost use Prim.Native.Nat.{_≤_};
 ghost use lib.ListN.{length};
 ghost use Rattle.decimal.specs.Buffer.{Laid};
-ghost use Rattle.side.specs.declared.Side.the-variants.{Bids, Asks};
-ghost use Rattle.side.specs.Level.{shown};
-ghost use Rattle.side.specs.Kept.{held, Good};
+ghost use Rattle.level.specs.declared.Side.the-variants.{Bids, Asks};
+ghost use Rattle.level.specs.Words.{shown};
+ghost use Rattle.level.specs.Kept.{held, Good};
 ghost use Rattle.writer.specs.Snapshot.{kSnapshot, mSnapshot};
 ghost use Rattle.writer.specs.Parts.{kText, mText, Sized, maxName, WritableSide, Room, Put};
 use decimal::Written;
@@ -21,9 +21,9 @@ pub use laying::lay;
 use laying::lay_listed;
 pub use laying::lay_number;
 pub use laying::lay_whole;
+use level::Levels;
 use measuring::k_length;
 use measuring::m_length;
-use side::Levels;
 
 // Writes a K book.
 pub fn k_write(depth: usize, name: &[u8], bids: Levels, asks: Levels, buffer: &mut [u8]) -> Written

@@ -3,9 +3,9 @@ ghost use mathlib.Core.Path.{_≡_};
 ghost use Prim.Native.Nat.{_≤_};
 ghost use lib.ListN.{length};
 ghost use Rattle.writer.specs.Parts.{Writable, WritableSide, entry, entries, kText, mText, maxEntry, maxSide, maxName};
-use side::Level;
-use side::Levels;
-use side::level_in;
+use level::Level;
+use level::Levels;
+use level::level_in;
 
 // The bytes of an entry other than those of its price and size, with a timestamp and without.
 const STAMPED: usize = 18;
@@ -59,8 +59,8 @@ fn entry_length(stamped: bool, level: Level) -> usize
     requires { ⌜ Writable level ⌝ }
     ensures { λ r. ⌜ (r ≡ length (entry stamped level)) × (r ≤ maxEntry) ⌝ }
 {
-    let price = decimal::text_length(side::price_of(level));
-    let size = decimal::text_length(side::size_of(level));
+    let price = decimal::text_length(level::price_of(level));
+    let size = decimal::text_length(level::size_of(level));
     if stamped {
         return price + size + STAMPED;
     }

@@ -3,8 +3,8 @@ use Prim.Native.Nat.{ℕ}
 use mathlib.Core.Path.{_≡_, ap, ap₂, _∙_}
 use lib.ListN.{take}
 use Rattle.crc32_spec.specs.Crc.{start, finish}
-use Rattle.side.specs.Words.{levelsIn}
-use Rattle.side.specs.Kept.{held}
+use Rattle.level.specs.Words.{levelsIn}
+use Rattle.level.specs.Kept.{held}
 use Rattle.checksum.specs.Text.{kLevels}
 use Rattle.checksum.specs.Carried.{summed}
 use Rattle.checksum.proofs.Pieces.{take-min, k-summed}

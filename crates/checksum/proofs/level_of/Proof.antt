@@ -2,7 +2,7 @@
 use mathlib.Core.Path.{refl}
 use native.Mathlib.Omega.{arith}
 use Rattle.decimal.specs.Decimal.{number}
-use Rattle.side.specs.Level.{shown, levelPrice, levelSize}
+use Rattle.level.specs.Words.{shown, levelPrice, levelSize}
 use borrow.Author.Needs.{needs}
 use Rattle.checksum.proofs.level_of.Statement.{statement}
 use Rattle.checksum.proofs.level_of.Tie as tie

@@ -7,10 +7,10 @@ use native.Mathlib.Omega.{arith}
 use lib.ListN.{length, take, drop}
 use lib.Seq.{length-take-le}
 use Rattle.crc32_spec.specs.Crc.{finish}
-use Rattle.side.specs.declared.Level.{Level}
-use Rattle.side.specs.Level.{shown}
-use Rattle.side.specs.Words.{levelsIn}
-use Rattle.side.specs.Kept.{held}
+use Rattle.level.specs.declared.Level.{Level}
+use Rattle.level.specs.Words.{shown}
+use Rattle.level.specs.Words.{levelsIn}
+use Rattle.level.specs.Kept.{held}
 use Rattle.checksum.specs.Text.{mChecksum}
 use Rattle.checksum.specs.Carried.{summed}
 use Rattle.checksum.proofs.Pieces.{enough, beforeColon, m-empty, m-parts, m-summed, some-left, some-right}

@@ -3,8 +3,8 @@ use mathlib.Core.Path.{sym}
 use native.Mathlib.Omega.{arith}
 use lib.ListN.{take}
 use lib.Seq.{length-take-le}
-use Rattle.side.specs.Words.{entriesOf}
-use Rattle.side.specs.Kept.{keptIn}
+use Rattle.level.specs.Words.{entriesOf}
+use Rattle.level.specs.Kept.{keptIn}
 use Rattle.checksum_vectors.specs.Book.{FineSide}
 use Rattle.checksum_vectors.proofs.Fine.{applied-fine}
 use borrow.Author.Needs.{needs}

@@ -1,8 +1,8 @@
 -- `sum_of` meets its contract: each level carries the sum of its piece.
 use mathlib.Core.Path.{subst}
 use mathlib.Core.Bool.{Bool}
-use Rattle.side.specs.Side.{All}
-use Rattle.side.specs.Kept.{held}
+use Rattle.level.specs.Ranked.{All}
+use Rattle.level.specs.Kept.{held}
 use Rattle.checksum.specs.Carried.{Carries}
 use Rattle.checksum_vectors.specs.Book.{pieceFor}
 use borrow.Author.Needs.{needs}

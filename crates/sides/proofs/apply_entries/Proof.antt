@@ -5,7 +5,7 @@ use mathlib.Core.Path.{refl}
 use native.Mathlib.Omega.{arith}
 use lib.ListN.{length-take}
 use denote.Ref.{now}
-use Rattle.side.specs.Kept.{keptIn}
+use Rattle.level.specs.Kept.{keptIn}
 use borrow.Author.Needs.{needs}
 use Rattle.sides.proofs.apply_entries.Statement.{statement}
 use Rattle.sides.proofs.apply_entries.Tie as tie

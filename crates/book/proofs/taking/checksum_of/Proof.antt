@@ -2,7 +2,7 @@
 use Rattle.book.proofs.Settling.{k-sums, m-sums}
 use Rattle.reference.specs.Reference.{checksumOf}
 use denote.Ref.{now}
-use Rattle.side.specs.Kept.{keptIn}
+use Rattle.level.specs.Kept.{keptIn}
 use borrow.Author.Needs.{needs}
 use Rattle.book.proofs.taking.checksum_of.Statement.{statement}
 use Rattle.book.proofs.taking.checksum_of.Tie as tie

@@ -5,7 +5,7 @@ use mathlib.Core.List.{List, _++_}
 use borrow.Author.Needs.{needs}
 use Rattle.decimal.specs.Ascii.{ascii}
 use Rattle.decimal.specs.Decimal.{text}
-use Rattle.side.specs.Level.{levelPrice, levelSize}
+use Rattle.level.specs.Words.{levelPrice, levelSize}
 use Rattle.writer.specs.Parts.{entry}
 use Rattle.writer.proofs.Owed.{Whole, owed-as, owed-rest, owed-rest-as, room-first, room-first-as, room-all, put-last}
 use Rattle.writer.proofs.Entries.{closing, stamped-closing, plain-closing, entry-parts}

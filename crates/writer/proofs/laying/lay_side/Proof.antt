@@ -5,7 +5,7 @@ use mathlib.Core.List.{List, _++_}
 use native.Mathlib.Omega.{arith}
 use borrow.Author.Needs.{needs}
 use lib.ListN.{length, drop}
-use Rattle.side.specs.Kept.{held}
+use Rattle.level.specs.Kept.{held}
 use Rattle.writer.specs.Parts.{entry, nextEntry, entries, Writable}
 use Rattle.writer.proofs.Owed.{Whole, owed-as, owed-all, owed-rest-as, room-first-as, put-last, put-none}
 use Rattle.writer.proofs.Entries.{levelIn, led, led-next, led-end, writable-at, entries-some, entries-none}

@@ -5,8 +5,8 @@ use native.Mathlib.Nat.{zero-add}
 use native.Mathlib.Omega.{arith}
 use borrow.Author.Needs.{needs}
 use lib.ListN.{length, drop}
-use Rattle.side.specs.declared.Level.{Level}
-use Rattle.side.specs.Kept.{held}
+use Rattle.level.specs.declared.Level.{Level}
+use Rattle.level.specs.Kept.{held}
 use Rattle.writer.specs.Parts.{entry, entries, Writable, maxEntry, maxSide}
 use Rattle.writer.proofs.Entries.{led, length-led, led-end, writable-at, length-entries}
 use Rattle.writer.proofs.measuring.side_length.Statement.{statement}

@@ -1,0 +1,10 @@
+-- Laws of the definitions: the order of prices; what holds of all; ranking and applying; levels seen in another way; prices met; the words.
+pub mod Order
+pub mod All
+pub mod Ranking
+pub mod Lengths
+pub mod Mapping
+pub mod Meeting
+pub mod Packing
+pub mod Stored
+pub mod Held

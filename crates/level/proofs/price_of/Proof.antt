@@ -1,0 +1,17 @@
+-- `price_of` meets its contract: it has the two fields of the level's price.
+use mathlib.Core.Path.{refl}
+use borrow.Author.Needs.{needs}
+use Rattle.decimal.specs.Decimal.{number}
+use Rattle.level.specs.Words.{levelPrice}
+use Rattle.level.proofs.price_of.Statement.{statement}
+use Rattle.level.proofs.price_of.Tie as tie
+
+cast-t2 : tie.Need-cast-t2
+cast-t2 c = search needs
+
+returns : tie.Need-returns
+unfolding number levelPrice
+returns c = refl
+
+pub price-of-spec : {M : Type 1} → statement M
+price-of-spec = tie.close (tie.spec cast-t2 returns)

@@ -1,0 +1,79 @@
+-- `put_level` meets its contract: the three words from 3i on are the level's, which comes back out of them.
+use mathlib.Core.Path.{ap, _∙_}
+use mathlib.Core.List.{List}
+use native.Mathlib.Omega.{arith}
+use Prim.Native.Nat.{ℕ}
+use lib.ListN.{length-set, set}
+use Rattle.level.specs.declared.Level.{Level}
+use Rattle.level.specs.Words.{levelOf, levelsIn}
+use Rattle.level.proofs.Packing.{level-packed}
+use Rattle.level.proofs.Stored.{put-words}
+use borrow.Author.Needs.{needs}
+use Rattle.level.proofs.words.put_level.Statement.{statement}
+use Rattle.level.proofs.words.put_level.Tie as tie
+
+pack-requires : tie.Need-pack-requires
+pack-requires c κs = search needs
+
+mul-words : tie.Need-mul-words
+mul-words c = search needs
+
+mul-words-2 : tie.Need-mul-words-2
+mul-words-2 c = search needs
+
+element-write-words : tie.Need-element-write-words
+element-write-words c = search needs
+
+mul-words-3 : tie.Need-mul-words-3
+mul-words-3 c = search needs
+
+add-words : tie.Need-add-words
+add-words c = search needs
+
+mul-words-4 : tie.Need-mul-words-4
+mul-words-4 c = search needs
+
+element-write-words-2 : tie.Need-element-write-words-2
+element-write-words-2 c = search needs
+
+mul-words-5 : tie.Need-mul-words-5
+mul-words-5 c = search needs
+
+add-words-2 : tie.Need-add-words-2
+add-words-2 c = search needs
+
+mul-words-6 : tie.Need-mul-words-6
+mul-words-6 c = search needs
+
+element-write-words-3 : tie.Need-element-write-words-3
+element-write-words-3 c = search needs
+
+returns : tie.Need-returns
+returns c =
+    let a = c .before .args in
+    let p = c .pack .ensures in
+    record {
+      room = simp length-set (c .before .pre .1);
+      levels =
+          put-words (a .i) (a .words .now) (a .level .price) (a .level .size) (c .pack .result) (omega (arith, c .before .pre .0, c .before .pre .1))
+          ∙ ap (λ (l : Level). set (levelsIn (a .words .now)) (a .i) l)
+          (ap (levelOf (a .level .price) (a .level .size)) (p .word) ∙ level-packed (a .level) (p .fits));
+    }
+
+pub put-level-spec : {M : Type 1} → statement M
+put-level-spec =
+    tie.close
+    (tie.spec
+    pack-requires
+    mul-words
+    mul-words-2
+    element-write-words
+    mul-words-3
+    add-words
+    mul-words-4
+    element-write-words-2
+    mul-words-5
+    add-words-2
+    mul-words-6
+    element-write-words-3
+    returns)

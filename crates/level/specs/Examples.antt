@@ -1,0 +1,57 @@
+-- Worked examples of the definitions. Assumes nothing.
+use mathlib.Core.Path.{_≡_, refl}
+use mathlib.Core.Bool.{Bool, true, false}
+use mathlib.Core.List.{List, [], _∷_}
+use Prim.Native.Nat.{ℕ}
+use Rattle.decimal.specs.Decimal.{Number, value}
+use Rattle.level.specs.declared.Side.the-variants.{Bids, Asks}
+use Rattle.level.specs.Level.{PriceLevel, shownPrice}
+use Rattle.level.specs.Side.{Edit, sets, removes, names, namesTwice, without, apply, applyAll, place, ranked}
+use Rattle.level.specs.Ranked.{standing, afterMessage, meets, met}
+
+unfoldable decimal : ℕ → ℕ → Number
+decimal digits decimals = record { digits = digits; decimals = decimals }
+
+-- a price without decimals, and a size of 1
+unfoldable level : ℕ → PriceLevel
+level price = record { price = decimal price 0; size = decimal 1 0 }
+
+-- bids stand high to low, asks low to high
+bids-high-to-low : afterMessage shownPrice Bids 10 (sets (level 2) ∷ sets (level 3) ∷ sets (level 1) ∷ []) [] ≡ level 3 ∷ level 2 ∷ level 1 ∷ []
+unfolding level decimal afterMessage applyAll apply without ranked place value
+bids-high-to-low = refl
+
+asks-low-to-high : afterMessage shownPrice Asks 10 (sets (level 2) ∷ sets (level 3) ∷ sets (level 1) ∷ []) [] ≡ level 1 ∷ level 2 ∷ level 3 ∷ []
+unfolding level decimal afterMessage applyAll apply without ranked place value
+asks-low-to-high = refl
+
+-- cut after the whole message and never between entries: an insert and a removal at full depth keep the good level
+kept-at-full-depth : afterMessage shownPrice Bids 2 (sets (level 10) ∷ removes (decimal 10 0) ∷ []) (level 9 ∷ level 8 ∷ []) ≡ level 9 ∷ level 8 ∷ []
+unfolding level decimal afterMessage applyAll apply without ranked place value
+kept-at-full-depth = refl
+
+-- 0.5 is replaced by 0.50: one price, and the last text holds
+unfoldable half : ℕ → ℕ → PriceLevel
+half digits decimals = record { price = decimal digits decimals; size = decimal 1 0 }
+
+last-text-holds : afterMessage shownPrice Asks 10 (sets (half 50 2) ∷ []) (half 5 1 ∷ []) ≡ half 50 2 ∷ []
+unfolding half decimal afterMessage applyAll apply without ranked place value
+last-text-holds = refl
+
+one-price : namesTwice (decimal 5 1 ∷ decimal 7 0 ∷ decimal 50 2 ∷ []) ≡ true
+unfolding decimal namesTwice names value
+one-price = refl
+
+-- a snapshot that names a price twice meets the first of the two; a price that was removed in between is not met
+met-twice : met shownPrice (sets (half 5 1) ∷ sets (half 50 2) ∷ []) [] ≡ true
+unfolding half decimal met meets standing apply without value
+met-twice = refl
+
+not-met : met shownPrice (sets (half 5 1) ∷ removes (decimal 50 2) ∷ sets (half 50 2) ∷ []) [] ≡ false
+unfolding half decimal met meets standing apply without value
+not-met = refl
+
+-- removing an absent price does nothing
+absent-price : afterMessage shownPrice Asks 10 (removes (decimal 6 0) ∷ []) (level 5 ∷ level 7 ∷ []) ≡ level 5 ∷ level 7 ∷ []
+unfolding level decimal afterMessage applyAll apply without ranked place value
+absent-price = refl

@@ -1,0 +1,9 @@
+-- In reading order: a level; a side and what entries do to it; what contracts and laws say of sides; what an order of prices says; levels and entries in
+-- words; the side that the code keeps; worked examples.
+pub mod Level
+pub mod Side
+pub mod Ranked
+pub mod Order
+pub mod Words
+pub mod Kept
+pub mod Examples

@@ -1,0 +1,71 @@
+-- What contracts and laws say of sides and of entries. Assumes nothing: these are definitions.
+use Prim.Native.Nat.{ℕ}
+use mathlib.Core.Path.{_≡_}
+use mathlib.Core.Bool.{Bool, true, false, _||_}
+use mathlib.Core.List.{List, [], _∷_}
+use lib.Dec.{eqb}
+use lib.ListN.{take}
+use Rattle.decimal.specs.Decimal.{Number, value}
+use Rattle.level.specs.Side.{Edit, sets, removes, before, valueAt, apply, applyAll, ranked}
+use Rattle.level.specs.declared.Side.{Side}
+
+-- What holds of each element of a list.
+unfoldable pub All : {A : Type 0} → (A → Type 0) → List A → Type 0
+All P [] = Unit
+All P (x ∷ s) = P x × All P s
+
+-- ---- sides: levels of any kind A that have a price
+
+module _ {A : Type 0} (priceOf : A → Number) where
+  -- Does a level stand at this price?
+  unfoldable pub standing : ℕ → List A → Bool
+  standing v [] = false
+  standing v (x ∷ s) = eqb (valueAt priceOf x) v || standing v s
+
+  -- A side after a whole message: its entries applied, then the side ranked, then cut to the best `depth` levels.
+  unfoldable pub afterMessage : Side → ℕ → List (Edit A) → List A → List A
+  afterMessage side depth es s = take depth (ranked priceOf side (applyAll priceOf es s))
+
+  -- The same with the side ranked after each entry too.
+  unfoldable pub rankedEach : Side → List (Edit A) → List A → List A
+  rankedEach side [] s = ranked priceOf side s
+  rankedEach side (e ∷ es) s = rankedEach side es (ranked priceOf side (apply priceOf e s))
+
+  -- The price that an entry names.
+  unfoldable pub named : Edit A → Number
+  named (sets x) = priceOf x
+  named (removes p) = p
+
+  -- Does some entry set a level at a price where one stands by then?
+  unfoldable pub meets : Edit A → List A → Bool
+  meets (sets x) s = standing (valueAt priceOf x) s
+  meets (removes p) s = false
+
+  unfoldable pub met : List (Edit A) → List A → Bool
+  met [] s = false
+  met (e ∷ es) s = meets e s || met es (apply priceOf e s)
+
+  -- At most one level a price.
+  unfoldable pub Distinct : List A → Type 0
+  Distinct [] = Unit
+  Distinct (x ∷ s) = All (λ y. valueAt priceOf y ≡ valueAt priceOf x → ⊥) s × Distinct s
+
+  -- In order, best first, and at most one level a price.
+  unfoldable pub Sorted : Side → List A → Type 0
+  Sorted side [] = Unit
+  Sorted side (x ∷ s) = All (λ y. before side (valueAt priceOf x) (valueAt priceOf y) ≡ true) s × Sorted side s
+
+-- ---- entries whose levels are seen in another way
+
+unfoldable pub mapEdit : {A B : Type 0} → (A → B) → Edit A → Edit B
+mapEdit f (sets x) = sets (f x)
+mapEdit f (removes p) = removes p
+
+-- What holds of each level that entries set, and that each entry sets one.
+unfoldable pub IfSet : {A : Type 0} → (A → Type 0) → Edit A → Type 0
+IfSet P (sets x) = P x
+IfSet P (removes p) = Unit
+
+unfoldable pub IsSet : {A : Type 0} → Edit A → Type 0
+IsSet (sets x) = Unit
+IsSet (removes p) = ⊥

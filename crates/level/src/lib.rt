@@ -1,0 +1,152 @@
+// Price levels: a level as a side keeps it, in three words, and the entries of a message that set or remove one. A side has up to
+// 100 levels, best first: bids from high to low, asks from low to high, at most one level a price, prices compared by value.
+//
+//     let rest = level::pack(level);                              // a level's price, size and rest: three words
+//     level::level_at(Levels { words: bids, count: n }, 0)        // the best bid
+mod words;
+
+ghost use mathlib.Core.Path.{_≡_};
+ghost use Prim.Native.Nat.{_≤_};
+ghost use Rattle.decimal.specs.Decimal.{number};
+ghost use Rattle.level.specs.Ranked.{named};
+ghost use Rattle.level.specs.Order.{aheadOf, equalOf};
+ghost use Rattle.level.specs.Words.{levelPrice, levelSize, edit};
+ghost use Rattle.level.specs.Kept.{maxLevels, held, levelAt, Empty};
+use decimal::Decimal;
+use decimal::Order;
+pub use words::entry_at;
+pub use words::level_in;
+pub use words::pack;
+pub use words::put_level;
+
+// How many levels a side keeps.
+pub const MAX_LEVELS: usize = 100;
+
+// The words of a side that is kept: three a level.
+pub const MAX_WORDS: usize = 300;
+
+pub enum Side {
+    Bids,
+    Asks,
+}
+
+// A price and a size as they were sent: the digits as one whole number, and how many of them stand after the point.
+// `sum` and `length` are the CRC of the level's own piece of checksum text and its length, made by whoever makes the level.
+pub struct Level {
+    pub price: u64,
+    pub size: u64,
+    pub sum: u32,
+    pub length: u16,
+    pub price_decimals: u8,
+    pub size_decimals: u8,
+}
+
+pub enum Change {
+    Set(Level),
+    Remove(Decimal),
+}
+
+// An entry of a message.
+pub struct Entry {
+    pub side: Side,
+    pub change: Change,
+}
+
+// A side that is kept: `count` levels at the front of `words`, best first. A level is three words, since an array of numbers can
+// be lent, and one of structs cannot.
+pub struct Levels {
+    pub words: [u64; MAX_WORDS],
+    pub count: usize,
+}
+
+pub enum Found {
+    At(Level),
+    Nothing,
+}
+
+// What stands where no level was put yet.
+pub const EMPTY: Level = Level {
+    price: 0,
+    size: 0,
+    sum: 0,
+    length: 0,
+    price_decimals: 0,
+    size_decimals: 0,
+};
+
+// A side with no level.
+pub fn empty() -> Levels
+    ensures { λ r. ⌜ Empty r ⌝ }
+{
+    Levels {
+        words: [0; MAX_WORDS],
+        count: 0,
+    }
+}
+
+// The level at a place, counted from 0 as best.
+pub fn level_at(kept: Levels, i: usize) -> Found
+    requires { ⌜ kept .count ≤ maxLevels ⌝ }
+    ensures { λ r. ⌜ r ≡ levelAt i (held kept) ⌝ }
+{
+    if i < kept.count {
+        return Found::At(level_in(&kept.words, i));
+    }
+    Found::Nothing
+}
+
+pub fn price_of(level: Level) -> Decimal
+    ensures { λ r. ⌜ number r ≡ levelPrice level ⌝ }
+{
+    Decimal {
+        digits: level.price,
+        decimals: level.price_decimals as u64,
+    }
+}
+
+pub fn size_of(level: Level) -> Decimal
+    ensures { λ r. ⌜ number r ≡ levelSize level ⌝ }
+{
+    Decimal {
+        digits: level.size,
+        decimals: level.size_decimals as u64,
+    }
+}
+
+// The price that a change names.
+pub fn price_named(change: Change) -> Decimal
+    ensures { λ r. ⌜ number r ≡ named levelPrice (edit change) ⌝ }
+{
+    match change {
+        Change::Set(level) => price_of(level),
+        Change::Remove(price) => price,
+    }
+}
+
+// Does the first of two prices, in this order by value, stand nearer the top?
+pub fn is_ahead(side: Side, order: Order) -> bool
+    ensures { λ r. ⌜ r ≡ aheadOf side order ⌝ }
+{
+    match side {
+        Side::Bids => match order {
+            Order::Less => false,
+            Order::Equal => false,
+            Order::Greater => true,
+        },
+        Side::Asks => match order {
+            Order::Less => true,
+            Order::Equal => false,
+            Order::Greater => false,
+        },
+    }
+}
+
+pub fn is_equal(order: Order) -> bool
+    ensures { λ r. ⌜ r ≡ equalOf order ⌝ }
+{
+    match order {
+        Order::Less => false,
+        Order::Equal => true,
+        Order::Greater => false,
+    }
+}

@@ -1,0 +1,683 @@
+-- `work` meets its contract: the loop over the entries keeps `Turn`, that what is left of the message on the working side gives the same as the
+-- whole message on the side that was kept. The search brackets the price's place, and a shift is known in closed form.
+use mathlib.Core.Path.{_≡_, refl, sym, ap, _∙_, subst}
+use mathlib.Core.Logic.{⊎-elim}
+use mathlib.Core.Bool.{Bool, true, false, _||_, or-false, or-true}
+use mathlib.Core.List.{List}
+use Prim.Native.Nat.{ℕ, suc, _+_, _-_, _/_, _≤_, _<_}
+use native.Mathlib.Omega.{arith}
+use borrow.Author.Needs.{needs}
+use lib.ListN.{length, getD, set, take, drop, length-set}
+use lib.Seq.{length-take-le}
+use Rattle.decimal.specs.Decimal.{Number, number, value, Within}
+use Rattle.decimal.specs.declared.Decimal.{Decimal}
+use Rattle.level.specs.declared.Level.{Level}
+use Rattle.level.specs.declared.Entry.{Entry}
+use Rattle.level.specs.declared.Change.{Change}
+use Rattle.level.specs.declared.Change.the-variants.{Set, Remove}
+use Rattle.level.specs.Words.{levelPrice}
+use Rattle.level.specs.Side.{Edit, sets, removes, before, without, applyAll}
+use Rattle.level.specs.Ranked.{All, standing, afterMessage, named, meets, met, Sorted}
+use Rattle.level.specs.Words.{levelsIn, noLevel, edit, editOf, entryOf, entriesOf}
+use Rattle.level.specs.Kept.{keptIn, held, Good}
+use Rattle.side.specs.Applying.{Given, AfterEntries}
+use Rattle.level.proofs.All.{all-take}
+use Rattle.level.proofs.Ranking.{applyRanked, sorted-take}
+use Rattle.level.proofs.Meeting.{standing-at}
+use Rattle.side.proofs.Shift.{up, up-start, up-turn, length-up, down, down-start, down-turn, length-down}
+use Rattle.level.proofs.Stored.{length-levels}
+use Rattle.side.proofs.Find.{Bracket, bracket-start, bracket-up, bracket-down, past, past-same, past-none, bracket-head, set-new, set-same, remove-same, remove-none, none-standing}
+use Rattle.side.proofs.Entries.{Sound, SoundEdit, theEdit, Turn, turn-start, turn-step, sound-next, turn-levels, turn-count, turn-met, key, sound-at, ahead-at, same-at, other-at, copied, cut-short, cut-whole}
+use Rattle.side.proofs.work.Statement.{statement}
+use Rattle.side.proofs.work.Tie as tie
+
+abbrev Inv-load : tie.InvT-load
+Inv-load words kept side depth prices sizes rests levels₀ count i₀ levels i = (length levels ≡ 200) × (i ≤ count) × (take i levels ≡ take i (levelsIn words))
+
+abbrev μ-load : tie.MeasureT-load
+μ-load words kept side depth prices sizes rests levels₀ count i₀ levels i = count - i
+
+abbrev Inv-find : tie.InvT-find
+Inv-find words kept side depth prices sizes rests levels count i met k change price low₀ high₀ low high = Bracket levelPrice side (take count levels) (value (number price)) low high × (high ≤ count)
+
+abbrev μ-find : tie.MeasureT-find
+μ-find words kept side depth prices sizes rests levels count i met k change price low₀ high₀ low high = high - low
+
+abbrev Inv-down : tie.InvT-down
+Inv-down words kept side depth prices sizes rests levels₀ count i met k low high j₀ levels j = (levels ≡ down levels₀ low j) × (low ≤ j) × (j ≤ count)
+
+abbrev μ-down : tie.MeasureT-down
+μ-down words kept side depth prices sizes rests levels₀ count i met k low high j₀ levels j = count - j
+
+abbrev Inv-up : tie.InvT-up
+Inv-up words kept side depth prices sizes rests levels₀ count i met k low high new j₀ levels j = (levels ≡ up levels₀ j count) × (low ≤ j) × (j ≤ count)
+
+abbrev μ-up : tie.MeasureT-up
+μ-up words kept side depth prices sizes rests levels₀ count i met k low high new j₀ levels j = j
+
+abbrev Inv-entry : tie.InvT-entry
+Inv-entry words kept side depth prices sizes rests levels₀ count₀ i met₀ k₀ levels count met k = Turn side prices sizes rests (take count₀ levels₀) count₀ levels count met k
+
+abbrev μ-entry : tie.MeasureT-entry
+μ-entry words kept side depth prices sizes rests levels₀ count₀ i met₀ k₀ levels count met k = length prices - k
+
+abbrev Inv-cut : tie.InvT-cut
+Inv-cut words₀ kept depth prices sizes rests levels count i₀ met k left words i = (length words ≡ 300) × (i ≤ left) × (take i (levelsIn words) ≡ take i levels)
+
+abbrev μ-cut : tie.MeasureT-cut
+μ-cut words₀ kept depth prices sizes rests levels count i₀ met k left words i = left - i
+
+-- from the entry loop's head to the function's start
+abbrev St : tie.At-entry Inv-load μ-load Inv-find μ-find Inv-down μ-down Inv-up μ-up Inv-entry μ-entry Inv-cut μ-cut → tie.Start Inv-load μ-load Inv-find μ-find Inv-down μ-down Inv-up μ-up Inv-entry μ-entry Inv-cut μ-cut
+St e = e .before .before .before .before .before .before
+
+-- the side as it was loaded
+loaded : (c : tie.After-load Inv-load μ-load Inv-find μ-find Inv-down μ-down Inv-up μ-up Inv-entry μ-entry Inv-cut μ-cut) → take (c .before .before .before .before .before .args .kept) (c .before .load .levels) ≡ held (keptIn (c .before .before .before .before .before .args .words .now) (c .before .before .before .before .before .args .kept))
+unfolding held
+loaded c =
+    let e : c .before .load .i ≡ c .before .before .before .before .before .args .kept = omega arith in
+    rw e at (c .before .load .inv .2)
+
+-- in a turn, once the price of the entry is had
+module _ (v : tie.After-price-named Inv-load μ-load Inv-find μ-find Inv-down μ-down Inv-up μ-up Inv-entry μ-entry Inv-cut μ-cut) where
+  abbrev E : tie.At-entry Inv-load μ-load Inv-find μ-find Inv-down μ-down Inv-up μ-up Inv-entry μ-entry Inv-cut μ-cut
+  E = v .before .before .before .before .before .before
+
+  abbrev s : tie.Start Inv-load μ-load Inv-find μ-find Inv-down μ-down Inv-up μ-up Inv-entry μ-entry Inv-cut μ-cut
+  s = St E
+
+  abbrev g : Given (s .args .prices .now) (s .args .sizes .now) (s .args .rests .now)
+  g = s .pre .1
+
+  abbrev A : List Level
+  A = E .entry .levels
+
+  abbrev N : ℕ
+  N = E .entry .count
+
+  abbrev K : ℕ
+  K = E .entry .k
+
+  abbrev S : List Level
+  S = take N A
+
+  -- the value of the price, the entry's change, and what the definition has there
+  abbrev P : ℕ
+  P = value (number (v .price-named .result))
+
+  abbrev change : Change
+  change = v .before .entry-at .result .change
+
+  abbrev this : Edit Level
+  this = theEdit (s .args .prices .now) (s .args .sizes .now) (s .args .rests .now) K
+
+  abbrev more : K < length (s .args .prices .now)
+  more = v .before .before .before .before .before .entry-test .taken
+
+  long : length A ≡ 200
+  long = E .entry .inv .long
+
+  few : N < 200
+  few = omega (arith, s .pre .0 .few, g .few, E .entry .inv .few, more)
+
+  room : N ≤ length A
+  room = omega (arith, few, long)
+
+  side-long : length S ≡ N
+  side-long = length-take-le N A room
+
+  is-edit : edit change ≡ this
+  unfolding entryOf editOf
+  is-edit = ap (λ (e : Entry). edit (e .change)) (v .before .entry-at .ensures)
+
+  named-is : number (v .price-named .result) ≡ named levelPrice this
+  named-is = v .price-named .ensures ∙ ap (named levelPrice) is-edit
+
+  sound-price : Within (number (v .price-named .result))
+  sound-price =
+      subst Within (sym named-is)
+      (sound-next (s .args .side) (s .args .prices .now) (s .args .sizes .now) (s .args .rests .now) g (take (s .args .kept) (E .before .before .load .levels)) (s .args .kept)
+      A N K (E .entry .met) (E .entry .inv) more)
+
+  stepped : (c : List Level) (m : ℕ) (now : Bool) → length c ≡ 200 → m ≤ N + 1 → take m c ≡ applyRanked levelPrice (s .args .side) this S
+      → now ≡ (E .entry .met || meets levelPrice this S)
+      → Turn (s .args .side) (s .args .prices .now) (s .args .sizes .now) (s .args .rests .now) (take (s .args .kept) (E .before .before .load .levels)) (s .args .kept) c m now (K + 1)
+  stepped =
+      turn-step (s .args .side) (s .args .prices .now) (s .args .sizes .now) (s .args .rests .now) g (take (s .args .kept) (E .before .before .load .levels)) (s .args .kept)
+      A N K (E .entry .met) (E .entry .inv) more
+
+  -- the entry sets a level
+  module _ (new : Level) (is : change ≡ Set new) where
+    set-is : this ≡ sets new
+    unfolding edit
+    set-is = sym is-edit ∙ ap edit is
+
+    key-new : key new ≡ P
+    unfolding named
+    key-new = sym (ap value (named-is ∙ ap (named levelPrice) set-is))
+
+    after-set : (c : List Level) (m : ℕ) (now : Bool) → length c ≡ 200 → m ≤ N + 1 → take m c ≡ applyRanked levelPrice (s .args .side) (sets new) S
+        → now ≡ (E .entry .met || standing levelPrice P S)
+        → Turn (s .args .side) (s .args .prices .now) (s .args .sizes .now) (s .args .rests .now) (take (s .args .kept) (E .before .before .load .levels)) (s .args .kept) c m now (K + 1)
+    unfolding meets
+    after-set c m now l q e f =
+        stepped c m now l q (e ∙ ap (λ (x : Edit Level). applyRanked levelPrice (s .args .side) x S) (sym set-is))
+        (f ∙ ap (λ (x : ℕ). E .entry .met || standing levelPrice x S) (sym key-new) ∙ ap (λ (x : Edit Level). E .entry .met || meets levelPrice x S) (sym set-is))
+
+  -- it removes one
+  module _ (price : Decimal) (is : change ≡ Remove price) where
+    removal-is : this ≡ removes (number price)
+    unfolding edit
+    removal-is = sym is-edit ∙ ap edit is
+
+    key-removed : value (number price) ≡ P
+    unfolding named
+    key-removed = sym (ap value (named-is ∙ ap (named levelPrice) removal-is))
+
+    after-removal : (c : List Level) (m : ℕ) → length c ≡ 200 → m ≤ N + 1 → take m c ≡ without levelPrice P S
+        → Turn (s .args .side) (s .args .prices .now) (s .args .sizes .now) (s .args .rests .now) (take (s .args .kept) (E .before .before .load .levels)) (s .args .kept) c m (E .entry .met) (K + 1)
+    unfolding meets applyRanked
+    after-removal c m l q e =
+        stepped c m (E .entry .met) l q
+        (e ∙ ap (λ (x : ℕ). without levelPrice x S) (sym key-removed) ∙ ap (λ (x : Edit Level). applyRanked levelPrice (s .args .side) x S) (sym removal-is))
+        (sym (or-false (E .entry .met)) ∙ ap (λ (x : Edit Level). E .entry .met || meets levelPrice x S) (sym removal-is))
+
+-- no level is at the price: all from its place on is behind it
+behind-all : (c : tie.Joined2 Inv-load μ-load Inv-find μ-find Inv-down μ-down Inv-up μ-up Inv-entry μ-entry Inv-cut μ-cut) → All (λ x. before (s (c .before .before .before) .args .side) (P (c .before .before .before)) (key x) ≡ true) (drop (c .before .before .find .low) (S (c .before .before .before)))
+behind-all c =
+    let v = c .before .before .before in
+    let p = c .before .before .find in
+    let out : p .high ≤ p .low = c .before .find-test .left in
+    ⊎-elim
+    (λ w.
+    let lt : p .low < length (S v) = omega (arith, side-long v, w .0 .taken) in
+    past levelPrice (s v .args .side) (S v) (P v) (E v .entry .inv .sorted) (p .low) noLevel lt
+    (bracket-head levelPrice (s v .args .side) (S v) (P v) (p .low) (p .high) noLevel (p .inv .0) out lt)
+    (other-at (A v) (N v) (p .low) (w .0 .taken) (w .2 .result) (v .price-named .result) (w .3 .result) (w .2 .ensures) (w .3 .ensures) (w .4 .result) (w .4 .ensures) (w .5 .left)))
+    (λ w. past-none levelPrice (s v .args .side) (S v) (P v) (p .low) (omega (arith, side-long v, w .left)))
+    (c .if2 .came)
+
+-- the cut: no more than depth, and no more than there is
+cut-eq : (c : tie.Joined4 Inv-load μ-load Inv-find μ-find Inv-down μ-down Inv-up μ-up Inv-entry μ-entry Inv-cut μ-cut) → (take (c .if4 .left) (c .before .before .entry .levels) ≡ take (St (c .before .before) .args .depth) (take (c .before .before .entry .count) (c .before .before .entry .levels))) × (c .if4 .left ≤ St (c .before .before) .args .depth)
+cut-eq c =
+    let E = c .before .before in
+    let s = St E in
+    let d = s .args .depth in
+    let n = E .entry .count in
+    let l : n ≤ length (E .entry .levels) = omega (arith, E .entry .inv .long, E .entry .inv .few, E .entry .inv .within, s .pre .0 .few, s .pre .1 .few) in
+    ⊎-elim
+    (λ w.
+    let h : d < n = w .0 .taken in
+    let e : c .if4 .left ≡ d = w .1 in
+    (ap (λ (i : ℕ). take i (E .entry .levels)) e ∙ cut-short (E .entry .levels) n d (omega arith), omega arith))
+    (λ w.
+    let h : n ≤ d = w .0 .left in
+    let e : c .if4 .left ≡ n = w .1 in
+    (ap (λ (i : ℕ). take i (E .entry .levels)) e ∙ cut-whole (E .entry .levels) n d l h, omega arith))
+    (c .if4 .came)
+
+load-holds : tie.Need-load-holds Inv-load μ-load Inv-find μ-find Inv-down μ-down Inv-up μ-up Inv-entry μ-entry Inv-cut μ-cut
+load-holds c = (refl, omega arith, refl)
+
+level-in-requires : tie.Need-level-in-requires Inv-load μ-load Inv-find μ-find Inv-down μ-down Inv-up μ-up Inv-entry μ-entry Inv-cut μ-cut
+level-in-requires c κs = let s = c .before .before .before .before .before .before in (omega (arith, s .pre .0 .few), s .pre .0 .room)
+
+mul-levels : tie.Need-mul-levels Inv-load μ-load Inv-find μ-find Inv-down μ-down Inv-up μ-up Inv-entry μ-entry Inv-cut μ-cut
+mul-levels c = omega arith
+
+array-set-from-levels : tie.Need-array-set-from-levels Inv-load μ-load Inv-find μ-find Inv-down μ-down Inv-up μ-up Inv-entry μ-entry Inv-cut μ-cut
+array-set-from-levels c = omega arith
+
+add-i : tie.Need-add-i Inv-load μ-load Inv-find μ-find Inv-down μ-down Inv-up μ-up Inv-entry μ-entry Inv-cut μ-cut
+add-i c = omega arith
+
+load-less : tie.Need-load-less Inv-load μ-load Inv-find μ-find Inv-down μ-down Inv-up μ-up Inv-entry μ-entry Inv-cut μ-cut
+load-less c = omega arith
+
+load-again : tie.Need-load-again Inv-load μ-load Inv-find μ-find Inv-down μ-down Inv-up μ-up Inv-entry μ-entry Inv-cut μ-cut
+load-again c =
+    let s = c .before .before .before .before .before .before .before in
+    let p = c .before .before .before .load in
+    let l = length-levels 100 (s .args .words .now) (s .pre .0 .room) in (
+      simp length-set (p .inv .0),
+      omega arith,
+      ap (λ (x : Level). take (p .i + 1) (set (p .levels) (p .i) x)) (c .level-in .ensures)
+          ∙ copied (levelsIn (s .args .words .now)) (p .levels) (p .i) noLevel (omega (arith, l, s .pre .0 .few)) (omega (arith, s .pre .0 .few)) (p .inv .2),
+    )
+
+entry-holds : tie.Need-entry-holds Inv-load μ-load Inv-find μ-find Inv-down μ-down Inv-up μ-up Inv-entry μ-entry Inv-cut μ-cut
+entry-holds c =
+    let s = c .before .before .before .before .before in
+    turn-start (s .args .side) (s .args .prices .now) (s .args .sizes .now) (s .args .rests .now) (s .pre .1) (take (s .args .kept) (c .before .load .levels)) (s .args .kept)
+    (c .before .load .levels) (c .before .load .inv .0) refl (rw (loaded c) (s .pre .0 .sorted)) (rw (loaded c) (s .pre .0 .within))
+
+mul-entry-at : tie.Need-mul-entry-at Inv-load μ-load Inv-find μ-find Inv-down μ-down Inv-up μ-up Inv-entry μ-entry Inv-cut μ-cut
+mul-entry-at c = omega arith
+
+shared-slice-read-entry-at : tie.Need-shared-slice-read-entry-at Inv-load μ-load Inv-find μ-find Inv-down μ-down Inv-up μ-up Inv-entry μ-entry Inv-cut μ-cut
+shared-slice-read-entry-at c = omega arith
+
+mul-entry-at-2 : tie.Need-mul-entry-at-2 Inv-load μ-load Inv-find μ-find Inv-down μ-down Inv-up μ-up Inv-entry μ-entry Inv-cut μ-cut
+mul-entry-at-2 c = omega arith
+
+shared-slice-read-entry-at-2 : tie.Need-shared-slice-read-entry-at-2 Inv-load μ-load Inv-find μ-find Inv-down μ-down Inv-up μ-up Inv-entry μ-entry Inv-cut μ-cut
+shared-slice-read-entry-at-2 c = omega arith
+
+mul-entry-at-3 : tie.Need-mul-entry-at-3 Inv-load μ-load Inv-find μ-find Inv-down μ-down Inv-up μ-up Inv-entry μ-entry Inv-cut μ-cut
+mul-entry-at-3 c = omega arith
+
+shared-slice-read-entry-at-3 : tie.Need-shared-slice-read-entry-at-3 Inv-load μ-load Inv-find μ-find Inv-down μ-down Inv-up μ-up Inv-entry μ-entry Inv-cut μ-cut
+shared-slice-read-entry-at-3 c = omega arith
+
+entry-at-requires : tie.Need-entry-at-requires Inv-load μ-load Inv-find μ-find Inv-down μ-down Inv-up μ-up Inv-entry μ-entry Inv-cut μ-cut
+entry-at-requires c κs = search needs
+
+add-k : tie.Need-add-k Inv-load μ-load Inv-find μ-find Inv-down μ-down Inv-up μ-up Inv-entry μ-entry Inv-cut μ-cut
+add-k c = omega arith
+
+price-named-requires : tie.Need-price-named-requires Inv-load μ-load Inv-find μ-find Inv-down μ-down Inv-up μ-up Inv-entry μ-entry Inv-cut μ-cut
+price-named-requires c κs = search needs
+
+find-holds : tie.Need-find-holds Inv-load μ-load Inv-find μ-find Inv-down μ-down Inv-up μ-up Inv-entry μ-entry Inv-cut μ-cut
+find-holds c = (bracket-start levelPrice (s c .args .side) (S c) (P c) (N c) (side-long c), omega arith)
+
+sub-middle : tie.Need-sub-middle Inv-load μ-load Inv-find μ-find Inv-down μ-down Inv-up μ-up Inv-entry μ-entry Inv-cut μ-cut
+sub-middle c = omega arith
+
+add-middle : tie.Need-add-middle Inv-load μ-load Inv-find μ-find Inv-down μ-down Inv-up μ-up Inv-entry μ-entry Inv-cut μ-cut
+add-middle c = omega arith
+
+mul-level : tie.Need-mul-level Inv-load μ-load Inv-find μ-find Inv-down μ-down Inv-up μ-up Inv-entry μ-entry Inv-cut μ-cut
+mul-level c = omega arith
+
+array-copy-out-level : tie.Need-array-copy-out-level Inv-load μ-load Inv-find μ-find Inv-down μ-down Inv-up μ-up Inv-entry μ-entry Inv-cut μ-cut
+array-copy-out-level c = omega arith
+
+price-of-requires : tie.Need-price-of-requires Inv-load μ-load Inv-find μ-find Inv-down μ-down Inv-up μ-up Inv-entry μ-entry Inv-cut μ-cut
+price-of-requires c κs = search needs
+
+compare-requires : tie.Need-compare-requires Inv-load μ-load Inv-find μ-find Inv-down μ-down Inv-up μ-up Inv-entry μ-entry Inv-cut μ-cut
+compare-requires c κs =
+    let v = c .before .before .before .before in
+    let p = c .before .before .before .find in
+    (subst Within (sym (c .price-of .ensures)) (sound-at (A v) (N v) (p .low + (p .high - p .low) / 2) (omega (arith, p .inv .1)) (room v) (E v .entry .inv .sound)), sound-price v)
+
+is-ahead-requires : tie.Need-is-ahead-requires Inv-load μ-load Inv-find μ-find Inv-down μ-down Inv-up μ-up Inv-entry μ-entry Inv-cut μ-cut
+is-ahead-requires c κs = search needs
+
+add-low : tie.Need-add-low Inv-load μ-load Inv-find μ-find Inv-down μ-down Inv-up μ-up Inv-entry μ-entry Inv-cut μ-cut
+add-low c = omega arith
+
+find-less : tie.Need-find-less Inv-load μ-load Inv-find μ-find Inv-down μ-down Inv-up μ-up Inv-entry μ-entry Inv-cut μ-cut
+find-less c = omega arith
+
+find-again : tie.Need-find-again Inv-load μ-load Inv-find μ-find Inv-down μ-down Inv-up μ-up Inv-entry μ-entry Inv-cut μ-cut
+find-again c =
+    let v = c .before .before .before .before .before .before .before in
+    let p = c .before .before .before .before .before .before .find in
+    let lt : p .low < p .high = c .before .before .before .before .before .find-test .taken in
+    let m = p .low + (p .high - p .low) / 2 in (
+      bracket-up levelPrice (s v .args .side) (S v) (P v) (E v .entry .inv .sorted) m noLevel (omega (arith, side-long v)) (p .low) (p .high) (p .inv .0) (omega arith)
+          (ahead-at (A v) (N v) m (omega arith) (c .before .before .before .price-of .result) (v .price-named .result) (c .before .before .compare .result) (c .before .before .before .price-of .ensures) (c .before .before .compare .ensures) (s v .args .side) (c .before .is-ahead .result) true (c .before .is-ahead .ensures) (c .if1 .taken)),
+      omega arith,
+    )
+
+find-less-2 : tie.Need-find-less-2 Inv-load μ-load Inv-find μ-find Inv-down μ-down Inv-up μ-up Inv-entry μ-entry Inv-cut μ-cut
+find-less-2 c = omega arith
+
+find-again-2 : tie.Need-find-again-2 Inv-load μ-load Inv-find μ-find Inv-down μ-down Inv-up μ-up Inv-entry μ-entry Inv-cut μ-cut
+find-again-2 c =
+    let v = c .before .before .before .before .before .before .before in
+    let p = c .before .before .before .before .before .before .find in
+    let lt : p .low < p .high = c .before .before .before .before .before .find-test .taken in
+    let m = p .low + (p .high - p .low) / 2 in (
+      bracket-down levelPrice (s v .args .side) (S v) (P v) (E v .entry .inv .sorted) m noLevel (omega (arith, side-long v)) (p .low) (p .high) (p .inv .0) (omega arith)
+          (ahead-at (A v) (N v) m (omega arith) (c .before .before .before .price-of .result) (v .price-named .result) (c .before .before .compare .result) (c .before .before .before .price-of .ensures) (c .before .before .compare .ensures) (s v .args .side) (c .before .is-ahead .result) false (c .before .is-ahead .ensures) (c .if1 .left)),
+      omega arith,
+    )
+
+mul-level-2 : tie.Need-mul-level-2 Inv-load μ-load Inv-find μ-find Inv-down μ-down Inv-up μ-up Inv-entry μ-entry Inv-cut μ-cut
+mul-level-2 c = omega arith
+
+array-copy-out-level-2 : tie.Need-array-copy-out-level-2 Inv-load μ-load Inv-find μ-find Inv-down μ-down Inv-up μ-up Inv-entry μ-entry Inv-cut μ-cut
+array-copy-out-level-2 c = omega arith
+
+price-of-requires-2 : tie.Need-price-of-requires-2 Inv-load μ-load Inv-find μ-find Inv-down μ-down Inv-up μ-up Inv-entry μ-entry Inv-cut μ-cut
+price-of-requires-2 c κs = search needs
+
+compare-requires-2 : tie.Need-compare-requires-2 Inv-load μ-load Inv-find μ-find Inv-down μ-down Inv-up μ-up Inv-entry μ-entry Inv-cut μ-cut
+compare-requires-2 c κs =
+    let v = c .before .before .before .before .before in
+    (subst Within (sym (c .price-of2 .ensures)) (sound-at (A v) (N v) (c .before .before .before .before .find .low) (c .before .before .if2 .taken) (room v) (E v .entry .inv .sound)), sound-price v)
+
+is-equal-requires : tie.Need-is-equal-requires Inv-load μ-load Inv-find μ-find Inv-down μ-down Inv-up μ-up Inv-entry μ-entry Inv-cut μ-cut
+is-equal-requires c κs = search needs
+
+enum-known-change : tie.Need-enum-known-change Inv-load μ-load Inv-find μ-find Inv-down μ-down Inv-up μ-up Inv-entry μ-entry Inv-cut μ-cut
+enum-known-change c = search needs
+
+mul-levels-2 : tie.Need-mul-levels-2 Inv-load μ-load Inv-find μ-find Inv-down μ-down Inv-up μ-up Inv-entry μ-entry Inv-cut μ-cut
+mul-levels-2 c = omega (arith, few (c .before .before .before .before .before .before .before .before .before .before .before), c .before .before .before .before .before .before .before .before .if2 .taken)
+
+array-set-from-levels-2 : tie.Need-array-set-from-levels-2 Inv-load μ-load Inv-find μ-find Inv-down μ-down Inv-up μ-up Inv-entry μ-entry Inv-cut μ-cut
+array-set-from-levels-2 c = omega (arith, few (c .before .before .before .before .before .before .before .before .before .before .before), c .before .before .before .before .before .before .before .before .if2 .taken)
+
+enum-told : tie.Need-enum-told Inv-load μ-load Inv-find μ-find Inv-down μ-down Inv-up μ-up Inv-entry μ-entry Inv-cut μ-cut
+enum-told c = search needs
+
+sub-count : tie.Need-sub-count Inv-load μ-load Inv-find μ-find Inv-down μ-down Inv-up μ-up Inv-entry μ-entry Inv-cut μ-cut
+sub-count c = omega arith
+
+down-holds : tie.Need-down-holds Inv-load μ-load Inv-find μ-find Inv-down μ-down Inv-up μ-up Inv-entry μ-entry Inv-cut μ-cut
+down-holds c =
+    let v = c .before .before .before .before .before .before .before .before .before .before in
+    let p = c .before .before .before .before .before .before .before .before .before .find in
+    let lt : p .low < N v = c .before .before .before .before .before .before .before .if2 .taken in
+    (down-start (A v) (p .low) (omega (arith, room v)), omega arith, omega arith)
+
+add-levels : tie.Need-add-levels Inv-load μ-load Inv-find μ-find Inv-down μ-down Inv-up μ-up Inv-entry μ-entry Inv-cut μ-cut
+add-levels c = omega arith
+
+mul-levels-3 : tie.Need-mul-levels-3 Inv-load μ-load Inv-find μ-find Inv-down μ-down Inv-up μ-up Inv-entry μ-entry Inv-cut μ-cut
+mul-levels-3 c = omega arith
+
+array-copy-out-levels : tie.Need-array-copy-out-levels Inv-load μ-load Inv-find μ-find Inv-down μ-down Inv-up μ-up Inv-entry μ-entry Inv-cut μ-cut
+array-copy-out-levels c = omega arith
+
+mul-levels-4 : tie.Need-mul-levels-4 Inv-load μ-load Inv-find μ-find Inv-down μ-down Inv-up μ-up Inv-entry μ-entry Inv-cut μ-cut
+mul-levels-4 c = omega arith
+
+array-set-from-levels-3 : tie.Need-array-set-from-levels-3 Inv-load μ-load Inv-find μ-find Inv-down μ-down Inv-up μ-up Inv-entry μ-entry Inv-cut μ-cut
+array-set-from-levels-3 c = omega arith
+
+add-j : tie.Need-add-j Inv-load μ-load Inv-find μ-find Inv-down μ-down Inv-up μ-up Inv-entry μ-entry Inv-cut μ-cut
+add-j c = omega arith
+
+down-less : tie.Need-down-less Inv-load μ-load Inv-find μ-find Inv-down μ-down Inv-up μ-up Inv-entry μ-entry Inv-cut μ-cut
+down-less c = omega arith
+
+down-again : tie.Need-down-again Inv-load μ-load Inv-find μ-find Inv-down μ-down Inv-up μ-up Inv-entry μ-entry Inv-cut μ-cut
+down-again c =
+    let v = c .before .before .before .before .before .before .before .before .before .before .before .before .before in
+    let p = c .before .before .down in
+    let t : p .j < N v - 1 = c .before .down-test .taken in
+    (down-turn (A v) (p .levels) (c .before .before .before .before .before .before .before .before .before .before .before .before .find .low) (p .j) noLevel (p .inv .1) (omega (arith, room v)) (p .inv .0), omega arith, omega arith)
+
+entry-less : tie.Need-entry-less Inv-load μ-load Inv-find μ-find Inv-down μ-down Inv-up μ-up Inv-entry μ-entry Inv-cut μ-cut
+entry-less c = omega arith
+
+entry-again : tie.Need-entry-again Inv-load μ-load Inv-find μ-find Inv-down μ-down Inv-up μ-up Inv-entry μ-entry Inv-cut μ-cut
+entry-again c =
+    let v = c .before .before .before .before .before .before .before .before .before .before .before in
+    let p = c .before .before .before .before .before .before .before .before .before .before .find in
+    let lt : p .low < N v = c .before .before .before .before .before .before .before .before .if2 .taken in
+    let ls : p .low < length (S v) = omega (arith, side-long v) in
+    let same : key (getD (S v) (p .low) noLevel) ≡ P v = same-at (A v) (N v) (p .low) lt (c .before .before .before .before .before .before .price-of2 .result) (v .price-named .result) (c .before .before .before .before .before .compare2 .result) (c .before .before .before .before .before .before .price-of2 .ensures) (c .before .before .before .before .before .compare2 .ensures) (c .before .before .before .before .is-equal .result) (c .before .before .before .before .is-equal .ensures) (c .before .before .before .if3 .taken) in
+    let high = past-same levelPrice (s v .args .side) (S v) (P v) (E v .entry .inv .sorted) (p .low) noLevel ls same in
+    let new = c .before .change .given .0 .0 in
+    let is = c .before .change .given .1 in
+    after-set v new is (set (A v) (p .low) new) (N v) true (simp length-set (long v)) (omega arith)
+    (set-same levelPrice (s v .args .side) (A v) (N v) (p .low) (room v) (omega arith) (P v) (p .inv .0 .ahead) noLevel lt same high new (key-new v new is))
+    (sym (ap (λ (x : Bool). E v .entry .met || x) (standing-at levelPrice (P v) (S v) (p .low) noLevel ls same) ∙ or-true (E v .entry .met)))
+
+entry-less-2 : tie.Need-entry-less-2 Inv-load μ-load Inv-find μ-find Inv-down μ-down Inv-up μ-up Inv-entry μ-entry Inv-cut μ-cut
+entry-less-2 c = omega arith
+
+entry-again-2 : tie.Need-entry-again-2 Inv-load μ-load Inv-find μ-find Inv-down μ-down Inv-up μ-up Inv-entry μ-entry Inv-cut μ-cut
+entry-again-2 c =
+    let v = c .before .before .before .before .before .before .before .before .before .before .before .before in
+    let p = c .before .before .before .before .before .before .before .before .before .before .before .find in
+    let lt : p .low < N v = c .before .before .before .before .before .before .before .before .before .if2 .taken in
+    let ls : p .low < length (S v) = omega (arith, side-long v) in
+    let same : key (getD (S v) (p .low) noLevel) ≡ P v = same-at (A v) (N v) (p .low) lt (c .before .before .before .before .before .before .before .price-of2 .result) (v .price-named .result) (c .before .before .before .before .before .before .compare2 .result) (c .before .before .before .before .before .before .before .price-of2 .ensures) (c .before .before .before .before .before .before .compare2 .ensures) (c .before .before .before .before .before .is-equal .result) (c .before .before .before .before .before .is-equal .ensures) (c .before .before .before .before .if3 .taken) in
+    let high = past-same levelPrice (s v .args .side) (S v) (P v) (E v .entry .inv .sorted) (p .low) noLevel ls same in
+    let q = c .before .down in
+    let j : q .j ≡ N v - 1 = omega (arith, q .inv .2, c .down-test .left) in
+    after-removal v (c .before .before .enum-told .given .0 .0) (c .before .before .enum-told .given .1) (q .levels) (N v - 1) (ap length (q .inv .0) ∙ length-down (A v) (p .low) (q .j) (q .inv .1) (omega (arith, room v)) ∙ long v) (omega arith)
+    (ap (take (N v - 1)) (q .inv .0 ∙ ap (down (A v) (p .low)) j)
+    ∙ remove-same levelPrice (s v .args .side) (A v) (N v) (p .low) (room v) (omega arith) (P v) (p .inv .0 .ahead) noLevel lt same high (N v - 1) (omega arith))
+
+enum-known-change-2 : tie.Need-enum-known-change-2 Inv-load μ-load Inv-find μ-find Inv-down μ-down Inv-up μ-up Inv-entry μ-entry Inv-cut μ-cut
+enum-known-change-2 c = search needs
+
+up-holds : tie.Need-up-holds Inv-load μ-load Inv-find μ-find Inv-down μ-down Inv-up μ-up Inv-entry μ-entry Inv-cut μ-cut
+up-holds c =
+    let v = c .before .before .before .before .before .before in
+    let p = c .before .before .before .before .before .find in
+    (up-start (A v) (N v) (omega (arith, few v, long v)), omega (arith, p .inv .1, p .inv .0 .low-le), omega arith)
+
+sub-levels : tie.Need-sub-levels Inv-load μ-load Inv-find μ-find Inv-down μ-down Inv-up μ-up Inv-entry μ-entry Inv-cut μ-cut
+sub-levels c = omega arith
+
+mul-levels-5 : tie.Need-mul-levels-5 Inv-load μ-load Inv-find μ-find Inv-down μ-down Inv-up μ-up Inv-entry μ-entry Inv-cut μ-cut
+mul-levels-5 c = omega arith
+
+array-copy-out-levels-2 : tie.Need-array-copy-out-levels-2 Inv-load μ-load Inv-find μ-find Inv-down μ-down Inv-up μ-up Inv-entry μ-entry Inv-cut μ-cut
+array-copy-out-levels-2 c = omega arith
+
+mul-levels-6 : tie.Need-mul-levels-6 Inv-load μ-load Inv-find μ-find Inv-down μ-down Inv-up μ-up Inv-entry μ-entry Inv-cut μ-cut
+mul-levels-6 c = omega arith
+
+array-set-from-levels-4 : tie.Need-array-set-from-levels-4 Inv-load μ-load Inv-find μ-find Inv-down μ-down Inv-up μ-up Inv-entry μ-entry Inv-cut μ-cut
+array-set-from-levels-4 c = omega arith
+
+sub-j : tie.Need-sub-j Inv-load μ-load Inv-find μ-find Inv-down μ-down Inv-up μ-up Inv-entry μ-entry Inv-cut μ-cut
+sub-j c = omega arith
+
+up-less : tie.Need-up-less Inv-load μ-load Inv-find μ-find Inv-down μ-down Inv-up μ-up Inv-entry μ-entry Inv-cut μ-cut
+up-less c = omega arith
+
+up-again : tie.Need-up-again Inv-load μ-load Inv-find μ-find Inv-down μ-down Inv-up μ-up Inv-entry μ-entry Inv-cut μ-cut
+up-again c =
+    let v = c .before .before .before .before .before .before .before .before .before in
+    let p = c .before .before .up in
+    let t : c .before .before .before .before .before .before .before .before .find .low < p .j = c .before .up-test .taken in
+    (up-turn (A v) (p .levels) (p .j) (N v) noLevel (omega arith) (p .inv .2) (omega (arith, few v, long v)) (p .inv .0), omega arith, omega arith)
+
+mul-levels-7 : tie.Need-mul-levels-7 Inv-load μ-load Inv-find μ-find Inv-down μ-down Inv-up μ-up Inv-entry μ-entry Inv-cut μ-cut
+mul-levels-7 c = omega arith
+
+array-set-from-levels-5 : tie.Need-array-set-from-levels-5 Inv-load μ-load Inv-find μ-find Inv-down μ-down Inv-up μ-up Inv-entry μ-entry Inv-cut μ-cut
+array-set-from-levels-5 c = omega arith
+
+add-count : tie.Need-add-count Inv-load μ-load Inv-find μ-find Inv-down μ-down Inv-up μ-up Inv-entry μ-entry Inv-cut μ-cut
+add-count c = omega arith
+
+entry-less-3 : tie.Need-entry-less-3 Inv-load μ-load Inv-find μ-find Inv-down μ-down Inv-up μ-up Inv-entry μ-entry Inv-cut μ-cut
+entry-less-3 c = omega arith
+
+entry-again-3 : tie.Need-entry-again-3 Inv-load μ-load Inv-find μ-find Inv-down μ-down Inv-up μ-up Inv-entry μ-entry Inv-cut μ-cut
+entry-again-3 c =
+    let v = c .before .before .before .before .before .before .before .before in
+    let p = c .before .before .before .before .before .before .before .find in
+    let le : p .low ≤ N v = omega (arith, p .inv .1, p .inv .0 .low-le) in
+    let high = behind-all (c .before .before .before .before .before) in
+    let q = c .before .up in
+    let j : q .j ≡ p .low = omega (arith, q .inv .1, c .up-test .left) in
+    let new = c .before .before .before .change2 .given .0 .0 in
+    let is = c .before .before .before .change2 .given .1 in
+    after-set v new is (set (q .levels) (p .low) new) (N v + 1) (E v .entry .met)
+    (simp length-set (ap length (q .inv .0) ∙ length-up (A v) (q .j) (N v) (q .inv .2) (omega (arith, few v, long v)) ∙ long v)) (omega arith)
+    (ap (λ (r : List Level). take (N v + 1) (set r (p .low) new)) (q .inv .0 ∙ ap (λ (i : ℕ). up (A v) i (N v)) j)
+    ∙ set-new levelPrice (s v .args .side) (A v) (N v) (p .low) (room v) le (P v) (p .inv .0 .ahead) new (omega (arith, few v, long v)) (key-new v new is) high)
+    (sym (ap (λ (x : Bool). E v .entry .met || x) (none-standing levelPrice (s v .args .side) (A v) (N v) (p .low) (room v) le (P v) (p .inv .0 .ahead) high) ∙ or-false (E v .entry .met)))
+
+enum-told-2 : tie.Need-enum-told-2 Inv-load μ-load Inv-find μ-find Inv-down μ-down Inv-up μ-up Inv-entry μ-entry Inv-cut μ-cut
+enum-told-2 c = search needs
+
+entry-less-4 : tie.Need-entry-less-4 Inv-load μ-load Inv-find μ-find Inv-down μ-down Inv-up μ-up Inv-entry μ-entry Inv-cut μ-cut
+entry-less-4 c = omega arith
+
+entry-again-4 : tie.Need-entry-again-4 Inv-load μ-load Inv-find μ-find Inv-down μ-down Inv-up μ-up Inv-entry μ-entry Inv-cut μ-cut
+entry-again-4 c =
+    let v = c .before .before .before .before .before in
+    let p = c .before .before .before .before .find in
+    let le : p .low ≤ N v = omega (arith, p .inv .1, p .inv .0 .low-le) in
+    let high = behind-all (c .before .before) in
+    after-removal v (c .enum-told2 .given .0 .0) (c .enum-told2 .given .1) (A v) (N v) (long v) (omega arith)
+    (remove-none levelPrice (s v .args .side) (A v) (N v) (p .low) (room v) le (P v) (p .inv .0 .ahead) high)
+
+cut-holds : tie.Need-cut-holds Inv-load μ-load Inv-find μ-find Inv-down μ-down Inv-up μ-up Inv-entry μ-entry Inv-cut μ-cut
+cut-holds c = (c .before .before .before .before .before .before .before .before .pre .0 .room, omega arith, refl)
+
+mul-level-3 : tie.Need-mul-level-3 Inv-load μ-load Inv-find μ-find Inv-down μ-down Inv-up μ-up Inv-entry μ-entry Inv-cut μ-cut
+mul-level-3 c = omega (arith, cut-eq (c .before .before) .1, c .before .before .before .before .before .before .before .before .before .before .pre .2)
+
+array-copy-out-level-3 : tie.Need-array-copy-out-level-3 Inv-load μ-load Inv-find μ-find Inv-down μ-down Inv-up μ-up Inv-entry μ-entry Inv-cut μ-cut
+array-copy-out-level-3 c = omega (arith, cut-eq (c .before .before) .1, c .before .before .before .before .before .before .before .before .before .before .pre .2)
+
+put-level-requires : tie.Need-put-level-requires Inv-load μ-load Inv-find μ-find Inv-down μ-down Inv-up μ-up Inv-entry μ-entry Inv-cut μ-cut
+put-level-requires c κs = (omega (arith, cut-eq (c .before .before .before .before) .1, c .before .before .before .before .before .before .before .before .before .before .before .before .pre .2, c .before .before .cut-test .taken), c .before .before .before .cut .inv .0)
+
+add-i-2 : tie.Need-add-i-2 Inv-load μ-load Inv-find μ-find Inv-down μ-down Inv-up μ-up Inv-entry μ-entry Inv-cut μ-cut
+add-i-2 c = omega (arith, cut-eq (c .before .before .before .before .before) .1, c .before .before .before .before .before .before .before .before .before .before .before .before .before .pre .2)
+
+cut-less : tie.Need-cut-less Inv-load μ-load Inv-find μ-find Inv-down μ-down Inv-up μ-up Inv-entry μ-entry Inv-cut μ-cut
+cut-less c = omega arith
+
+cut-again : tie.Need-cut-again Inv-load μ-load Inv-find μ-find Inv-down μ-down Inv-up μ-up Inv-entry μ-entry Inv-cut μ-cut
+cut-again c =
+    let p = c .before .before .before .before .cut in
+    let q = cut-eq (c .before .before .before .before .before) in
+    let E = c .before .before .before .before .before .before .before in
+    let t : p .i < c .before .before .before .before .before .if4 .left = c .before .before .before .cut-test .taken in
+    let d : c .before .before .before .before .before .before .before .before .before .before .before .before .before .args .depth ≤ 100 = c .before .before .before .before .before .before .before .before .before .before .before .before .before .pre .2 in
+    let l : length (E .entry .levels) ≡ 200 = E .entry .inv .long in
+    let w = c .put-level .ensures in (
+      w .room,
+      omega arith,
+      ap (take (p .i + 1)) (w .levels)
+          ∙ copied (E .entry .levels) (levelsIn (p .words)) (p .i) noLevel (omega (arith, q .1)) (omega (arith, q .1, length-levels 100 (p .words) (p .inv .0))) (p .inv .2),
+    )
+
+returns : tie.Need-returns Inv-load μ-load Inv-find μ-find Inv-down μ-down Inv-up μ-up Inv-entry μ-entry Inv-cut μ-cut
+unfolding held
+returns c =
+    let p = c .before .cut in
+    let q = cut-eq (c .before .before) in
+    let E = c .before .before .before .before in
+    let s = St E in
+    let es = entriesOf (s .args .prices .now) (s .args .sizes .now) (s .args .rests .now) in
+    let i : p .i ≡ c .before .before .if4 .left = omega (arith, p .inv .1, c .cut-test .left) in
+    let o = loaded (E .before) in
+    let eq = (rw i at (p .inv .2)) ∙ q .0 in
+    let l : E .entry .count ≤ length (E .entry .levels) = omega (arith, E .entry .inv .long, E .entry .inv .few, E .entry .inv .within, s .pre .0 .few, s .pre .1 .few) in
+    let kept = take (s .args .kept) (E .before .before .load .levels) in
+    let past = c .before .before .before .entry-test .left in
+    let sorted : Sorted levelPrice (s .args .side) kept = rw o (s .pre .0 .sorted) in
+    record {
+      good = record {
+        few = omega (arith, q .1, s .pre .2);
+        room = p .inv .0;
+        sorted = rw eq (sorted-take levelPrice (s .args .side) (s .args .depth) (take (E .entry .count) (E .entry .levels)) (E .entry .inv .sorted));
+        within = rw eq (all-take Sound (s .args .depth) (take (E .entry .count) (E .entry .levels)) (E .entry .inv .sound));
+      };
+      levels =
+          eq ∙ turn-levels (s .args .side) (s .args .prices .now) (s .args .sizes .now) (s .args .rests .now) (s .pre .1) kept (s .args .kept)
+          (E .entry .levels) (E .entry .count) (E .entry .k) (E .entry .met) (E .entry .inv) past sorted (s .args .depth)
+          ∙ ap (afterMessage levelPrice (s .args .side) (s .args .depth) es) o;
+      count =
+          turn-count (s .args .side) (s .args .prices .now) (s .args .sizes .now) (s .args .rests .now) (s .pre .1) kept (s .args .kept)
+          (E .entry .levels) (E .entry .count) (E .entry .k) (E .entry .met) (E .entry .inv) past sorted l
+          ∙ ap (λ (x : List Level). length (applyAll levelPrice es x)) o;
+      met =
+          turn-met (s .args .side) (s .args .prices .now) (s .args .sizes .now) (s .args .rests .now) (s .pre .1) kept (s .args .kept)
+          (E .entry .levels) (E .entry .count) (E .entry .k) (E .entry .met) (E .entry .inv) past sorted
+          ∙ ap (met levelPrice es) o;
+    }
+
+pub work-spec : {M : Type 1} → statement M
+work-spec =
+    tie.close
+    (tie.spec
+    Inv-load
+    μ-load
+    Inv-find
+    μ-find
+    Inv-down
+    μ-down
+    Inv-up
+    μ-up
+    Inv-entry
+    μ-entry
+    Inv-cut
+    μ-cut
+    load-holds
+    level-in-requires
+    mul-levels
+    array-set-from-levels
+    add-i
+    load-less
+    load-again
+    entry-holds
+    mul-entry-at
+    shared-slice-read-entry-at
+    mul-entry-at-2
+    shared-slice-read-entry-at-2
+    mul-entry-at-3
+    shared-slice-read-entry-at-3
+    entry-at-requires
+    add-k
+    price-named-requires
+    find-holds
+    sub-middle
+    add-middle
+    mul-level
+    array-copy-out-level
+    price-of-requires
+    compare-requires
+    is-ahead-requires
+    add-low
+    find-less
+    find-again
+    find-less-2
+    find-again-2
+    mul-level-2
+    array-copy-out-level-2
+    price-of-requires-2
+    compare-requires-2
+    is-equal-requires
+    enum-known-change
+    mul-levels-2
+    array-set-from-levels-2
+    enum-told
+    sub-count
+    down-holds
+    add-levels
+    mul-levels-3
+    array-copy-out-levels
+    mul-levels-4
+    array-set-from-levels-3
+    add-j
+    down-less
+    down-again
+    entry-less
+    entry-again
+    entry-less-2
+    entry-again-2
+    enum-known-change-2
+    up-holds
+    sub-levels
+    mul-levels-5
+    array-copy-out-levels-2
+    mul-levels-6
+    array-set-from-levels-4
+    sub-j
+    up-less
+    up-again
+    mul-levels-7
+    array-set-from-levels-5
+    add-count
+    entry-less-3
+    entry-again-3
+    enum-told-2
+    entry-less-4
+    entry-again-4
+    cut-holds
+    mul-level-3
+    array-copy-out-level-3
+    put-level-requires
+    add-i-2
+    cut-less
+    cut-again
+    returns)

@@ -7,6 +7,7 @@ use Prim.Native.Nat.{ℕ, zero, suc}
 use native.Mathlib.Omega.{arith}
 use lib.Dec.{lit<}
 use lib.ListN.{length, length-map}
+use Rattle.lifecycle.specs.Lifecycle.{statusOf, firstState, answers, refusalOf}
 use Rattle.level.proofs.Held.{held-length}
 use Rattle.decimal.specs.Decimal.{Number, number}
 use Rattle.decimal.specs.declared.Decimal.{Decimal}
@@ -32,11 +33,11 @@ use Rattle.answer.specs.declared.Answer.the-variants.{Taken, Shut, NoSnapshot, 
 use Rattle.reference.specs.Reference as r·
 use Rattle.reference.specs.Reference.{Status, shut as shut′, waiting, live, isShut, Reference, opened, stands, asked, ifTaken, Place, standing, absent, placeAt, placeAnswer, placeLevel, noLevel, sideOf, askedLevel, levelAsked, counts, level, amount, does, howMany, levelAt, whichNumber, howManyUpdates}
 use Rattle.settings.specs.Settings.{isM}
-use Rattle.book.specs.Shown.{statusOf, shows, Good, Opened, AnswersCounts, AnswersLevel, AnswersAmount}
-use Rattle.book.specs.Asking.{firstState, answers, refusalOf, levelIn}
+use Rattle.book.specs.Shown.{shows, Good, Opened, AnswersCounts, AnswersLevel, AnswersAmount}
+use Rattle.book.specs.Asking.{levelIn}
 use Rattle.reference.specs.declared.Scope.{Scope}
 use Rattle.reference.specs.declared.Scope.the-variants.{Current, LastGood}
-use Rattle.book.specs.declared.State.{State}
+use Rattle.lifecycle.specs.declared.State.{State}
 use Rattle.book.specs.declared.Book.{Book}
 
 -- ---- whether a question is answered

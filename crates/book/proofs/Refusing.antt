@@ -6,6 +6,7 @@ use mathlib.Core.Bool.{Bool, true, false, true≢false, _&&_, _||_, not, cond}
 use Prim.Native.Nat.{ℕ}
 use native.Mathlib.Omega.{arith}
 use lib.Dec.{eqb, leb}
+use Rattle.lifecycle.specs.Lifecycle.{statusOf, refusedStanding, judgedUpdate}
 use Rattle.settings.specs.declared.Dialect.{Dialect}
 use Rattle.layout.specs.Layout.{Printed, printed, unprinted, Layout}
 use Rattle.layout.specs.Told.{isPrinted, sumOf}
@@ -21,16 +22,16 @@ use Rattle.layout.specs.Told.{outlineOf}
 use Rattle.decimal.specs.Digits.{reads}
 use Rattle.reference.specs.Reference.{isShut, isLive, Reference, checksumOf, namesPriceTwice, lacksSnapshot, isOld, hasTooMany, differs, hasWrongChecksum, verdict, After, taken, setWaiting, refusedBy, answered, hearing, hear}
 use Rattle.settings.specs.Settings.{isM}
-use Rattle.book.specs.Shown.{statusOf, shows, Good, Told}
-use Rattle.book.specs.Taking.{refusedStanding, refusedStep, judgedUpdate, weighed}
-use Rattle.book.specs.declared.State.{State}
-use Rattle.book.specs.declared.State.the-variants.{Waiting}
+use Rattle.book.specs.Shown.{shows, Good, Told}
+use Rattle.book.specs.Taking.{refusedStep, weighed}
+use Rattle.lifecycle.specs.declared.State.{State}
+use Rattle.lifecycle.specs.declared.State.the-variants.{Waiting}
 use Rattle.level.specs.Words.{shown}
 use Rattle.level.specs.Kept.{held}
 use Rattle.level.specs.declared.Levels.{Levels}
 use borrow.Author.Tests.{eq-eqb, ne-eqb}
 use Rattle.book.specs.declared.Book.{Book}
-use Rattle.book.specs.declared.Standing.{Standing}
+use Rattle.lifecycle.specs.declared.Standing.{Standing}
 use Rattle.book.specs.declared.Step.{Step}
 
 -- ---- a refusal
@@ -52,15 +53,6 @@ module _ (b : Book) (g : Good b) (u : isShut (statusOf (b .standing .state)) ≡
             same = refl;
             answer = refl;
           }
-
--- how a book stands after it
-pub refused-left : (x : Standing) (a : Answer) → leavesStatus a ≡ true → x ≡ refusedStanding x a
-unfolding refusedStanding
-refused-left x a h = sym (rw (h, refusedStanding))
-
-pub refused-waits : (x : Standing) (a : Answer) → leavesStatus a ≡ false → record { state = Waiting; ever = x .ever } ≡ refusedStanding x a
-unfolding refusedStanding
-refused-waits x a h = sym (rw (h, refusedStanding))
 
 -- a book that shows the same answers the same
 pub told-as : {x y : After} (r : Step) → x ≡ y → Told y r → Told x r
@@ -171,42 +163,6 @@ pub differs-is : (c : Printed) (sum : ℕ) → differs c sum ≡ (isPrinted c &&
 unfolding differs isPrinted sumOf
 differs-is (printed n) sum = refl
 differs-is unprinted sum = refl
-
--- ---- checks 10 and 11 in numbers, one test at a time
-
-module _ (state : State) (m : Bool) (n : ℕ) (o : Outline) where
-  pub judged-snapshot : o .snapshot ≡ true → Passes o ≡ judgedUpdate state m n o
-  unfolding judgedUpdate
-  judged-snapshot h = sym (pick (o .snapshot) h)
-    where
-      pick : (t : Bool) → t ≡ true → cond t (Passes o) (cond (isLive (statusOf state)) (cond (m && leb (o .number) n) (Fails OldNumber) (Passes o)) (Fails NoSnapshot)) ≡ Passes o
-      pick true e = refl
-      pick false e = absurd (true≢false (sym e))
-
-  module _ (h : o .snapshot ≡ false) where
-    pub judged-idle : isLive (statusOf state) ≡ false → Fails NoSnapshot ≡ judgedUpdate state m n o
-    unfolding judgedUpdate
-    judged-idle l = sym (pick (o .snapshot) (isLive (statusOf state)) h l)
-      where
-        pick : (t x : Bool) → t ≡ false → x ≡ false → cond t (Passes o) (cond x (cond (m && leb (o .number) n) (Fails OldNumber) (Passes o)) (Fails NoSnapshot)) ≡ Fails NoSnapshot
-        pick true x e f = absurd (true≢false e)
-        pick false true e f = absurd (true≢false f)
-        pick false false e f = refl
-
-    pub judged-live : isLive (statusOf state) ≡ true → cond (m && leb (o .number) n) (Fails OldNumber) (Passes o) ≡ judgedUpdate state m n o
-    unfolding judgedUpdate
-    judged-live l = sym (pick (o .snapshot) (isLive (statusOf state)) h l)
-      where
-        pick : (t x : Bool) → t ≡ false → x ≡ true → cond t (Passes o) (cond x (cond (m && leb (o .number) n) (Fails OldNumber) (Passes o)) (Fails NoSnapshot)) ≡ cond (m && leb (o .number) n) (Fails OldNumber) (Passes o)
-        pick true x e f = absurd (true≢false e)
-        pick false true e f = refl
-        pick false false e f = absurd (true≢false (sym f))
-
-    pub judged-old : isLive (statusOf state) ≡ true → (m && leb (o .number) n) ≡ true → Fails OldNumber ≡ judgedUpdate state m n o
-    judged-old l e = sym (ap (λ (t : Bool). cond t (Fails OldNumber) (Passes o)) e) ∙ judged-live l
-
-    pub judged-new : isLive (statusOf state) ≡ true → (m && leb (o .number) n) ≡ false → Passes o ≡ judgedUpdate state m n o
-    judged-new l e = sym (ap (λ (t : Bool). cond t (Fails OldNumber) (Passes o)) e) ∙ judged-live l
 
 -- ---- checks 9, 12 and 13 in numbers, one test at a time
 

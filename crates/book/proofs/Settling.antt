@@ -8,6 +8,7 @@ use native.Mathlib.Omega.{arith}
 use borrow.Author.Tests.{leb-true, eqb-true, ltb-false, le-ltb}
 use lib.Dec.{eqb, leb, ltb}
 use lib.ListN.{length, take, length-take, length-map}
+use Rattle.lifecycle.specs.Lifecycle.{statusOf, liveStanding, judgedUpdate}
 use Rattle.answer.proofs.Laws.{taken-answer}
 use Rattle.decimal.specs.Digits.{Reading, reads, refused}
 use Rattle.decimal.specs.Decimal.{Number, read, isZero}
@@ -47,12 +48,13 @@ use Rattle.answer.specs.declared.Answer.the-variants.{Taken, PriceTwice, NoSnap
 use Rattle.message.proofs.Where.{entryIn, LieIn, framed-lies}
 use Rattle.reference.specs.Reference.{isLive, Reference, editOf, cut, afterQuotes, bidsAfter, asksAfter, pricesOf, checksumOf, namesPriceTwice, lacksSnapshot, isOld, hasTooMany, hasWrongChecksum, verdict, taken, refusedBy, answered, hear}
 use Rattle.settings.specs.Settings.{isM}
-use Rattle.book.specs.Shown.{statusOf, shows, Good, Told}
-use Rattle.book.specs.Taking.{before, Passed, liveStanding, refusedStep, keptStep, judgedUpdate, Judged, weighed}
+use Rattle.book.specs.Shown.{shows, Good, Told}
+use Rattle.book.specs.Taking.{before, Passed, refusedStep, keptStep, Judged, weighed}
 use Rattle.book.specs.declared.Book.{Book}
-use Rattle.book.specs.declared.State.{State}
+use Rattle.lifecycle.specs.declared.State.{State}
 use Rattle.book.specs.declared.Step.{Step}
-use Rattle.book.proofs.Refusing.{refused-told, told-as, hear-passes, nine, ten, eleven, twelve, thirteen, none-fits, snapshot-not-old, snapshot-lacks-none, update-names-once, update-lacks, update-old, differs-is, judged-snapshot, judged-new}
+use Rattle.lifecycle.proofs.Laws.{judged-snapshot, judged-new}
+use Rattle.book.proofs.Refusing.{refused-told, told-as, hear-passes, nine, ten, eleven, twelve, thirteen, none-fits, snapshot-not-old, snapshot-lacks-none, update-names-once, update-lacks, update-old, differs-is}
 use Rattle.message.proofs.Entering.{Readable, is-k, is-m, good-readable, or-none, also-framed, framed-few, listed-ready}
 use Rattle.book.proofs.Entering.{listed-edits}
 

@@ -8,6 +8,7 @@ use native.Mathlib.Omega.{arith}
 use borrow.Author.Tests.{leb-true, leb-false, le-leb, lt-ltb, le-ltb}
 use lib.Dec.{leb, ltb}
 use lib.ListN.{length, take, length-take}
+use Rattle.lifecycle.specs.Lifecycle.{statusOf, answers, refusalOf}
 use Rattle.decimal.specs.Buffer.{overlaid, fits, Laid}
 use Rattle.decimal.specs.declared.Written.{Written}
 use Rattle.decimal.specs.declared.Written.the-variants.{To, Full}
@@ -22,8 +23,7 @@ use Rattle.answer.specs.declared.Answer.{Answer}
 use Rattle.answer.specs.declared.Answer.the-variants.{Taken, NoRoom}
 use Rattle.writer.specs.Snapshot.{kSnapshot, mSnapshot}
 use Rattle.reference.specs.Reference.{Status, Reference, ifTaken, asked, askedWriting, textIn, snapshotText, amount, does, write}
-use Rattle.book.specs.Shown.{statusOf, shows, Good, Wrote}
-use Rattle.book.specs.Asking.{answers, refusalOf}
+use Rattle.book.specs.Shown.{shows, Good, Wrote}
 use Rattle.reference.specs.declared.Scope.the-variants.{Current}
 use Rattle.book.specs.declared.Book.{Book}
 use Rattle.book.proofs.Asking.{asked-yes, asked-no, if-yes, if-no}

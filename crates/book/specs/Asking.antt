@@ -14,27 +14,9 @@ use Rattle.answer.specs.declared.Answer.the-variants as answer·
 use Rattle.reference.specs.Reference.{Status, shut, waiting, live}
 use Rattle.reference.specs.declared.Scope.{Scope}
 use Rattle.reference.specs.declared.Scope.the-variants.{Current, LastGood}
-use Rattle.book.specs.declared.State.{State}
-use Rattle.book.specs.declared.State.the-variants.{Shut, Waiting, Live}
+use Rattle.lifecycle.specs.declared.State.{State}
+use Rattle.lifecycle.specs.declared.State.the-variants.{Shut, Waiting, Live}
 use Rattle.book.specs.declared.Book.{Book}
-
-unfoldable pub firstState : Dialect → State
-firstState K = Waiting
-firstState M = Waiting
-firstState Unknown = Shut
-
--- Whether a question is answered, of a book of that status, with or without a last good state.
-unfoldable pub answers : Status → Bool → Scope → Bool
-answers shut ever scope = false
-answers waiting ever Current = false
-answers waiting ever LastGood = ever
-answers live ever Current = true
-answers live ever LastGood = ever
-
-unfoldable pub refusalOf : Status → Answer
-refusalOf shut = answer·.Shut
-refusalOf waiting = NoSnapshot
-refusalOf live = NoSnapshot
 
 unfoldable pub levelIn : Book → Side → ℕ → Found
 levelIn b Bids i = kept·.levelAt i (held (b .bids))

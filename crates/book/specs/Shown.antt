@@ -12,11 +12,10 @@ use Rattle.level.specs.Kept.{keptIn, held}
 use Rattle.level.specs.declared.Side.{Side}
 use Rattle.level.specs.declared.Side.the-variants.{Bids, Asks}
 use Rattle.sides.specs.Worked.{Sound}
-use Rattle.reference.specs.Reference.{Status, shut, waiting, live, isShut, Reference, opened, After, hear, Reply, Ask, message, howMany, levelAt, whichNumber, howManyUpdates, write, counts, level, amount, does}
+use Rattle.lifecycle.specs.Lifecycle.{statusOf}
+use Rattle.reference.specs.Reference.{isShut, Reference, opened, After, hear, Reply, Ask, message, howMany, levelAt, whichNumber, howManyUpdates, write, counts, level, amount, does}
 use Rattle.settings.specs.Settings.{isM}
 use Rattle.reference.specs.declared.Scope.{Scope}
-use Rattle.book.specs.declared.State.{State}
-use Rattle.book.specs.declared.State.the-variants.{Shut, Waiting, Live}
 use Rattle.book.specs.declared.Book.{Book}
 use Rattle.book.specs.declared.Header.{Header}
 use Rattle.book.specs.declared.Answered.{Answered}
@@ -25,11 +24,6 @@ use Rattle.book.specs.declared.Step.{Step}
 use Rattle.book.specs.declared.Counted.{Counted}
 use Rattle.book.specs.declared.Levelled.{Levelled}
 use Rattle.book.specs.declared.Amounted.{Amounted}
-
-unfoldable pub statusOf : State → Status
-statusOf Shut = shut
-statusOf Waiting = waiting
-statusOf Live = live
 
 unfoldable pub shows : Book → Reference
 shows b =

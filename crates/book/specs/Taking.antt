@@ -5,6 +5,7 @@ use mathlib.Core.Bool.{Bool, true, false, _&&_, _||_, not, cond}
 use mathlib.Core.List.{List, map}
 use lib.Dec.{eqb, leb, ltb}
 use lib.ListN.{length}
+use Rattle.lifecycle.specs.Lifecycle.{statusOf, liveStanding, refusedStanding, judgedUpdate}
 use Rattle.answer.specs.Answers.{isTaken, leavesStatus}
 use Rattle.decimal.specs.Digits.{reads}
 use Rattle.settings.specs.Settings.{isM, termsOf, good}
@@ -23,12 +24,12 @@ use Rattle.answer.specs.declared.Answer.the-variants.{Taken, PriceTwice, NoSnap
 use Rattle.message.specs.declared.Verdict.{Verdict}
 use Rattle.message.specs.declared.Verdict.the-variants.{Fails, Passes}
 use Rattle.reference.specs.Reference.{maxLevels, isShut, isLive, checksumOf, oneMore, hear}
-use Rattle.book.specs.Shown.{statusOf, shows, bookOf, stepOf, Good, Told}
-use Rattle.book.specs.declared.State.{State}
-use Rattle.book.specs.declared.State.the-variants.{Waiting, Live}
+use Rattle.book.specs.Shown.{shows, bookOf, stepOf, Good, Told}
+use Rattle.lifecycle.specs.declared.State.{State}
+use Rattle.lifecycle.specs.declared.State.the-variants.{Waiting, Live}
 use Rattle.book.specs.declared.Book.{Book}
 use Rattle.book.specs.declared.Header.{Header}
-use Rattle.book.specs.declared.Standing.{Standing}
+use Rattle.lifecycle.specs.declared.Standing.{Standing}
 use Rattle.book.specs.declared.Answered.{Answered}
 use Rattle.book.specs.declared.Step.{Step}
 
@@ -39,13 +40,6 @@ pub record Passed (b : Book) (s : List ℕ) (o : Outline) : Type 0 where
   pub layout : Layout
   pub fair : checked (termsOf (b .settings)) s ≡ passes layout
   pub told : o ≡ outlineOf s (reads layout)
-
--- How a book stands after a message that is taken, and after a refusal.
-unfoldable pub liveStanding : Standing → Bool → Standing
-liveStanding now snapshot = record { state = Live; ever = snapshot || now .ever }
-
-unfoldable pub refusedStanding : Standing → Answer → Standing
-refusedStanding now a = record { state = cond (leavesStatus a) (now .state) Waiting; ever = now .ever }
 
 abbrev pub refusedHeader : Header → Answer → Header
 refusedHeader h a =
@@ -84,14 +78,6 @@ takenHeader h o bids asks =
       updates = cond (o .snapshot) 0 (oneMore (h .updates));
       standing = liveStanding (h .standing) (o .snapshot);
     }
-
--- Checks 10 and 11.
-unfoldable pub judgedUpdate : State → Bool → ℕ → Outline → Verdict
-judgedUpdate state m number o =
-    cond (o .snapshot) (Passes o)
-    (cond (isLive (statusOf state))
-    (cond (m && leb (o .number) number) (Fails OldNumber) (Passes o))
-    (Fails NoSnapshot))
 
 -- What checks 1 to 8, 10 and 11 find.
 unfoldable pub Judged : Book → List ℕ → Verdict → Type 0

@@ -20,29 +20,19 @@ use level::Found;
 use level::Levels;
 use level::MAX_WORDS;
 use level::Side;
+use lifecycle::Standing;
+use lifecycle::first_state;
+use lifecycle::refusal;
+use lifecycle::stands;
 use reference::Scope;
 use settings::Dialect;
 use settings::Settings;
 ghost use mathlib.Core.Path.{_≡_};
+ghost use Rattle.lifecycle.specs.Lifecycle.{statusOf, firstState, answers, refusalOf};
 ghost use Rattle.crc32.specs.Table.{ShiftTable};
 ghost use Rattle.reference.specs.Reference.{hear, whichNumber, howManyUpdates};
-ghost use Rattle.book.specs.Shown.{statusOf, shows, bookOf, headerOf, stepOf, Good, Opened, Told, CountsAnswered, AnswersCounts, AnswersLevel, AnswersAmount, Wrote};
-ghost use Rattle.book.specs.Asking.{firstState, answers, refusalOf, levelIn};
-
-pub enum State {
-    // Opened with bad settings.
-    Shut,
-    // Until a snapshot is taken.
-    Waiting,
-    Live,
-}
-
-// How a book stands.
-pub struct Standing {
-    state: State,
-    // Whether a snapshot was ever taken.
-    ever: bool,
-}
+ghost use Rattle.book.specs.Shown.{shows, bookOf, headerOf, stepOf, Good, Opened, Told, CountsAnswered, AnswersCounts, AnswersLevel, AnswersAmount, Wrote};
+ghost use Rattle.book.specs.Asking.{levelIn};
 
 pub struct Book {
     pub bids: Levels,
@@ -125,16 +115,6 @@ pub fn open(dialect: Dialect, depth: usize, name: &[u8]) -> Book
             state: first_state(dialect),
             ever: false,
         },
-    }
-}
-
-fn first_state(dialect: Dialect) -> State
-    ensures { λ r. ⌜ r ≡ firstState dialect ⌝ }
-{
-    match dialect {
-        Dialect::K => State::Waiting,
-        Dialect::M => State::Waiting,
-        Dialect::Unknown => State::Shut,
     }
 }
 
@@ -314,37 +294,6 @@ impl Book {
             };
         }
         no_amount(self, refusal(standing))
-    }
-}
-
-// Whether a question of that scope is answered.
-fn stands(standing: Standing, scope: Scope) -> bool
-    ensures { λ r. ⌜ r ≡ answers (statusOf (standing .state)) (standing .ever) scope ⌝ }
-{
-    let state = standing.state;
-    let ever = standing.ever;
-    match state {
-        State::Shut => false,
-        State::Waiting => match scope {
-            Scope::Current => false,
-            Scope::LastGood => ever,
-        },
-        State::Live => match scope {
-            Scope::Current => true,
-            Scope::LastGood => ever,
-        },
-    }
-}
-
-// The answer to a question that is refused.
-fn refusal(standing: Standing) -> Answer
-    ensures { λ r. ⌜ r ≡ refusalOf (statusOf (standing .state)) ⌝ }
-{
-    let state = standing.state;
-    match state {
-        State::Shut => Answer::Shut,
-        State::Waiting => Answer::NoSnapshot,
-        State::Live => Answer::NoSnapshot,
     }
 }
 

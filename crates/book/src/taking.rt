@@ -3,6 +3,7 @@ ghost use mathlib.Core.Path.{_≡_};
 ghost use mathlib.Core.Bool.{_&&_, _||_, not, cond};
 ghost use mathlib.Core.List.{map};
 ghost use lib.Dec.{leb};
+ghost use Rattle.lifecycle.specs.Lifecycle.{statusOf, judgedUpdate, liveStanding, refusedStanding};
 ghost use Rattle.crc32.specs.Table.{ShiftTable};
 ghost use Rattle.level.specs.Words.{shown};
 ghost use Rattle.level.specs.Kept.{keptIn, held};
@@ -10,19 +11,23 @@ ghost use Rattle.level.specs.declared.Side.the-variants.{Bids, Asks};
 ghost use Rattle.settings.specs.Settings.{isM};
 ghost use Rattle.sides.specs.Worked.{Sound, sideAfter};
 ghost use Rattle.reference.specs.Reference.{isShut, checksumOf, hear, oneMore};
-ghost use Rattle.book.specs.Shown.{statusOf, shows, bookOf, stepOf, Good, Told};
+ghost use Rattle.book.specs.Shown.{shows, bookOf, stepOf, Good, Told};
 ghost use Rattle.message.specs.declared.Verdict.the-variants.{Passes};
-ghost use Rattle.book.specs.Taking.{Passed, SidesAfter, Tried, Ruled, Judged, JudgedWith, judgedUpdate, weighedSides, takenHeader, refusedHeader, liveStanding, refusedStanding};
+ghost use Rattle.book.specs.Taking.{Passed, SidesAfter, Tried, Ruled, Judged, JudgedWith, weighedSides, takenHeader, refusedHeader};
 use crate::Answered;
 use crate::Header;
-use crate::Standing;
-use crate::State;
 use answer::Answer;
 use answer::is_taken;
-use answer::leaves_state;
 use layout::Outline;
 use level::MAX_WORDS;
 use level::Side;
+use lifecycle::count_before;
+use lifecycle::is_over;
+use lifecycle::is_shut;
+use lifecycle::judge_update;
+use lifecycle::live;
+use lifecycle::refused;
+use lifecycle::updates_after;
 use message::Verdict;
 use settings::Dialect;
 use settings::is_m;
@@ -30,8 +35,6 @@ use side::Applied;
 use sides::apply_entries;
 
 const MAX_LEVELS: usize = 100;
-
-const MAX_UPDATES: u64 = 4294967295;
 
 // The book after a message, in the words of its sides that are lent. A refusal gives the words back as they were.
 pub fn hear(
@@ -256,25 +259,6 @@ fn judge(header: Header, s: &[u8]) -> Verdict
     }
 }
 
-// Checks 10 and 11, of a message that passes those of its text.
-fn judge_update(state: State, m: bool, number: u64, outline: Outline) -> Verdict
-    ensures { λ r. ⌜ r ≡ judgedUpdate state m number outline ⌝ }
-{
-    if outline.snapshot {
-        return Verdict::Passes(outline);
-    }
-    match state {
-        State::Shut => Verdict::Fails(Answer::NoSnapshot),
-        State::Waiting => Verdict::Fails(Answer::NoSnapshot),
-        State::Live => {
-            if is_old(m, outline.number, number) {
-                return Verdict::Fails(Answer::OldNumber);
-            }
-            Verdict::Passes(outline)
-        }
-    }
-}
-
 // Checks 9, 12 and 13, by what the entries made of the sides: whether some price was met twice, and whether levels are over the limit.
 fn weigh<'a>(
     outline: Outline,
@@ -323,52 +307,6 @@ fn checksum_of<'a>(
     }
 }
 
-// How a book stands after a message that is taken.
-fn live(standing: Standing, snapshot: bool) -> Standing
-    ensures { λ r. ⌜ r ≡ liveStanding standing snapshot ⌝ }
-{
-    Standing {
-        state: State::Live,
-        ever: either(snapshot, standing.ever),
-    }
-}
-
-// How a book stands after a refusal.
-fn refused(standing: Standing, answer: Answer) -> Standing
-    ensures { λ r. ⌜ r ≡ refusedStanding standing answer ⌝ }
-{
-    if leaves_state(answer) {
-        return standing;
-    }
-    Standing {
-        state: State::Waiting,
-        ever: standing.ever,
-    }
-}
-
-fn is_shut(state: State) -> bool
-    ensures { λ r. ⌜ r ≡ isShut (statusOf state) ⌝ }
-{
-    match state {
-        State::Shut => true,
-        State::Waiting => false,
-        State::Live => false,
-    }
-}
-
-// How many levels a side has before the entries: none before those of a snapshot.
-fn count_before(snapshot: bool, count: usize) -> usize
-    ensures { λ r. ⌜ r ≡ cond snapshot 0 count ⌝ }
-{
-    if snapshot { 0 } else { count }
-}
-
-fn updates_after(snapshot: bool, updates: u64) -> u64
-    ensures { λ r. ⌜ r ≡ cond snapshot 0 (oneMore updates) ⌝ }
-{
-    if snapshot { 0 } else { one_more(updates) }
-}
-
 fn either(a: bool, b: bool) -> bool
     ensures { λ r. ⌜ r ≡ (a || b) ⌝ }
 {
@@ -379,31 +317,4 @@ fn both(a: bool, b: bool) -> bool
     ensures { λ r. ⌜ r ≡ (a && b) ⌝ }
 {
     if a { b } else { false }
-}
-
-fn is_old(m: bool, number: u64, last: u64) -> bool
-    ensures { λ r. ⌜ r ≡ (m && leb number last) ⌝ }
-{
-    if m { number <= last } else { false }
-}
-
-// Check 12, which is M's and of updates; a snapshot has no more levels than entries.
-fn is_over(snapshot: bool, m: bool, over: bool) -> bool
-    ensures { λ r. ⌜ r ≡ (not snapshot && (m && over)) ⌝ }
-{
-    if snapshot {
-        return false;
-    }
-    both(m, over)
-}
-
-// One more update, up to the end of the count.
-fn one_more(updates: u64) -> u64
-    ensures { λ r. ⌜ r ≡ oneMore updates ⌝ }
-{
-    if updates < MAX_UPDATES {
-        updates + 1
-    } else {
-        updates
-    }
 }

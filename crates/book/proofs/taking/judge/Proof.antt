@@ -4,10 +4,11 @@ use mathlib.Core.Bool.{Bool}
 use denote.Ref.{now}
 use native.Mathlib.Omega.{arith}
 use lib.ListN.{length-take}
+use Rattle.lifecycle.specs.Lifecycle.{judgedUpdate}
 use Rattle.settings.specs.Settings.{termsOf}
 use Rattle.message.specs.Meaning.{checked}
 use Rattle.book.specs.Shown.{shows, bookOf}
-use Rattle.book.specs.Taking.{refusedStep, judgedUpdate, Judged}
+use Rattle.book.specs.Taking.{refusedStep, Judged}
 use Rattle.book.proofs.Refusing.{shut-told, verdict-passes, verdict-fails, hear-fails, told-as, refused-told}
 use Rattle.book.proofs.Settling.{judged-told}
 use borrow.Author.Needs.{needs}

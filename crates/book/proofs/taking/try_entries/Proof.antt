@@ -4,13 +4,14 @@ use mathlib.Core.Bool.{true≢false}
 use mathlib.Core.List.{List}
 use Prim.Native.Nat.{ℕ}
 use denote.Ref.{now}
+use Rattle.lifecycle.specs.Lifecycle.{judgedUpdate}
 use Rattle.settings.specs.Settings.{isM}
 use Rattle.sides.specs.Worked.{SideAfter, sideAfter}
 use Rattle.layout.specs.declared.Outline.{Outline}
 use Rattle.message.specs.declared.Verdict.the-variants.{Passes}
 use Rattle.reference.specs.Reference.{hear}
 use Rattle.book.specs.Shown.{shows, bookOf, stepOf, Told}
-use Rattle.book.specs.Taking.{Passed, Judged, judgedUpdate, refusedStep, keptStep}
+use Rattle.book.specs.Taking.{Passed, Judged, refusedStep, keptStep}
 use Rattle.book.specs.declared.Book.{Book}
 use Rattle.book.specs.declared.Header.{Header}
 use Rattle.book.proofs.Settling.{kept-told, left-told}

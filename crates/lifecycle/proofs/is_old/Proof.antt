@@ -1,7 +1,7 @@
 -- `is_old` meets its contract.
 use borrow.Author.Needs.{needs}
-use Rattle.book.proofs.taking.is_old.Statement.{statement}
-use Rattle.book.proofs.taking.is_old.Tie as tie
+use Rattle.lifecycle.proofs.is_old.Statement.{statement}
+use Rattle.lifecycle.proofs.is_old.Tie as tie
 
 returns : tie.Need-returns
 returns c = rw (c .if1 .taken)

@@ -1,8 +1,8 @@
 -- `first_state` meets its contract: dialect by dialect.
-use Rattle.book.specs.Asking.{firstState}
 use borrow.Author.Needs.{needs}
-use Rattle.book.proofs.first_state.Statement.{statement}
-use Rattle.book.proofs.first_state.Tie as tie
+use Rattle.lifecycle.specs.Lifecycle.{firstState}
+use Rattle.lifecycle.proofs.first_state.Statement.{statement}
+use Rattle.lifecycle.proofs.first_state.Tie as tie
 
 enum-told : tie.Need-enum-told
 enum-told c = search needs

@@ -1,12 +1,12 @@
 -- `judge_update` meets its contract: a snapshot passes, an update by the state and its number.
 use mathlib.Core.Path.{sym, ap, _∙_}
+use Rattle.lifecycle.specs.Lifecycle.{statusOf}
 use Rattle.reference.specs.Reference.{isLive}
-use Rattle.book.specs.Shown.{statusOf}
-use Rattle.book.specs.declared.State.{State}
-use Rattle.book.proofs.Refusing.{judged-snapshot, judged-idle, judged-old, judged-new}
+use Rattle.lifecycle.specs.declared.State.{State}
+use Rattle.lifecycle.proofs.Laws.{judged-snapshot, judged-idle, judged-old, judged-new}
 use borrow.Author.Needs.{needs}
-use Rattle.book.proofs.taking.judge_update.Statement.{statement}
-use Rattle.book.proofs.taking.judge_update.Tie as tie
+use Rattle.lifecycle.proofs.judge_update.Statement.{statement}
+use Rattle.lifecycle.proofs.judge_update.Tie as tie
 
 returns : tie.Need-returns
 returns c =

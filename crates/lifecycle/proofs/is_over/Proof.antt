@@ -1,7 +1,7 @@
 -- `is_over` meets its contract: of a snapshot none is over.
 use borrow.Author.Needs.{needs}
-use Rattle.book.proofs.taking.is_over.Statement.{statement}
-use Rattle.book.proofs.taking.is_over.Tie as tie
+use Rattle.lifecycle.proofs.is_over.Statement.{statement}
+use Rattle.lifecycle.proofs.is_over.Tie as tie
 
 returns : tie.Need-returns
 returns c = search needs

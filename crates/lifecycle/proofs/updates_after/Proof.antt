@@ -1,7 +1,7 @@
 -- `updates_after` meets its contract: a snapshot begins the count.
 use borrow.Author.Needs.{needs}
-use Rattle.book.proofs.taking.updates_after.Statement.{statement}
-use Rattle.book.proofs.taking.updates_after.Tie as tie
+use Rattle.lifecycle.proofs.updates_after.Statement.{statement}
+use Rattle.lifecycle.proofs.updates_after.Tie as tie
 
 one-more-requires : tie.Need-one-more-requires
 one-more-requires c κs = search needs

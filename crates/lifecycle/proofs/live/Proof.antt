@@ -1,8 +1,8 @@
 -- `live` meets its contract.
-use Rattle.book.specs.Taking.{liveStanding}
 use borrow.Author.Needs.{needs}
-use Rattle.book.proofs.taking.live.Statement.{statement}
-use Rattle.book.proofs.taking.live.Tie as tie
+use Rattle.lifecycle.specs.Lifecycle.{liveStanding}
+use Rattle.lifecycle.proofs.live.Statement.{statement}
+use Rattle.lifecycle.proofs.live.Tie as tie
 
 either-requires : tie.Need-either-requires
 either-requires c κs = search needs

@@ -2,8 +2,8 @@
 use borrow.Author.Tests.{lt-ltb, le-ltb}
 use Rattle.reference.specs.Reference.{oneMore}
 use borrow.Author.Needs.{needs}
-use Rattle.book.proofs.taking.one_more.Statement.{statement}
-use Rattle.book.proofs.taking.one_more.Tie as tie
+use Rattle.lifecycle.proofs.one_more.Statement.{statement}
+use Rattle.lifecycle.proofs.one_more.Tie as tie
 
 add-result : tie.Need-add-result
 add-result c = search needs

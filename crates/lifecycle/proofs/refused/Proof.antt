@@ -1,9 +1,9 @@
 -- `refused` meets its contract: by whether the book stays as it is.
 use mathlib.Core.Path.{sym, _∙_}
-use Rattle.book.proofs.Refusing.{refused-left, refused-waits}
+use Rattle.lifecycle.proofs.Laws.{refused-left, refused-waits}
 use borrow.Author.Needs.{needs}
-use Rattle.book.proofs.taking.refused.Statement.{statement}
-use Rattle.book.proofs.taking.refused.Tie as tie
+use Rattle.lifecycle.proofs.refused.Statement.{statement}
+use Rattle.lifecycle.proofs.refused.Tie as tie
 
 leaves-state-requires : tie.Need-leaves-state-requires
 leaves-state-requires c κs = search needs

@@ -1,9 +1,8 @@
 -- `refusal` meets its contract: state by state.
-use Rattle.book.specs.Asking.{refusalOf}
-use Rattle.book.specs.Shown.{statusOf}
 use borrow.Author.Needs.{needs}
-use Rattle.book.proofs.refusal.Statement.{statement}
-use Rattle.book.proofs.refusal.Tie as tie
+use Rattle.lifecycle.specs.Lifecycle.{refusalOf, statusOf}
+use Rattle.lifecycle.proofs.refusal.Statement.{statement}
+use Rattle.lifecycle.proofs.refusal.Tie as tie
 
 enum-told : tie.Need-enum-told
 enum-told c = search needs

@@ -1,9 +1,8 @@
 -- `stands` meets its contract: case by case.
-use Rattle.book.specs.Asking.{answers}
-use Rattle.book.specs.Shown.{statusOf}
 use borrow.Author.Needs.{needs}
-use Rattle.book.proofs.stands.Statement.{statement}
-use Rattle.book.proofs.stands.Tie as tie
+use Rattle.lifecycle.specs.Lifecycle.{answers, statusOf}
+use Rattle.lifecycle.proofs.stands.Statement.{statement}
+use Rattle.lifecycle.proofs.stands.Tie as tie
 
 enum-told : tie.Need-enum-told
 enum-told c = search needs

@@ -1,9 +1,9 @@
 -- `is_shut` meets its contract: state by state.
+use Rattle.lifecycle.specs.Lifecycle.{statusOf}
 use Rattle.reference.specs.Reference.{isShut}
-use Rattle.book.specs.Shown.{statusOf}
 use borrow.Author.Needs.{needs}
-use Rattle.book.proofs.taking.is_shut.Statement.{statement}
-use Rattle.book.proofs.taking.is_shut.Tie as tie
+use Rattle.lifecycle.proofs.is_shut.Statement.{statement}
+use Rattle.lifecycle.proofs.is_shut.Tie as tie
 
 enum-told : tie.Need-enum-told
 enum-told c = search needs

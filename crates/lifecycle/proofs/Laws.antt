@@ -1,0 +1,61 @@
+-- Laws of how a book stands. Assumes nothing.
+use Prim.Native.Nat.{ℕ}
+use mathlib.Core.Path.{_≡_, refl, sym, ap, _∙_}
+use mathlib.Core.Bool.{Bool, true, false, true≢false, _&&_, cond}
+use lib.Dec.{leb}
+use Rattle.answer.specs.Answers.{leavesStatus}
+use Rattle.answer.specs.declared.Answer.{Answer}
+use Rattle.answer.specs.declared.Answer.the-variants.{NoSnapshot, OldNumber}
+use Rattle.layout.specs.declared.Outline.{Outline}
+use Rattle.message.specs.declared.Verdict.{Verdict}
+use Rattle.message.specs.declared.Verdict.the-variants.{Fails, Passes}
+use Rattle.reference.specs.Reference.{isLive}
+use Rattle.lifecycle.specs.Lifecycle.{statusOf, refusedStanding, judgedUpdate}
+use Rattle.lifecycle.specs.declared.State.{State}
+use Rattle.lifecycle.specs.declared.State.the-variants.{Waiting}
+use Rattle.lifecycle.specs.declared.Standing.{Standing}
+
+-- after a refusal
+pub refused-left : (x : Standing) (a : Answer) → leavesStatus a ≡ true → x ≡ refusedStanding x a
+unfolding refusedStanding
+refused-left x a h = sym (rw (h, refusedStanding))
+
+pub refused-waits : (x : Standing) (a : Answer) → leavesStatus a ≡ false → record { state = Waiting; ever = x .ever } ≡ refusedStanding x a
+unfolding refusedStanding
+refused-waits x a h = sym (rw (h, refusedStanding))
+
+-- ---- checks 10 and 11 in numbers, one test at a time
+
+module _ (state : State) (m : Bool) (n : ℕ) (o : Outline) where
+  pub judged-snapshot : o .snapshot ≡ true → Passes o ≡ judgedUpdate state m n o
+  unfolding judgedUpdate
+  judged-snapshot h = sym (pick (o .snapshot) h)
+    where
+      pick : (t : Bool) → t ≡ true → cond t (Passes o) (cond (isLive (statusOf state)) (cond (m && leb (o .number) n) (Fails OldNumber) (Passes o)) (Fails NoSnapshot)) ≡ Passes o
+      pick true e = refl
+      pick false e = absurd (true≢false (sym e))
+
+  module _ (h : o .snapshot ≡ false) where
+    pub judged-idle : isLive (statusOf state) ≡ false → Fails NoSnapshot ≡ judgedUpdate state m n o
+    unfolding judgedUpdate
+    judged-idle l = sym (pick (o .snapshot) (isLive (statusOf state)) h l)
+      where
+        pick : (t x : Bool) → t ≡ false → x ≡ false → cond t (Passes o) (cond x (cond (m && leb (o .number) n) (Fails OldNumber) (Passes o)) (Fails NoSnapshot)) ≡ Fails NoSnapshot
+        pick true x e f = absurd (true≢false e)
+        pick false true e f = absurd (true≢false f)
+        pick false false e f = refl
+
+    pub judged-live : isLive (statusOf state) ≡ true → cond (m && leb (o .number) n) (Fails OldNumber) (Passes o) ≡ judgedUpdate state m n o
+    unfolding judgedUpdate
+    judged-live l = sym (pick (o .snapshot) (isLive (statusOf state)) h l)
+      where
+        pick : (t x : Bool) → t ≡ false → x ≡ true → cond t (Passes o) (cond x (cond (m && leb (o .number) n) (Fails OldNumber) (Passes o)) (Fails NoSnapshot)) ≡ cond (m && leb (o .number) n) (Fails OldNumber) (Passes o)
+        pick true x e f = absurd (true≢false e)
+        pick false true e f = refl
+        pick false false e f = absurd (true≢false (sym f))
+
+    pub judged-old : isLive (statusOf state) ≡ true → (m && leb (o .number) n) ≡ true → Fails OldNumber ≡ judgedUpdate state m n o
+    judged-old l e = sym (ap (λ (t : Bool). cond t (Fails OldNumber) (Passes o)) e) ∙ judged-live l
+
+    pub judged-new : isLive (statusOf state) ≡ true → (m && leb (o .number) n) ≡ false → Passes o ≡ judgedUpdate state m n o
+    judged-new l e = sym (ap (λ (t : Bool). cond t (Fails OldNumber) (Passes o)) e) ∙ judged-live l

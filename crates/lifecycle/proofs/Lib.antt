@@ -1,0 +1,2 @@
+-- What functions here and crates above cite.
+pub mod Laws

@@ -1,0 +1,2 @@
+-- How a book stands.
+pub mod Lifecycle

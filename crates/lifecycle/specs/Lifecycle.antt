@@ -1,0 +1,57 @@
+-- How a book stands, in terms of the code. Assumes nothing: these are definitions.
+use Prim.Native.Nat.{ℕ}
+use mathlib.Core.Bool.{Bool, true, false, _&&_, _||_, cond}
+use lib.Dec.{leb}
+use Rattle.answer.specs.Answers.{leavesStatus}
+use Rattle.answer.specs.declared.Answer.{Answer}
+use Rattle.answer.specs.declared.Answer.the-variants.{NoSnapshot, OldNumber}
+use Rattle.answer.specs.declared.Answer.the-variants as answer·
+use Rattle.settings.specs.declared.Dialect.{Dialect}
+use Rattle.settings.specs.declared.Dialect.the-variants.{K, M, Unknown}
+use Rattle.layout.specs.declared.Outline.{Outline}
+use Rattle.message.specs.declared.Verdict.{Verdict}
+use Rattle.message.specs.declared.Verdict.the-variants.{Fails, Passes}
+use Rattle.reference.specs.Reference.{Status, shut, waiting, live, isLive}
+use Rattle.reference.specs.declared.Scope.{Scope}
+use Rattle.reference.specs.declared.Scope.the-variants.{Current, LastGood}
+use Rattle.lifecycle.specs.declared.State.{State}
+use Rattle.lifecycle.specs.declared.State.the-variants.{Shut, Waiting, Live}
+use Rattle.lifecycle.specs.declared.Standing.{Standing}
+
+unfoldable pub statusOf : State → Status
+statusOf Shut = shut
+statusOf Waiting = waiting
+statusOf Live = live
+
+unfoldable pub firstState : Dialect → State
+firstState K = Waiting
+firstState M = Waiting
+firstState Unknown = Shut
+
+-- Whether a question is answered, of a book of that status, with or without a last good state.
+unfoldable pub answers : Status → Bool → Scope → Bool
+answers shut ever scope = false
+answers waiting ever Current = false
+answers waiting ever LastGood = ever
+answers live ever Current = true
+answers live ever LastGood = ever
+
+unfoldable pub refusalOf : Status → Answer
+refusalOf shut = answer·.Shut
+refusalOf waiting = NoSnapshot
+refusalOf live = NoSnapshot
+
+-- How a book stands after a message that is taken, and after a refusal.
+unfoldable pub liveStanding : Standing → Bool → Standing
+liveStanding now snapshot = record { state = Live; ever = snapshot || now .ever }
+
+unfoldable pub refusedStanding : Standing → Answer → Standing
+refusedStanding now a = record { state = cond (leavesStatus a) (now .state) Waiting; ever = now .ever }
+
+-- Checks 10 and 11.
+unfoldable pub judgedUpdate : State → Bool → ℕ → Outline → Verdict
+judgedUpdate state m number o =
+    cond (o .snapshot) (Passes o)
+    (cond (isLive (statusOf state))
+    (cond (m && leb (o .number) number) (Fails OldNumber) (Passes o))
+    (Fails NoSnapshot))

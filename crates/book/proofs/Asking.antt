@@ -3,10 +3,11 @@
 use mathlib.Core.Path.{_≡_, refl, sym, ap, ap₂, _∙_, subst}
 use mathlib.Core.List.{List, [], _∷_, map}
 use mathlib.Core.Bool.{Bool, true, false, true≢false, cond}
-use Prim.Native.Nat.{ℕ, zero, suc}
+use Prim.Native.Nat.{ℕ, zero, suc, _≤_, _<_}
 use native.Mathlib.Omega.{arith}
-use lib.Dec.{lit<}
-use lib.ListN.{length, length-map}
+use borrow.Author.Tests.{ltb-true, ltb-false, lt-ltb, le-ltb}
+use lib.Dec.{ltb, lit<}
+use lib.ListN.{length, getD, length-map}
 use Rattle.lifecycle.specs.Lifecycle.{statusOf, firstState, answers, refusalOf}
 use Rattle.level.proofs.Held.{held-length}
 use Rattle.decimal.specs.Decimal.{Number, number}
@@ -30,8 +31,9 @@ use Rattle.sides.specs.Worked.{Sound}
 use Rattle.answer.specs.Answers.{number as numberOf, isTaken}
 use Rattle.answer.specs.declared.Answer.{Answer}
 use Rattle.answer.specs.declared.Answer.the-variants.{Taken, Shut, NoSnapshot, NoLevel}
+use Rattle.reference.proofs.Questions.{if-refused}
 use Rattle.reference.specs.Reference as r·
-use Rattle.reference.specs.Reference.{Status, shut as shut′, waiting, live, isShut, Reference, opened, stands, asked, ifTaken, Place, standing, absent, placeAt, placeAnswer, placeLevel, noLevel, sideOf, askedLevel, levelAsked, counts, level, amount, does, howMany, levelAt, whichNumber, howManyUpdates}
+use Rattle.reference.specs.Reference.{Status, shut as shut′, waiting, live, isShut, Reference, opened, stands, asked, ifTaken, noLevel, sideOf, askedLevel, levelAsked, counts, level, amount, does, howMany, levelAt, whichNumber, howManyUpdates}
 use Rattle.settings.specs.Settings.{isM}
 use Rattle.book.specs.Shown.{shows, Good, Opened, AnswersCounts, AnswersLevel, AnswersAmount}
 use Rattle.book.specs.Asking.{levelIn}
@@ -132,17 +134,22 @@ module _ (b : Book) (scope : Scope) where
 
 -- ---- a level
 
-place-here : (i : ℕ) (s : List Level) (l : Level) → kept·.levelAt i s ≡ At l → placeAt i (map shown s) ≡ standing (shown l)
-unfolding kept·.levelAt placeAt
-place-here i [] l h = let z : _≡_ {A = ℕ} 0 1 = cc in absurd (omega arith)
-place-here zero (x ∷ s) l h = let e : x ≡ l = cc in ap (λ (y : Level). standing (shown y)) e
-place-here (suc i) (x ∷ s) l h = place-here i s l h
+here : (i : ℕ) (s : List Level) (l : Level) → kept·.levelAt i s ≡ At l → (ltb i (length (map shown s)) ≡ true) × (getD (map shown s) i noLevel ≡ shown l)
+unfolding kept·.levelAt
+here i [] l h = let z : _≡_ {A = ℕ} 0 1 = cc in absurd (omega arith)
+here zero (x ∷ s) l h = let e : x ≡ l = cc in (lt-ltb 0 (suc (length (map shown s))) (omega arith), ap shown e)
+here (suc i) (x ∷ s) l h =
+    let k = here i s l h in
+    let m : i < length (map shown s) = ltb-true i (length (map shown s)) (k .0) in
+    (lt-ltb (suc i) (suc (length (map shown s))) (omega arith), k .1)
 
-place-none : (i : ℕ) (s : List Level) → kept·.levelAt i s ≡ Nothing → placeAt i (map shown s) ≡ absent
-unfolding kept·.levelAt placeAt
-place-none i [] h = refl
-place-none zero (x ∷ s) h = let z : _≡_ {A = ℕ} 0 1 = cc in absurd (omega arith)
-place-none (suc i) (x ∷ s) h = place-none i s h
+none-here : (i : ℕ) (s : List Level) → kept·.levelAt i s ≡ Nothing → ltb i (length (map shown s)) ≡ false
+unfolding kept·.levelAt
+none-here i [] h = le-ltb i 0 (omega arith)
+none-here zero (x ∷ s) h = let z : _≡_ {A = ℕ} 0 1 = cc in absurd (omega arith)
+none-here (suc i) (x ∷ s) h =
+    let m : length (map shown s) ≤ i = ltb-false i (length (map shown s)) (none-here i s h) in
+    le-ltb (suc i) (suc (length (map shown s))) (omega arith)
 
 module _ (b : Book) (scope : Scope) (side : Side) (i : ℕ) where
   abbrev q : Reference
@@ -151,38 +158,42 @@ module _ (b : Book) (scope : Scope) (side : Side) (i : ℕ) where
   abbrev open′ : Bool
   open′ = answers (statusOf (b .standing .state)) (b .standing .ever) scope
 
-  in-here : (s : Side) (l : Level) → levelIn b s i ≡ At l → placeAt i (sideOf s q) ≡ standing (shown l)
+  in-here : (s : Side) (l : Level) → levelIn b s i ≡ At l → (ltb i (length (sideOf s q)) ≡ true) × (getD (sideOf s q) i noLevel ≡ shown l)
   unfolding levelIn sideOf shows
-  in-here Bids l h = place-here i (held (b .bids)) l h
-  in-here Asks l h = place-here i (held (b .asks)) l h
+  in-here Bids l h = here i (held (b .bids)) l h
+  in-here Asks l h = here i (held (b .asks)) l h
 
-  in-none : (s : Side) → levelIn b s i ≡ Nothing → placeAt i (sideOf s q) ≡ absent
+  in-none : (s : Side) → levelIn b s i ≡ Nothing → ltb i (length (sideOf s q)) ≡ false
   unfolding levelIn sideOf shows
-  in-none Bids h = place-none i (held (b .bids)) h
-  in-none Asks h = place-none i (held (b .asks)) h
+  in-none Bids h = none-here i (held (b .bids)) h
+  in-none Asks h = none-here i (held (b .asks)) h
+
+  -- the answer, by whether the level is there
+  answered : open′ ≡ true → (t : Bool) → ltb i (length (sideOf side q)) ≡ t → askedLevel scope side i q ≡ cond t Taken NoLevel
+  unfolding askedLevel shows
+  answered h t e = if-yes (asked scope q) _ _ (asked-yes q scope h) ∙ ap (λ (x : Bool). cond x Taken NoLevel) e
 
   pub level-here : open′ ≡ true → (l : Level) → levelIn b side i ≡ At l → (price size : Decimal) → number price ≡ levelPrice l → number size ≡ levelSize l
       → AnswersLevel b scope side i (record { book = b; answer = Taken; price = price; size = size })
-  unfolding does askedLevel levelAsked placeAnswer placeLevel shown shows
+  unfolding does levelAsked shown shows
   level-here h l e price size x z =
-      let a = asked-yes q scope h in
       let w = in-here side l e in
+      let a = answered h true (w .0) in
       record {
         book = refl;
-        answer = λ y. sym (if-yes (asked scope q) _ _ a ∙ ap placeAnswer w);
-        value = λ y. ap level (ap₂ (λ (u v : Number). record { price = u; size = v }) x z ∙ sym (if-yes (asked scope q) _ _ a ∙ ap placeLevel w));
+        answer = λ y. sym a;
+        value = λ y. ap level (ap₂ (λ (u v : Number). record { price = u; size = v }) x z ∙ sym (if-yes (askedLevel scope side i q) _ _ a ∙ w .1));
       }
 
   pub level-none : open′ ≡ true → levelIn b side i ≡ Nothing
       → AnswersLevel b scope side i (record { book = b; answer = NoLevel; price = record { digits = 0; decimals = 0 }; size = record { digits = 0; decimals = 0 } })
-  unfolding does askedLevel levelAsked placeAnswer placeLevel number shows
+  unfolding does levelAsked number shows isTaken numberOf
   level-none h e =
-      let a = asked-yes q scope h in
-      let w = in-none side e in
+      let a = answered h false (in-none side e) in
       record {
         book = refl;
-        answer = λ y. sym (if-yes (asked scope q) _ _ a ∙ ap placeAnswer w);
-        value = λ y. ap level (sym (if-yes (asked scope q) _ _ a ∙ ap placeLevel w));
+        answer = λ y. sym a;
+        value = λ y. ap level (sym (if-refused (askedLevel scope side i q) _ _ (rw (a, isTaken, numberOf))));
       }
 
   pub level-no : open′ ≡ false → (a : Answer) → a ≡ refusalOf (statusOf (b .standing .state))
@@ -190,10 +201,11 @@ module _ (b : Book) (scope : Scope) (side : Side) (i : ℕ) where
   unfolding does askedLevel levelAsked number shows
   level-no h a e =
       let n = asked-no q scope h in
+      let m : askedLevel scope side i q ≡ refusalOf (statusOf (b .standing .state)) = if-no (asked scope q) (statusOf (b .standing .state)) _ _ n ∙ n in
       record {
         book = refl;
-        answer = λ y. e ∙ sym (if-no (asked scope q) (statusOf (b .standing .state)) _ _ n ∙ n);
-        value = λ y. ap level (sym (if-no (asked scope q) (statusOf (b .standing .state)) _ _ n));
+        answer = λ y. e ∙ sym m;
+        value = λ y. ap level (sym (if-no (askedLevel scope side i q) (statusOf (b .standing .state)) _ _ m));
       }
 
 -- ---- opening

@@ -20,7 +20,7 @@ use Rattle.message.specs.declared.Verdict.the-variants.{Fails, Passes}
 use Rattle.layout.specs.declared.Outline.{Outline}
 use Rattle.layout.specs.Told.{outlineOf}
 use Rattle.decimal.specs.Digits.{reads}
-use Rattle.reference.specs.Reference.{isShut, isLive, Reference, checksumOf, namesPriceTwice, lacksSnapshot, isOld, hasTooMany, differs, hasWrongChecksum, verdict, After, taken, setWaiting, refusedBy, answered, hearing, hear}
+use Rattle.reference.specs.Reference.{waiting, isShut, isLive, Reference, checksumOf, namesPriceTwice, lacksSnapshot, isOld, hasTooMany, differs, hasWrongChecksum, verdict, After, taken, withStatus, refusedBy, answered, hearing, hear}
 use Rattle.settings.specs.Settings.{isM}
 use Rattle.book.specs.Shown.{shows, Good, Told}
 use Rattle.book.specs.Taking.{refusedStep, weighed}
@@ -38,10 +38,10 @@ use Rattle.book.specs.declared.Step.{Step}
 
 module _ (b : Book) (g : Good b) (u : isShut (statusOf (b .standing .state)) ≡ false) where
   pub refused-told : (a : Answer) → Told (refusedBy (shows b) a) (refusedStep b a)
-  unfolding refusedBy refusedStep refusedStanding setWaiting shows statusOf
+  unfolding refusedBy refusedStep refusedStanding withStatus shows statusOf
   refused-told a = at (leavesStatus a)
     where
-      at : (t : Bool) → Told (record { book = cond t (shows b) (setWaiting (shows b)); answer = a })
+      at : (t : Bool) → Told (record { book = cond t (shows b) (withStatus waiting (shows b)); answer = a })
           (record {
             book = record { bids = b .bids; asks = b .asks; settings = b .settings; number = b .number; updates = b .updates; standing = record { state = cond t (b .standing .state) Waiting; ever = b .standing .ever } };
             answer = a;

@@ -39,8 +39,8 @@ use Rattle.message.proofs.Where.{LieIn, entryIn, framed-lies}
 use Rattle.message.proofs.Entering.{Readable, is-k, is-m, good-readable, also-framed}
 use Rattle.round_trip.specs.Claims.{quoteOf, Positive, FineLevel, Each, each-none, each-more, Fine}
 use Rattle.round_trip.proofs.Claims.{k-round-trip, m-round-trip}
-use Rattle.reference.specs.Reference.{Status, shut, waiting, live, isShut, isLive, Reference, opened, editOf, cut, afterQuotes, bidsAfter, asksAfter, pricesOf, checksumOf, taken, After, hear, textIn, snapshotText, Ask, does, Call, final}
-use Rattle.reference.specs.Claims.{Ready, restarts, Agrees, carries-none, the-same, Acceptable, withStatus, ReadsBack, Round-trip}
+use Rattle.reference.specs.Reference.{Status, shut, waiting, live, isShut, isLive, Reference, opened, editOf, cut, afterQuotes, bidsAfter, asksAfter, pricesOf, checksumOf, taken, After, hear, textIn, snapshotText, Ask, does, Call, final, withStatus}
+use Rattle.reference.specs.Claims.{Ready, restarts, Agrees, carries-none, the-same, Acceptable, ReadsBack, Round-trip}
 use Rattle.reference.proofs.Outcome.{or-none, ready-open, acceptable-taken}
 use Rattle.reference.proofs.Carried.{said-carries}
 use Rattle.reference.proofs.Runs.{Steps, stays, moves, steps, Reached, reached, reached-step, reached-opened}

@@ -11,12 +11,12 @@ use Rattle.answer.proofs.Laws.{not-taken, other-answer, taken-answer}
 use Rattle.message.specs.Meaning.{Message, says, said}
 use Rattle.answer.specs.declared.Answer.{Answer}
 use Rattle.answer.specs.declared.Answer.the-variants.{Taken}
-use Rattle.reference.specs.Reference.{Status, shut, waiting, live, isShut, isLive, Reference, opened, taken, After, hear, asked, sideOf, placeAt, askedLevel, levelAsked, askedWriting, level, amount, Reply, Ask, message, howMany, levelAt, whichNumber, howManyUpdates, write, does, Call, run, final}
+use Rattle.reference.specs.Reference.{Status, shut, waiting, live, isShut, isLive, Reference, opened, taken, After, hear, asked, askedLevel, levelAsked, askedWriting, level, amount, Reply, Ask, message, howMany, levelAt, whichNumber, howManyUpdates, write, does, Call, run, final, withStatus}
 use Rattle.reference.proofs.Back.{reached-back}
-use Rattle.reference.specs.Claims.{Round-trip, zeros, statusAfter, isMessage, isWrite, Refused, Demand-1, Ready, is-live, restarts, Acceptable, Demand-2, All-compared, call, From-snapshot, takenIn, takenOf, anySnapshot, sinceSnapshot, rebuilt, withStatus, Latest-snapshot, K-number, prices, No-price}
+use Rattle.reference.specs.Claims.{Round-trip, zeros, statusAfter, Refused, Demand-1, Ready, is-live, restarts, Acceptable, Demand-2, All-compared, call, From-snapshot, takenIn, takenOf, anySnapshot, sinceSnapshot, rebuilt, Latest-snapshot, K-number, prices, No-price}
 use Rattle.reference.proofs.Carried.{said-carries}
 use Rattle.reference.proofs.Outcome.{Outcome, is-refused, is-accepted, outcome, acceptable-taken, ready-open, or-none}
-use Rattle.reference.proofs.Questions.{question-one, if-refused, no-level, no-answer}
+use Rattle.reference.proofs.Questions.{isMessage, no-message, question-one, if-refused, no-answer}
 use Rattle.reference.proofs.Runs.{Steps, stays, moves, steps, Reached, opened-waits, reached, run-append, taken-fresh, acceptable-fresh, final-rebuilt, rebuilt-ever, since-begins, since-rebuilt, begins-live}
 
 -- ---- demand 1
@@ -31,18 +31,13 @@ module _ (p : Reference) (ask : Ask) (buffer : List ℕ) (h : isMessage ask ≡ 
   unfolding oneOf isTaken leavesStatus number
   leaves = question-one (λ a. isTaken a ≡ false → leavesStatus a ≡ true) (λ k. absurd (true≢false k)) (λ k. refl) (λ k. refl) (λ k. refl) (λ k. refl) p ask buffer h
 
-of-message : (p : Reference) (ask : Ask) (buffer : List ℕ) → isMessage ask ≡ true → oneOf toMessages (number (does p ask buffer .answer)) ≡ true
-unfolding does isMessage number oneOf
-of-message p (message s) buffer h = go (outcome p s)
+of-message : (p : Reference) (s buffer : List ℕ) → oneOf toMessages (number (does p (message s) buffer .answer)) ≡ true
+unfolding does number oneOf
+of-message p s buffer = go (outcome p s)
   where
     go : Outcome p s → oneOf toMessages (number (hear p s .answer)) ≡ true
     go (is-refused n l k e) = l
     go (is-accepted m q a e) = rw (e, number, oneOf)
-of-message p (howMany scope) buffer h = absurd (false≢true h)
-of-message p (levelAt scope side i) buffer h = absurd (false≢true h)
-of-message p (whichNumber scope) buffer h = absurd (false≢true h)
-of-message p (howManyUpdates scope) buffer h = absurd (false≢true h)
-of-message p write buffer h = absurd (false≢true h)
 
 question : (p : Reference) (ask : Ask) (buffer : List ℕ) → isMessage ask ≡ false → does p ask buffer .after ≡ p
 unfolding does isMessage
@@ -65,7 +60,7 @@ unfolding statusAfter withStatus
 by-question p ask lent h n v b = all-but-status p ask lent (does p ask lent) (question p ask lent h ∙ rw (leaves p ask lent h n, statusAfter)) v b
 
 refused : (p : Reference) (ask : Ask) (buffer : List ℕ) → isTaken (does p ask buffer .answer) ≡ false → Refused p ask buffer (does p ask buffer)
-unfolding does isMessage zeros levelAsked askedLevel
+unfolding does isMessage zeros levelAsked
 refused p (message s) buffer h = go (outcome p s)
   where
     go : Outcome p s → Refused p (message s) buffer (does p (message s) buffer)
@@ -73,28 +68,28 @@ refused p (message s) buffer h = go (outcome p s)
     go (is-accepted m q a e) = absurd (not-taken (hear p s .answer) h (ap (λ (x : After). x .answer) e))
 refused p (howMany scope) buffer h = by-question p (howMany scope) buffer refl h (if-refused (asked scope p) _ _ h) refl
 refused p (levelAt scope side i) buffer h =
-    by-question p (levelAt scope side i) buffer refl h (ap level (no-level (asked scope p) (placeAt i (sideOf side p)) h)) refl
+    by-question p (levelAt scope side i) buffer refl h (ap level (if-refused (askedLevel scope side i p) _ _ h)) refl
 refused p (whichNumber scope) buffer h = by-question p (whichNumber scope) buffer refl h (ap amount (if-refused (asked scope p) _ _ h)) refl
 refused p (howManyUpdates scope) buffer h = by-question p (howManyUpdates scope) buffer refl h (ap amount (if-refused (asked scope p) _ _ h)) refl
 refused p write buffer h =
     by-question p write buffer refl h (ap amount (if-refused (askedWriting p buffer) _ _ h)) (if-refused (askedWriting p buffer) _ _ h)
 
-others-buffer : (p : Reference) (ask : Ask) (buffer : List ℕ) → isWrite ask ≡ false → does p ask buffer .buffer ≡ buffer
-unfolding does isWrite
+others-buffer : (p : Reference) (ask : Ask) (buffer : List ℕ) → (ask ≡ write → ⊥) → does p ask buffer .buffer ≡ buffer
+unfolding does
 others-buffer p (message s) buffer h = refl
 others-buffer p (howMany scope) buffer h = refl
 others-buffer p (levelAt scope side i) buffer h = refl
 others-buffer p (whichNumber scope) buffer h = refl
 others-buffer p (howManyUpdates scope) buffer h = refl
-others-buffer p write buffer h = absurd (true≢false h)
+others-buffer p write buffer h = absurd (h refl)
 
 pub demand-1 : Demand-1
 demand-1 p ask buffer =
     record {
-      of-question = of-question p ask buffer;
-      of-message = of-message p ask buffer;
+      of-message = λ s e. rw e (of-message p s buffer);
+      of-question = λ h. of-question p ask buffer (no-message ask h);
       refused = λ h. refused p ask buffer (other-answer (does p ask buffer .answer) h);
-      question = question p ask buffer;
+      question = λ h. question p ask buffer (no-message ask h);
       others-buffer = others-buffer p ask buffer;
     }
 

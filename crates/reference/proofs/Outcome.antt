@@ -20,10 +20,10 @@ use Rattle.answer.proofs.Laws.{taken-answer}
 use Rattle.message.specs.Meaning.{Message, Said, refuses, says, said, Checked, fails, passes, heardIn, checked, saidOf}
 use Rattle.answer.specs.declared.Answer.{Answer}
 use Rattle.answer.specs.declared.Answer.the-variants.{Taken, Shut, TooLong, NotJson, Escaped, NotOurs, BadLayout, TooManyEntries, BadDecimal, PriceTwice, NoSnapshot, OldNumber, TooManyLevels, WrongChecksum, NoLevel, NoRoom}
-use Rattle.reference.specs.Reference.{Status, shut, waiting, live, isShut, isLive, Reference, checksumOf, pricesOf, namesPriceTwice, lacksSnapshot, isOld, hasTooMany, differs, hasWrongChecksum, bidsAfter, asksAfter, verdict, taken, setWaiting, refusedBy, answered, hearing, hear}
+use Rattle.reference.specs.Reference.{Status, shut, waiting, live, isShut, isLive, Reference, checksumOf, pricesOf, namesPriceTwice, lacksSnapshot, isOld, hasTooMany, differs, hasWrongChecksum, bidsAfter, asksAfter, verdict, taken, withStatus, refusedBy, answered, hearing, hear}
 use Rattle.settings.specs.Settings.{isM}
 use Rattle.reference.proofs.Checks.{Refusals, Read, Either, checked-either}
-use Rattle.reference.specs.Claims.{statusAfter, Ready, is-live, restarts, Agrees, carries-none, the-same, Acceptable, withStatus}
+use Rattle.reference.specs.Claims.{statusAfter, Ready, is-live, restarts, Agrees, carries-none, the-same, Acceptable}
 
 -- ---- what a message is refused with: checks 2 to 8
 
@@ -197,10 +197,10 @@ pub data Outcome (p : Reference) (s : List ℕ) : Type 0 where
   is-accepted : (m : Message) → said (p .terms) s ≡ says m → Acceptable p m → hear p s ≡ record { book = taken p m; answer = Taken } → Outcome p s
 
 refused-book : (p : Reference) (a : Answer) → refusedBy p a .book ≡ withStatus (statusAfter a (p .status)) p
-unfolding refusedBy withStatus statusAfter setWaiting
+unfolding refusedBy withStatus statusAfter
 refused-book p a = at (leavesStatus a)
   where
-    at : (b : Bool) → cond b p (setWaiting p) ≡ withStatus (cond b (p .status) waiting) p
+    at : (b : Bool) → cond b p (withStatus waiting p) ≡ withStatus (cond b (p .status) waiting) p
     at true = refl
     at false = refl
 

@@ -9,10 +9,29 @@ use lib.ListN.{length}
 use Rattle.answer.specs.Answers.{number, isTaken}
 use Rattle.answer.specs.declared.Answer.{Answer}
 use Rattle.answer.specs.declared.Answer.the-variants.{Taken, Shut, NoSnapshot, NoLevel, NoRoom}
-use Rattle.reference.specs.Reference.{isShut, isLive, Reference, stands, asked, ifTaken, noLevel, sideOf, Place, standing, absent, placeAt, placeAnswer, placeLevel, askedLevel, snapshotText, askedWriting, Ask, message, howMany, levelAt, whichNumber, howManyUpdates, write, does}
-use Rattle.reference.specs.Claims.{isMessage, isCurrent, asksPrice}
+use Rattle.reference.specs.Reference.{isShut, isLive, Reference, stands, asked, ifTaken, noLevel, sideOf, askedLevel, snapshotText, askedWriting, Ask, message, howMany, levelAt, whichNumber, howManyUpdates, write, does}
+use Rattle.reference.specs.Claims.{isCurrent, asksPrice}
 use Rattle.reference.specs.declared.Scope.{Scope}
 use Rattle.reference.specs.declared.Scope.the-variants.{Current, LastGood}
+
+-- ---- which calls are messages
+
+unfoldable pub isMessage : Ask → Bool
+isMessage (message s) = true
+isMessage (howMany scope) = false
+isMessage (levelAt scope side i) = false
+isMessage (whichNumber scope) = false
+isMessage (howManyUpdates scope) = false
+isMessage write = false
+
+pub no-message : (ask : Ask) → ((s : List ℕ) → ask ≡ message s → ⊥) → isMessage ask ≡ false
+unfolding isMessage
+no-message (message s) h = absurd (h s refl)
+no-message (howMany scope) h = refl
+no-message (levelAt scope side i) h = refl
+no-message (whichNumber scope) h = refl
+no-message (howManyUpdates scope) h = refl
+no-message write h = refl
 
 -- ---- a question answers 0, 1, 10, 14 or 15
 
@@ -34,10 +53,9 @@ module _ (P : Answer → Type 0) (p-taken : P Taken) (p-shut : P Shut) (p-no-sna
       at true = k
       at false = h
 
-  place-one : (x : Place) → P (placeAnswer x)
-  unfolding placeAnswer
-  place-one (standing l) = p-taken
-  place-one absent = p-no-level
+  level-one : (b : Bool) → P (cond b Taken NoLevel)
+  level-one true = p-taken
+  level-one false = p-no-level
 
   room-one : (b : Bool) → P (cond b NoRoom Taken)
   room-one true = p-no-room
@@ -47,7 +65,7 @@ module _ (P : Answer → Type 0) (p-taken : P Taken) (p-shut : P Shut) (p-no-sna
   unfolding does isMessage askedLevel askedWriting
   question-one (message s) buffer h = absurd (true≢false h)
   question-one (howMany scope) buffer h = asked-one scope
-  question-one (levelAt scope side i) buffer h = then-one (asked scope p) (placeAnswer (placeAt i (sideOf side p))) (asked-one scope) (place-one (placeAt i (sideOf side p)))
+  question-one (levelAt scope side i) buffer h = then-one (asked scope p) _ (asked-one scope) (level-one (ltb i (length (sideOf side p))))
   question-one (whichNumber scope) buffer h = asked-one scope
   question-one (howManyUpdates scope) buffer h = asked-one scope
   question-one write buffer h =
@@ -59,15 +77,6 @@ module _ (P : Answer → Type 0) (p-taken : P Taken) (p-shut : P Shut) (p-no-sna
 pub if-refused : {A : Type 0} (a : Answer) (x z : A) → isTaken a ≡ false → ifTaken a x z ≡ z
 unfolding ifTaken
 if-refused a x z h = rw (h, ifTaken)
-
-pub no-level : (a : Answer) (x : Place) → isTaken (ifTaken a (placeAnswer x) a) ≡ false → ifTaken a (placeLevel x) noLevel ≡ noLevel
-unfolding ifTaken placeAnswer placeLevel isTaken number
-no-level a x h = at (isTaken a) x h
-  where
-    at : (t : Bool) (y : Place) → isTaken (cond t (placeAnswer y) a) ≡ false → cond t (placeLevel y) noLevel ≡ noLevel
-    at true (standing l) h = absurd (true≢false h)
-    at true absent h = refl
-    at false y h = refl
 
 -- ---- a book that is not live gives no current price
 
@@ -91,7 +100,7 @@ pub no-answer : (p : Reference) (ask : Ask) (buffer : List ℕ) → isLive (p .s
 unfolding asksPrice does askedLevel askedWriting
 no-answer p (message s) buffer h = refl
 no-answer p (howMany scope) buffer h = in-scope scope (λ x. asked x p) (asked-waits p h)
-no-answer p (levelAt scope side i) buffer h = in-scope scope (λ x. askedLevel x side i p) (then-waits (asked Current p) (placeAnswer (placeAt i (sideOf side p))) (asked-waits p h))
+no-answer p (levelAt scope side i) buffer h = in-scope scope (λ x. askedLevel x side i p) (then-waits (asked Current p) _ (asked-waits p h))
 no-answer p (whichNumber scope) buffer h = in-scope scope (λ x. asked x p) (asked-waits p h)
 no-answer p (howManyUpdates scope) buffer h = in-scope scope (λ x. asked x p) (asked-waits p h)
 no-answer p write buffer h = then-waits (asked Current p) (cond (ltb (length buffer) (length (snapshotText p))) NoRoom Taken) (asked-waits p h)

@@ -11,8 +11,8 @@ use Rattle.answer.specs.Answers.{number, isTaken, leavesStatus}
 use Rattle.message.specs.Meaning.{Message, Said, refuses, says, said}
 use Rattle.answer.specs.declared.Answer.{Answer}
 use Rattle.answer.specs.declared.Answer.the-variants.{Taken}
-use Rattle.reference.specs.Reference.{Status, shut, waiting, live, isShut, isLive, Reference, opened, bidsAfter, asksAfter, taken, After, hear, Reply, Ask, message, howMany, levelAt, whichNumber, howManyUpdates, write, does, Call, run, final}
-use Rattle.reference.specs.Claims.{statusAfter, Ready, is-live, restarts, Acceptable, withStatus, ifAnswered, takenIn, takenOf, anySnapshot, sinceSnapshot, Begins, begins, rebuilt}
+use Rattle.reference.specs.Reference.{Status, shut, waiting, live, isShut, isLive, Reference, opened, bidsAfter, asksAfter, taken, After, hear, Reply, Ask, message, howMany, levelAt, whichNumber, howManyUpdates, write, does, Call, run, final, withStatus}
+use Rattle.reference.specs.Claims.{statusAfter, Ready, is-live, restarts, Acceptable, ifAnswered, takenIn, takenOf, anySnapshot, sinceSnapshot, Begins, begins, rebuilt}
 use Rattle.reference.proofs.Carried.{said-carries}
 use Rattle.reference.proofs.Outcome.{Outcome, is-refused, is-accepted, outcome, ready-open}
 

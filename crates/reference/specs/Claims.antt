@@ -14,7 +14,7 @@ use Rattle.answer.specs.Answers.{number as numberOf, oneOf, toMessages, toQuest
 use Rattle.message.specs.Meaning.{Message, Said, refuses, says, said}
 use Rattle.answer.specs.declared.Answer.{Answer}
 use Rattle.answer.specs.declared.Answer.the-variants.{Taken}
-use Rattle.reference.specs.Reference.{Status, waiting, live, Reference, isLive, opened, bidsAfter, asksAfter, maxLevels, pricesOf, checksumOf, taken, hear, Value, nothing, counts, level, amount, Reply, noLevel, Ask, message, howMany, levelAt, whichNumber, howManyUpdates, write, does, Call, run, final, snapshotText}
+use Rattle.reference.specs.Reference.{Status, waiting, live, withStatus, Reference, isLive, opened, bidsAfter, asksAfter, maxLevels, pricesOf, checksumOf, taken, hear, Value, nothing, counts, level, amount, Reply, noLevel, Ask, message, howMany, levelAt, whichNumber, howManyUpdates, write, does, Call, run, final, snapshotText}
 use Rattle.reference.specs.declared.Scope.{Scope}
 use Rattle.reference.specs.declared.Scope.the-variants.{Current, LastGood}
 
@@ -33,22 +33,6 @@ zeros write = amount 0
 unfoldable pub statusAfter : Answer → Status → Status
 statusAfter a status = cond (leavesStatus a) status waiting
 
-unfoldable pub isMessage : Ask → Bool
-isMessage (message s) = true
-isMessage (howMany scope) = false
-isMessage (levelAt scope side i) = false
-isMessage (whichNumber scope) = false
-isMessage (howManyUpdates scope) = false
-isMessage write = false
-
-unfoldable pub isWrite : Ask → Bool
-isWrite (message s) = false
-isWrite (howMany scope) = false
-isWrite (levelAt scope side i) = false
-isWrite (whichNumber scope) = false
-isWrite (howManyUpdates scope) = false
-isWrite write = true
-
 -- "Waiting" keeps levels, number and count as last good.
 pub record Refused (p : Reference) (ask : Ask) (lent : List ℕ) (r : Reply) : Type 0 where
   pub terms : r .after .terms ≡ p .terms
@@ -63,13 +47,13 @@ pub record Refused (p : Reference) (ask : Ask) (lent : List ℕ) (r : Reply) : T
 
 pub record Demand1 (p : Reference) (ask : Ask) (buffer : List ℕ) : Type 0 where
   -- "No number is given otherwise."
-  pub of-message : isMessage ask ≡ true → oneOf toMessages (numberOf (does p ask buffer .answer)) ≡ true
-  pub of-question : isMessage ask ≡ false → oneOf toQuestions (numberOf (does p ask buffer .answer)) ≡ true
+  pub of-message : (s : List ℕ) → ask ≡ message s → oneOf toMessages (numberOf (does p ask buffer .answer)) ≡ true
+  pub of-question : ((s : List ℕ) → ask ≡ message s → ⊥) → oneOf toQuestions (numberOf (does p ask buffer .answer)) ≡ true
   pub refused : (does p ask buffer .answer ≡ Taken → ⊥) → Refused p ask buffer (does p ask buffer)
   -- "Questions and the writer .. change no book", answered or not.
-  pub question : isMessage ask ≡ false → does p ask buffer .after ≡ p
+  pub question : ((s : List ℕ) → ask ≡ message s → ⊥) → does p ask buffer .after ≡ p
   -- Only the writer writes.
-  pub others-buffer : isWrite ask ≡ false → does p ask buffer .buffer ≡ buffer
+  pub others-buffer : (ask ≡ write → ⊥) → does p ask buffer .buffer ≡ buffer
 
 abbrev pub Demand-1 : Type 0
 Demand-1 = (p : Reference) (ask : Ask) (buffer : List ℕ) → Demand1 p ask buffer
@@ -160,9 +144,6 @@ pub data Begins : List Message → Type 0 where
 unfoldable pub rebuilt : Reference → List Message → Reference
 rebuilt p [] = p
 rebuilt p (m ∷ ms) = rebuilt (taken p m) ms
-
-unfoldable pub withStatus : Status → Reference → Reference
-withStatus status p = record { terms = p .terms; status = status; bids = p .bids; asks = p .asks; number = p .number; updates = p .updates; ever = p .ever }
 
 -- A live book is the one that the rules make of the latest taken snapshot and the messages taken after it, and of nothing else in the list. A book that
 -- waits after a snapshot is that one too, but for its status. Rules out a book that applies only the first message, or drops one, or keeps an invented count.

@@ -4,7 +4,7 @@ use Prim.Native.Nat.{ℕ, zero, suc, _+_}
 use mathlib.Core.Bool.{Bool, true, false, _&&_, _||_, not, cond}
 use mathlib.Core.List.{List, [], _∷_, map}
 use lib.Dec.{leb, ltb, eqb}
-use lib.ListN.{length, take}
+use lib.ListN.{length, take, getD}
 use Rattle.decimal.specs.Decimal.{Number, isZero}
 use Rattle.decimal.specs.Buffer.{overlaid}
 use Rattle.settings.specs.Settings.{Terms, isM, good, kept}
@@ -145,11 +145,11 @@ taken p m =
       ever = m .snapshot || p .ever;
     }
 
-unfoldable pub setWaiting : Reference → Reference
-setWaiting p = record { terms = p .terms; status = waiting; bids = p .bids; asks = p .asks; number = p .number; updates = p .updates; ever = p .ever }
+unfoldable pub withStatus : Status → Reference → Reference
+withStatus status p = record { terms = p .terms; status = status; bids = p .bids; asks = p .asks; number = p .number; updates = p .updates; ever = p .ever }
 
 unfoldable pub refusedBy : Reference → Answer → After
-refusedBy p a = record { book = cond (leavesStatus a) p (setWaiting p); answer = a }
+refusedBy p a = record { book = cond (leavesStatus a) p (withStatus waiting p); answer = a }
 
 unfoldable pub answered : Reference → Message → Answer → After
 answered p m a = cond (isTaken a) (record { book = taken p m; answer = Taken }) (refusedBy p a)
@@ -198,28 +198,11 @@ sideOf Bids p = p .bids
 sideOf Asks p = p .asks
 
 -- Level i, counted from 0 as best.
-pub data Place : Type 0 where
-  standing : PriceLevel → Place
-  absent : Place
-
-unfoldable pub placeAt : ℕ → List PriceLevel → Place
-placeAt i [] = absent
-placeAt zero (l ∷ s) = standing l
-placeAt (suc i) (l ∷ s) = placeAt i s
-
-unfoldable pub placeAnswer : Place → Answer
-placeAnswer (standing l) = Taken
-placeAnswer absent = NoLevel
-
-unfoldable pub placeLevel : Place → PriceLevel
-placeLevel (standing l) = l
-placeLevel absent = noLevel
-
 unfoldable pub askedLevel : Scope → Side → ℕ → Reference → Answer
-askedLevel scope side i p = ifTaken (asked scope p) (placeAnswer (placeAt i (sideOf side p))) (asked scope p)
+askedLevel scope side i p = ifTaken (asked scope p) (cond (ltb i (length (sideOf side p))) Taken NoLevel) (asked scope p)
 
 unfoldable pub levelAsked : Scope → Side → ℕ → Reference → PriceLevel
-levelAsked scope side i p = ifTaken (asked scope p) (placeLevel (placeAt i (sideOf side p))) noLevel
+levelAsked scope side i p = ifTaken (askedLevel scope side i p) (getD (sideOf side p) i noLevel) noLevel
 
 -- The text of the book as a snapshot.
 unfoldable pub textIn : Dialect → Reference → List ℕ

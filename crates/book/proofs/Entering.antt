@@ -17,10 +17,10 @@ use Rattle.settings.specs.Settings.{Terms, good, goodDepth, goodName}
 use Rattle.settings.specs.declared.Dialect.{Dialect}
 use Rattle.settings.specs.declared.Dialect.the-variants.{K, M, Unknown}
 use Rattle.entries.specs.Places.{andThen, all, arrayAt, inner, top}
-use Rattle.entries.specs.Rows.{Row, entryK, entryM, entriesAt, numberAt, badTexts, badSize}
+use Rattle.entries.specs.Rows.{Row, entryK, entryM, entryFor, entriesAt, numberAt, badTexts, badSize}
 use Rattle.entries.specs.Summary.{zeroSize, anyZero}
 use Rattle.entries.proofs.Claims.{zero-none}
-use Rattle.entries.proofs.Shift.{Even, k-even, m-even}
+use Rattle.entries.proofs.Shift.{Even, k-even, m-even, shifted-rows, shifted-loadable}
 use Rattle.layout.specs.Layout.{Listed, Layout, Heard}
 use Rattle.message.specs.Meaning.{Quote, quoteAt, Checked, fails, passes, bad, decimals, alsoDecimals, tooMany, counted, laidOut, addressed, heardIn, framed, checked}
 use Rattle.message.specs.declared.Answer.{Answer}
@@ -29,9 +29,9 @@ use Rattle.message.proofs.Entering.{Readable, entry-same, entry-even}
 use Rattle.message.proofs.Where.{entryIn, Lies, nowhere, there, LieIn, framed-lies}
 use Rattle.side.specs.Level.{PriceLevel, shownPrice}
 use Rattle.side.specs.Side.{Edit, sets, removes, All, IsSet, named}
-use Rattle.loader.specs.Loaded.{Loadable, rowsAt, editFor, editAt}
-use Rattle.loader.specs.Reading.{entryFor, Ready}
-use Rattle.loader.proofs.Shift.{shifted-rows, shifted-loadable, edits-shift}
+use Rattle.entries.specs.Arrays.{Loadable, rowsAt, Ready}
+use Rattle.loader.specs.Loaded.{editFor, editAt}
+use Rattle.loader.proofs.Shift.{edits-shift}
 use Rattle.sides.specs.Worked.{editsAt}
 use Rattle.book.specs.Reference.{editOf, pricesOf}
 use Rattle.settings.specs.Settings.{isM}

@@ -30,7 +30,7 @@ use Rattle.side.specs.declared.Levels.{Levels}
 use Rattle.side.proofs.Lengths.{length-ranked, length-applyAll, afterMessage-whole}
 use Rattle.side.proofs.Meeting.{met-snapshot}
 use Rattle.sides.specs.Worked.{SideAfter, Sound, editsAt, Worked}
-use Rattle.loader.specs.Reading.{Ready}
+use Rattle.entries.specs.Arrays.{Ready}
 use Rattle.layout.specs.Layout.{Layout}
 use Rattle.layout.specs.Told.{isPrinted, sumOf, outlineOf}
 use Rattle.layout.specs.declared.Outline.{Outline}

@@ -9,16 +9,17 @@ use borrow.Author.Tests.{eq-eqb, ne-eqb}
 use Rattle.decimal.specs.Digits.{Reading, refused}
 use Rattle.json_tokens.specs.Bytes.{byteAt}
 use Rattle.json_tokens.specs.Tokens.{End, At, Broken, endOf, blanks, closing, separator, string}
-use Rattle.json_tokens.proofs.Bounds.{bounds, closing-in, separator-in}
+use Rattle.json_tokens.proofs.Laws.{end-at}
+use Rattle.json_tokens.proofs.Bounds.{bounds, end-broken, closing-in, separator-in}
 use lib.ListN.{length}
 use Rattle.json.specs.Json.{Span, item, ends, Items, items, noItems, next, before, onward, list, itemsEnd, element, elements, value}
 use Rattle.json.proofs.Laws.{value-array, before-end, element-is, element-wrong, later-item, later-ends, later-wrong}
 use Rattle.json.proofs.Bounds.{value-in}
 use Rattle.json.proofs.Walk.{Walk, walk, walk-ends, walk-wrong, walk-is, walk-item}
 use Rattle.entries.specs.Places.{andThen, isString, contents, arrayAt}
-use Rattle.entries.specs.Rows.{Row, rowK, entryK, rowM, entryM}
-use Rattle.entries.specs.Summary.{foundOf, foundAt}
-use Rattle.entries.specs.Front.{Two, Front, RestEnd, endIn}
+use Rattle.entries.specs.Rows.{Row, rowK, entryK, rowM, entryM, entryFor}
+use Rattle.entries.specs.Summary.{foundOf, priceSpan, sizeSpan, foundAt}
+use Rattle.entries.specs.Front.{Two, Front, RestEnd, endIn, EntryEnd}
 use Rattle.entries.specs.declared.Found.{Found}
 use Rattle.entries.proofs.Stops.{broken-at, one, string-is, close-no-comma, Stops, stops-first, stops-comma, stops-string, Halts, halt, past-string, past-first}
 
@@ -113,17 +114,19 @@ found-none entry s at h = go (value 13 s at)
 
 -- ---- without two strings at the front, the value is an entry of neither dialect
 abbrev pub Neither : List ℕ → ℕ → Type 0
-Neither s at = (to : ℕ) → (entryK s (record { from = at; to = to }) ≡ refused) × (entryM s (record { from = at; to = to }) ≡ refused)
+Neither s at = (m : Bool) (to : ℕ) → entryFor m s (record { from = at; to = to }) ≡ refused
 
 module _ (s : List ℕ) (at : ℕ) where
   pub neither-array : (byteAt s at ≡ 91 → ⊥) → Neither s at
   unfolding entryK entryM
-  neither-array h to = (read-other rowK s at to h, read-other rowM s at to h)
+  neither-array h true to = read-other rowM s at to h
+  neither-array h false to = read-other rowK s at to h
 
   module _ (opens : byteAt s at ≡ 91) where
     both : ((row : List Span → Reading Row) → Wants s row → rowOf row (whole s at) ≡ refused) → Neither s at
     unfolding entryK entryM
-    both h to = (read-array rowK s at to opens ∙ h (rowK s) (k-wants s), read-array rowM s at to opens ∙ h (rowM s) (m-wants s))
+    both h true to = read-array rowM s at to opens ∙ h (rowM s) (m-wants s)
+    both h false to = read-array rowK s at to opens ∙ h (rowK s) (k-wants s)
 
     pub neither-first : string s (blanks s (at + 1)) ≡ Broken → Neither s at
     unfolding elements contents andThen
@@ -152,10 +155,10 @@ end-in (suc r) n = refl
 
 module _ (s : List ℕ) (at : ℕ) (f : Found) (t : Two s at f) where
   abbrev price : Span
-  price = record { from = f .«price_from»; to = f .«price_to» }
+  price = priceSpan f
 
   abbrev size : Span
-  size = record { from = f .«size_from»; to = f .«size_to» }
+  size = sizeSpan f
 
   abbrev told : ℕ → Found
   told e = record { end = e; fair = true; «price_from» = f .«price_from»; «price_to» = f .«price_to»; «size_from» = f .«size_from»; «size_to» = f .«size_to» }
@@ -293,3 +296,12 @@ pub told-is : (f : Found) (e : ℕ) → f .fair ≡ true
     → _≡_ {A = Found} (record { end = e; fair = f .fair; «price_from» = f .«price_from»; «price_to» = f .«price_to»; «size_from» = f .«size_from»; «size_to» = f .«size_to» })
     (record { end = e; fair = true; «price_from» = f .«price_from»; «price_to» = f .«price_to»; «size_from» = f .«size_from»; «size_to» = f .«size_to» })
 told-is f e h = rw h
+
+-- an entry of dialect M ends with the bracket past its two strings
+pub m-end : (s : List ℕ) (at r : ℕ) → r ≡ endOf (closing 93 s at) → EntryEnd entryM s at r
+unfolding foundOf
+m-end s at r h =
+    record {
+      some = λ n from f two ends. sym (m-is s from f two r (ap (closing 93 s) ends ∙ end-at (closing 93 s at) r h n));
+      none = λ z from f two ends. m-none s from f two (ap (closing 93 s) ends ∙ end-broken r (omega arith) (closing-in s 93 at (omega arith)) h z);
+    }

@@ -6,4 +6,5 @@ pub mod Counting
 pub mod Summary
 pub mod Claims
 pub mod Decimals
+pub mod Rows
 pub mod Shift

@@ -18,7 +18,7 @@ use Rattle.json.specs.Claims.{In-order, then, Is-element}
 use Rattle.json.proofs.Laws.{value-string}
 use Rattle.json.proofs.Claims.{elements-in-order}
 use Rattle.entries.specs.Places.{andThen, isString, contents, arrayAt}
-use Rattle.entries.specs.Rows.{Row, rowK, entryK, rowM, entryM}
+use Rattle.entries.specs.Rows.{Row, rowK, entryK, rowM, entryM, entryFor}
 use Rattle.entries.proofs.Stops.{broken-at, string-byte}
 
 -- ---- a string has two quotes: past the first, it ends past where it begins
@@ -123,7 +123,7 @@ module _ (s : List ℕ) (row : List Span → Reading Row) (front : (l : List Spa
       go true g = sound-items (a .from + 1) (elements (value 12 s) s (a .from + 1)) refl r g
       go false g = no-row g
 
-pub k-sound : (s : List ℕ) → Sound entryK s
+k-sound : (s : List ℕ) → Sound entryK s
 unfolding entryK rowK
 k-sound s a r h = sound-array s (rowK s) front a r h
   where
@@ -142,7 +142,7 @@ k-sound s a r h = sound-array s (rowK s) front a r h
     front (p ∷ (z ∷ [])) r g = no-row g
     front (p ∷ (z ∷ (t ∷ k))) r g = strings p z t k r (isString s p && (isString s z && isString s t)) refl g
 
-pub m-sound : (s : List ℕ) → Sound entryM s
+m-sound : (s : List ℕ) → Sound entryM s
 unfolding entryM rowM
 m-sound s a r h = sound-array s (rowM s) front a r h
   where
@@ -159,3 +159,7 @@ m-sound s a r h = sound-array s (rowM s) front a r h
     front (p ∷ []) r g = no-row g
     front (p ∷ (z ∷ [])) r g = strings p z r (isString s p && isString s z) refl g
     front (p ∷ (z ∷ (x ∷ k))) r g = no-row g
+
+pub sound-for : (m : Bool) (s : List ℕ) → Sound (entryFor m) s
+sound-for true s = m-sound s
+sound-for false s = k-sound s

@@ -18,7 +18,7 @@ use Rattle.json.proofs.Bounds.{value-in}
 use Rattle.json.proofs.Walk.{Walk, walk-empty, walk-start, walk-wrong, walk-on, walk-last, walk-broken}
 use Rattle.entries.specs.Places.{andThen, all, contents, arrayAt}
 use Rattle.entries.specs.Rows.{Row, entriesAt, badPrice, badSize}
-use Rattle.entries.specs.Summary.{foundOf, foundAt, zeroSize, anyBroken, anyZero, noEntries, summaryOf, summaryAt}
+use Rattle.entries.specs.Summary.{foundOf, priceSpan, sizeSpan, foundAt, zeroSize, anyBroken, anyZero, noEntries, summaryOf, summaryAt}
 use Rattle.entries.specs.Counting.{Laid, withRow, counted}
 use Rattle.entries.specs.declared.Found.{Found}
 use Rattle.entries.specs.declared.Entries.{Entries}
@@ -213,17 +213,17 @@ module _ (entry : List ℕ → Span → Reading Row) (s : List ℕ) where
 
     -- a fair entry's price and size are strings
     pub found-strings : Sound entry s → g .fair ≡ true
-        → StringAt s (record { from = g .«price_from»; to = g .«price_to» }) × StringAt s (record { from = g .«size_from»; to = g .«size_to» })
+        → StringAt s (priceSpan g) × StringAt s (sizeSpan g)
     unfolding foundAt foundOf
     found-strings sound fair = go (value 13 s i) told
       where
         at-value : (e : ℕ) (y : Reading Row) → entry s (record { from = i; to = e }) ≡ y → g ≡ foundOf e y
-            → StringAt s (record { from = g .«price_from»; to = g .«price_to» }) × StringAt s (record { from = g .«size_from»; to = g .«size_to» })
+            → StringAt s (priceSpan g) × StringAt s (sizeSpan g)
         at-value e (reads r) q h = rw h (sound (record { from = i; to = e }) r q)
         at-value e refused q h = absurd (true≢false (sym fair ∙ ap (λ (x : Found). x .fair) h))
 
         go : (x : End) → g ≡ elim x [ At e ↦ foundOf e (entry s (record { from = i; to = e })) | Broken ↦ foundOf 0 refused ]
-            → StringAt s (record { from = g .«price_from»; to = g .«price_to» }) × StringAt s (record { from = g .«size_from»; to = g .«size_to» })
+            → StringAt s (priceSpan g) × StringAt s (sizeSpan g)
         go (At e) h = at-value e (entry s (record { from = i; to = e })) refl h
         go Broken h = absurd (true≢false (sym fair ∙ ap (λ (x : Found). x .fair) h))
 

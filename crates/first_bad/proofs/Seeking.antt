@@ -7,22 +7,21 @@ use Prim.Native.Nat.{ℕ, zero, suc, _-_, _≤_, _<_}
 use native.Mathlib.Omega.{arith}
 use lib.ListN.{length}
 use Rattle.decimal.specs.Digits.{Reading, reads, refused}
-use Rattle.decimal.specs.Decimal.{Number, read, isZero}
+use Rattle.decimal.specs.Decimal.{Number, read}
 use Rattle.json_tokens.specs.Tokens.{End, At, Broken, endOf, separator}
 use Rattle.json_tokens.proofs.Laws.{end-at}
 use Rattle.json_tokens.proofs.Bounds.{bounds, separator-in}
 use Rattle.json.specs.Json.{Span, value}
 use Rattle.json.proofs.Bounds.{value-in}
 use Rattle.entries.specs.Places.{inner}
-use Rattle.entries.specs.Rows.{Row, badPrice, badSize, badTexts}
-use Rattle.entries.specs.Summary.{foundOf, foundAt}
-use Rattle.entries.specs.Counting.{Laid}
+use Rattle.entries.specs.Rows.{Row, isBadPrice, isBadSize, badPrice, badSize, badTexts}
+use Rattle.entries.specs.Summary.{foundOf, priceSpan, sizeSpan, foundAt}
+use Rattle.entries.specs.Arrays.{rowsAt, Loadable, firstAt}
+use Rattle.entries.specs.Counting.{Placed}
 use Rattle.entries.specs.declared.Found.{Found}
 use Rattle.entries.proofs.Strings.{Sound}
 use Rattle.entries.proofs.Summary.{found-laid}
-use Rattle.loader.specs.Loaded.{rowsAt, Loadable}
-use Rattle.loader.specs.Reading.{firstAt, Placed, priceSpan, sizeSpan}
-use Rattle.loader.proofs.Rows.{Left, first-left, Here, left-here}
+use Rattle.entries.proofs.Rows.{Left, first-left, Here, left-here}
 use Rattle.first_bad.specs.Places.{noPlace, placeOf}
 
 -- `at` is where the next entry begins, or 0 where there is none
@@ -123,26 +122,12 @@ remaining-less n zero j p q f = absurd (omega arith)
 remaining-less n (suc k) zero p q f = omega arith
 remaining-less n (suc k) (suc i) p q f = let g = f (λ (z : suc i ≡ 0). omega arith) in omega arith
 
--- ---- one text
-
-module _ (s : List ℕ) (a : Span) where
-  pub price-number : (n : Number) → read (inner s a) ≡ reads n → isZero n ≡ badPrice s a
+-- ---- by what is read of the two texts
+module _ (s : List ℕ) (a : Span) (x : Reading Number) (h : x ≡ read (inner s a)) where
+  pub price-read : isBadPrice x ≡ badPrice s a
   unfolding badPrice
-  price-number n h = sym (rw (h, badPrice))
+  price-read = ap isBadPrice h
 
-  pub price-none : read (inner s a) ≡ refused → true ≡ badPrice s a
-  unfolding badPrice
-  price-none h = sym (rw (h, badPrice))
-
-  module _ (snapshot : Bool) where
-    pub size-snapshot : (n : Number) → read (inner s a) ≡ reads n → snapshot ≡ true → isZero n ≡ badSize snapshot s a
-    unfolding badSize
-    size-snapshot n h g = sym (rw (h, g, badSize))
-
-    pub size-update : (n : Number) → read (inner s a) ≡ reads n → snapshot ≡ false → false ≡ badSize snapshot s a
-    unfolding badSize
-    size-update n h g = sym (rw (h, g, badSize))
-
-    pub size-none : read (inner s a) ≡ refused → true ≡ badSize snapshot s a
-    unfolding badSize
-    size-none h = sym (rw (h, badSize))
+  pub size-read : (snapshot : Bool) → isBadSize snapshot x ≡ badSize snapshot s a
+  unfolding badSize
+  size-read snapshot = ap (isBadSize snapshot) h

@@ -17,17 +17,16 @@ use Rattle.settings.specs.Settings.{Terms, isM, good, goodDepth, goodName}
 use Rattle.settings.specs.declared.Dialect.{Dialect}
 use Rattle.settings.specs.declared.Dialect.the-variants.{K, M, Unknown}
 use Rattle.entries.specs.Places.{andThen, all, arrayAt, inner, top}
-use Rattle.entries.specs.Rows.{Row, entryK, entryM, entriesAt, numberAt, badTexts, badSize}
+use Rattle.entries.specs.Rows.{Row, entryK, entryM, entryFor, entriesAt, numberAt, badTexts, badSize}
 use Rattle.entries.specs.Summary.{zeroSize, anyZero}
 use Rattle.entries.proofs.Claims.{zero-none}
-use Rattle.entries.proofs.Shift.{Even, k-even, m-even}
+use Rattle.entries.proofs.Shift.{Even, k-even, m-even, shifted-loadable}
 use Rattle.layout.specs.Layout.{Listed, Layout, Heard}
 use Rattle.message.specs.Meaning.{Quote, quoteAt, Checked, fails, passes, bad, decimals, alsoDecimals, tooMany, counted, laidOut, addressed, heardIn, framed, checked}
 use Rattle.message.specs.declared.Answer.{Answer}
 use Rattle.message.specs.declared.Answer.the-variants.{TooLong, NotJson, Escaped, NotOurs, BadLayout, TooManyEntries, BadDecimal}
 use Rattle.message.proofs.Where.{entryIn, Lies, nowhere, there, LieIn, framed-lies}
-use Rattle.loader.specs.Reading.{entryFor, Ready}
-use Rattle.loader.proofs.Shift.{shifted-loadable}
+use Rattle.entries.specs.Arrays.{Ready}
 
 pub no-pass : {A : Type 0} (a : Answer) (l : Layout) → fails a ≡ passes l → A
 no-pass a l h = let z : _≡_ {A = ℕ} 0 1 = cc in absurd (omega arith)

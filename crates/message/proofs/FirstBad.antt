@@ -13,14 +13,12 @@ use Rattle.json.specs.Json.{Span}
 use Rattle.json.proofs.Shift.{shiftedSpan}
 use Rattle.settings.specs.Settings.{Terms, isM, good}
 use Rattle.settings.specs.declared.Dialect.{Dialect}
-use Rattle.entries.specs.Rows.{Row, entriesAt, badTexts, firstOf}
-use Rattle.entries.proofs.Shift.{shiftedRow, texts-shift}
+use Rattle.entries.specs.Rows.{Row, entryFor, entriesAt, badTexts, firstOf}
+use Rattle.entries.proofs.Shift.{shiftedRow, texts-shift, shifted-rows}
 use Rattle.layout.specs.Layout.{Listed, Layout}
 use Rattle.layout.specs.Told.{outlineOf}
 use Rattle.layout.specs.declared.Outline.{Outline}
-use Rattle.loader.specs.Loaded.{rowsAt}
-use Rattle.loader.specs.Reading.{entryFor, Ready}
-use Rattle.loader.proofs.Shift.{shifted-rows}
+use Rattle.entries.specs.Arrays.{rowsAt, Ready}
 use Rattle.first_bad.specs.Places.{noPlace, placeOf, First}
 use Rattle.first_bad.specs.declared.Place.{Place}
 use Rattle.message.specs.Meaning.{Checked, fails, passes, framed, earlier, firstBad, firstBadOf, badDecimal}

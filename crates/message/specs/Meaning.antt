@@ -10,7 +10,7 @@ use Rattle.decimal.specs.Decimal.{Number}
 use Rattle.json.specs.Json.{Span, text}
 use Rattle.settings.specs.Settings.{Terms, good}
 use Rattle.entries.specs.Places.{top}
-use Rattle.entries.specs.Rows.{Row, badTexts, firstOf, numberAt}
+use Rattle.entries.specs.Rows.{Row, maxEntries, badTexts, firstOf, numberAt}
 use Rattle.layout.specs.Layout.{Printed, Listed, Layout, Heard}
 use Rattle.message_k.specs.LayoutK.{heardK}
 use Rattle.message_m.specs.LayoutM.{heardM}
@@ -21,9 +21,6 @@ use Rattle.settings.specs.declared.Dialect.the-variants.{K, M, Unknown}
 
 abbrev pub maxMessage : ℕ
 maxMessage = 32768
-
-abbrev pub maxEntries : ℕ
-maxEntries = 100
 
 -- The answer to a message that fails a check, or the layout of one that fails none.
 pub data Checked : Type 0 where

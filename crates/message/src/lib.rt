@@ -2,6 +2,7 @@
 // lie, its checksum and its sequence number. One walk over the message finds out all of it.
 mod bad;
 
+use entries::MAX_ENTRIES;
 use json::MAX_DEPTH;
 use json::value_end;
 use json_tokens::is_ended;
@@ -25,9 +26,6 @@ ghost use Rattle.message.specs.Deciding.{decided, addressedTold, laidOut
 
 // The longest message.
 pub const MAX_MESSAGE: usize = 32768;
-
-// The most entries of a side in one message.
-pub const MAX_ENTRIES: usize = 100;
 
 // The answers of a book to messages and questions.
 pub enum Answer {

@@ -14,7 +14,8 @@ use Rattle.decimal.specs.Decimal.{Number, read, isZero, Within}
 use Rattle.decimal.proofs.RoundTrip.{read-within}
 use Rattle.json.specs.Json.{Span}
 use Rattle.entries.specs.Places.{inner}
-use Rattle.entries.specs.Rows.{Row, numberAt}
+use Rattle.entries.specs.Rows.{Row, entryFor, numberAt}
+use Rattle.entries.specs.Arrays.{rowsAt}
 use Rattle.side.specs.Level.{PriceLevel, levelPrice, levelSize, shown, shownPrice}
 use Rattle.side.specs.Side.{Edit, sets, removes, mapEdit, All, IfSet, applyAll, ranked, afterMessage, met}
 use Rattle.side.specs.Words.{entriesOf}
@@ -27,8 +28,7 @@ use Rattle.side.proofs.Held.{held-length}
 use Rattle.side.proofs.Ranking.{all-afterMessage, sorted-ranked}
 use Rattle.side.proofs.Mapping.{shown-afterMessage, applied-levels, applied-count, applied-met}
 use Rattle.checksum.specs.Carried.{Carries}
-use Rattle.loader.specs.Loaded.{editFor, editAt, rowsAt, Loaded}
-use Rattle.loader.specs.Reading.{entryFor, pieceFor}
+use Rattle.loader.specs.Loaded.{editFor, editAt, pieceFor, Loaded}
 use Rattle.sides.specs.Worked.{Sound, editsAt, sideAfter, Worked}
 
 -- ---- sizes keep the limits of decimals

@@ -10,9 +10,8 @@ use Rattle.decimal.specs.Decimal.{Number, read, isZero}
 use Rattle.json.specs.Json.{Span}
 use lib.ListN.{length}
 use Rattle.entries.specs.Places.{andThen, all, inner, arrayAt}
-use Rattle.entries.specs.Rows.{Row, entriesAt, badPrice, badSize, badTexts}
+use Rattle.entries.specs.Rows.{Row, entriesDepth, entriesAt, badPrice, badSize, badTexts}
 use Rattle.entries.specs.Summary.{zeroSize, anyBroken, anyZero, noEntries, summaryOf}
-use Rattle.entries.specs.declared.Entries.{Entries}
 use Rattle.entries.proofs.Strings.{StringAt, Sound, no-row}
 
 no-list : {A B : Type 0} {a : A} {l : List A} → _≡_ {A = List A} (a ∷ l) [] → B
@@ -125,7 +124,7 @@ module _ (entry : List ℕ → Span → Reading Row) (s : List ℕ) (sound : Sou
 
   pub rows-strings : (a : Span) (rows : List Row) → entriesAt entry s a ≡ reads rows → Strings s rows
   unfolding entriesAt andThen
-  rows-strings a rows h = go (arrayAt 14 s a) h
+  rows-strings a rows h = go (arrayAt entriesDepth s a) h
     where
       go : (x : Reading (List Span)) → andThen x (all (entry s)) ≡ reads rows → Strings s rows
       go (reads l) g = all-strings l rows g

@@ -11,7 +11,7 @@ use lib.Dec.{eqb, leb, lit<}
 use lib.ListN.{length, getD, take, drop, length-append, length-drop, take-append-drop}
 use lib.Seq.{drop-drop, length-take-le}
 use Rattle.decimal.specs.Digits.{Reading, reads, refused, isDigit, leading}
-use Rattle.decimal.specs.Decimal.{Number, number, Prefix, prefixed, isWhole, fractional, prefix, read, maxWhole, maxDecimals, Within}
+use Rattle.decimal.specs.Decimal.{Number, number, Prefix, prefixed, isWhole, fractional, prefix, read, maxWhole, maxDecimals}
 use Rattle.decimal.specs.declared.Decimal.{Decimal}
 use Rattle.decimal.proofs.Digits.{Digits, none, one, digit-in}
 use Rattle.decimal.proofs.Scan.{prefix-refused, prefix-pointed, pointed-plain, pointed-fraction, read-all}

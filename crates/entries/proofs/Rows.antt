@@ -14,7 +14,7 @@ use Rattle.json_tokens.proofs.Bounds.{bounds, end-broken, blanks-in, closing-in
 use Rattle.json.specs.Json.{Span, Items, items, noItems, next, before, onward, list, listOf, elements, value}
 use Rattle.json.proofs.Laws.{element-is, element-wrong, first-ends, first-item, later-item, later-ends, later-wrong}
 use Rattle.entries.specs.Places.{andThen, all, contents, arrayAt}
-use Rattle.entries.specs.Rows.{Row, maxEntries, entriesAt}
+use Rattle.entries.specs.Rows.{Row, maxEntries, entryDepth, entriesAt}
 use Rattle.entries.specs.Summary.{foundOf, foundAt}
 use Rattle.entries.specs.Arrays.{rowsOf, rowsAt, Loadable, firstAt}
 use Rattle.entries.specs.declared.Found.{Found}
@@ -58,12 +58,12 @@ module _ (entry : List ℕ → Span → Reading Row) (s : List ℕ) where
   rows-elements (items l e) = refl
   rows-elements noItems = refl
 
-  in-array : (end : ℕ) (rows : List Row) → entriesAt entry s (record { from = 0; to = end }) ≡ reads rows → rowsIn (elements (value 13 s) s 1) ≡ reads rows
+  in-array : (end : ℕ) (rows : List Row) → entriesAt entry s (record { from = 0; to = end }) ≡ reads rows → rowsIn (elements (value entryDepth s) s 1) ≡ reads rows
   unfolding entriesAt arrayAt andThen
   in-array end rows h = go (eqb (byteAt s 0) 91) h
     where
-      go : (b : Bool) → andThen (cond b (contents (elements (value 13 s) s 1)) refused) (all (entry s)) ≡ reads rows → rowsIn (elements (value 13 s) s 1) ≡ reads rows
-      go true g = sym (rows-elements (elements (value 13 s) s 1)) ∙ g
+      go : (b : Bool) → andThen (cond b (contents (elements (value entryDepth s) s 1)) refused) (all (entry s)) ≡ reads rows → rowsIn (elements (value entryDepth s) s 1) ≡ reads rows
+      go true g = sym (rows-elements (elements (value entryDepth s) s 1)) ∙ g
       go false g = no-row g
 
   module _ (end : ℕ) (rows : List Row) (h : entriesAt entry s (record { from = 0; to = end }) ≡ reads rows) where
@@ -131,12 +131,12 @@ module _ (entry : List ℕ → Span → Reading Row) (s : List ℕ) where
 
   pub left-here : (i : ℕ) (rows : List Row) → Left i rows → (g : Found) → g ≡ foundAt entry s i → Here rows g
   unfolding onward rowsIn foundAt foundOf
-  left-here i rows w g told = go (value 13 s i) refl
+  left-here i rows w g told = go (value entryDepth s i) refl
     where
-      go : (x : End) → value 13 s i ≡ x → Here rows g
+      go : (x : End) → value entryDepth s i ≡ x → Here rows g
       go (At e) v =
           let a : Span = record { from = i; to = e } in
-          let p = split a (list (each s) 93 s (w .steps) false e) rows (rw (element-is (value 13 s) i e v) at (w .rest)) in
+          let p = split a (list (each s) 93 s (w .steps) false e) rows (rw (element-is (value entryDepth s) i e v) at (w .rest)) in
           let f : foundAt entry s i ≡ foundOf e (entry s a) = rw (v, foundAt) in
           let r : g ≡ foundOf e (reads (p .row)) = told ∙ f ∙ ap (foundOf e) (p .reads-row) in
           let n : g .end ≡ e = ap (λ (x : Found). x .end) r in
@@ -147,4 +147,4 @@ module _ (entry : List ℕ → Span → Reading Row) (s : List ℕ) where
             is-row = r ∙ ap (λ (k : ℕ). foundOf k (reads (p .row))) (sym n);
             onwards = λ j h. past-comma (w .steps) e (p .later) (p .reads-later) j (h ∙ ap (λ (k : ℕ). endOf (separator 44 s k)) n);
           }
-      go Broken v = no-row (rw (element-wrong (value 13 s) i v) at (w .rest))
+      go Broken v = no-row (rw (element-wrong (value entryDepth s) i v) at (w .rest))

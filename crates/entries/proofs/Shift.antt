@@ -15,7 +15,7 @@ use Rattle.json_tokens.proofs.Shift.{past-one, byte-shift}
 use Rattle.json.specs.Json.{Span, Items, elements, value}
 use Rattle.json.proofs.Shift.{shiftedSpan, ItemsShifts, both-items, no-items, elements-shift}
 use Rattle.entries.specs.Places.{andThen, all, isString, contents, arrayAt, inner}
-use Rattle.entries.specs.Rows.{Row, maxEntries, rowK, entryK, rowM, entryM, entriesAt, badPrice, badSize, badTexts, numberAt}
+use Rattle.entries.specs.Rows.{Row, maxEntries, entriesDepth, entryDepth, rowK, entryK, rowM, entryM, entriesAt, badPrice, badSize, badTexts, numberAt}
 use Rattle.entries.specs.Summary.{zeroSize, anyBroken, anyZero}
 use Rattle.entries.specs.Arrays.{rowsAt, Loadable}
 use Rattle.entries.proofs.Strings.{no-row, same-row}
@@ -140,14 +140,14 @@ module _ (k : ℕ) (s : List ℕ) where
   pub k-even : Even entryK
   unfolding entryK shiftedSpan
   k-even a =
-      ap (λ (x : Reading (List Span)). andThen x (rowK s)) (array-shift 13 (a .from) (k + a .to) (a .to))
-      ∙ then-changed (map (shiftedSpan k)) (shiftedRow k) (rowK s) (rowK (drop k s)) rowK-shift (arrayAt 13 (drop k s) a)
+      ap (λ (x : Reading (List Span)). andThen x (rowK s)) (array-shift entryDepth (a .from) (k + a .to) (a .to))
+      ∙ then-changed (map (shiftedSpan k)) (shiftedRow k) (rowK s) (rowK (drop k s)) rowK-shift (arrayAt entryDepth (drop k s) a)
 
   pub m-even : Even entryM
   unfolding entryM shiftedSpan
   m-even a =
-      ap (λ (x : Reading (List Span)). andThen x (rowM s)) (array-shift 13 (a .from) (k + a .to) (a .to))
-      ∙ then-changed (map (shiftedSpan k)) (shiftedRow k) (rowM s) (rowM (drop k s)) rowM-shift (arrayAt 13 (drop k s) a)
+      ap (λ (x : Reading (List Span)). andThen x (rowM s)) (array-shift entryDepth (a .from) (k + a .to) (a .to))
+      ∙ then-changed (map (shiftedSpan k)) (shiftedRow k) (rowM s) (rowM (drop k s)) rowM-shift (arrayAt entryDepth (drop k s) a)
 
   module _ (entry : List ℕ → Span → Reading Row) (even : Even entry) where
     all-shift : (l : List Span) → all (entry s) (map (shiftedSpan k) l) ≡ changed (map (shiftedRow k)) (all (entry (drop k s)) l)
@@ -165,8 +165,8 @@ module _ (k : ℕ) (s : List ℕ) where
     pub entries-shift : (i e f : ℕ) → entriesAt entry s (record { from = k + i; to = e }) ≡ changed (map (shiftedRow k)) (entriesAt entry (drop k s) (record { from = i; to = f }))
     unfolding entriesAt
     entries-shift i e f =
-        ap (λ (x : Reading (List Span)). andThen x (all (entry s))) (array-shift 14 i e f)
-        ∙ then-changed (map (shiftedSpan k)) (map (shiftedRow k)) (all (entry s)) (all (entry (drop k s))) all-shift (arrayAt 14 (drop k s) (record { from = i; to = f }))
+        ap (λ (x : Reading (List Span)). andThen x (all (entry s))) (array-shift entriesDepth i e f)
+        ∙ then-changed (map (shiftedSpan k)) (map (shiftedRow k)) (all (entry s)) (all (entry (drop k s))) all-shift (arrayAt entriesDepth (drop k s) (record { from = i; to = f }))
 
     -- the array of entries at k, where the later text begins
     pub rows-shift : (e f : ℕ) → entriesAt entry s (record { from = k; to = e }) ≡ changed (map (shiftedRow k)) (entriesAt entry (drop k s) (record { from = 0; to = f }))

@@ -124,23 +124,6 @@ pub fn entries_at(s: &[u8], at: usize, m: bool) -> Entries
     }
 }
 
-// What was counted, and the entry at `at` more. Most entries have two decimals, which are read in one go on the way to the entry's end;
-// any other is found first. Where the value there is not JSON, the end is 0.
-fn next_entry(s: &[u8], at: usize, m: bool, sum: Entries) -> Entries
-    requires { ⌜ sum .count ≤ at ⌝ }
-    ensures { λ r. ⌜ r ≡ counted (now (s .entry)) sum (foundAt (entryFor m) (now (s .entry)) at) ⌝ }
-{
-    let amounts = two_amounts(s, at, m);
-    if 0 < amounts.end {
-        return with_amounts(sum, amounts);
-    }
-    let found = entry_at(s, at, m);
-    if found.end == 0 {
-        return refused(0);
-    }
-    counted(s, sum, found)
-}
-
 // The value at `at` as an entry.
 pub fn entry_at(s: &[u8], at: usize, m: bool) -> Found
     ensures { λ r. ⌜ r ≡ foundAt (entryFor m) (now (s .entry)) at ⌝ }
@@ -178,102 +161,58 @@ pub fn read_entry(s: &[u8], at: usize, m: bool) -> Amounts
     any_entry(s, at, m)
 }
 
-// The same, whatever its strings hold.
-fn any_entry(s: &[u8], at: usize, m: bool) -> Amounts
-    requires { ⌜ Placed (now s) (foundAt (entryFor m) (now s) at) ⌝ }
-    ensures { λ r. ⌜ EntryAt m (now (s .entry)) at r ⌝ }
+// What the string from `from` to `to`, quotes included, says. The decimal is read where it lies.
+pub fn parse_quoted(s: &[u8], from: usize, to: usize) -> Parsed
+    requires { ⌜ Quoted (now s) from to ⌝ }
+    ensures { λ r. ⌜ parsed r ≡ read (inner (now (s .entry)) (record { from = from; to = to })) ⌝ }
 {
+    let first = from + 1;
+    let last = to - 1;
+    parse(&s[first..last])
+}
+
+// Whether the text of a price breaks a rule of decimals, by what it says.
+pub fn is_bad_price(price: Parsed) -> bool
+    ensures { λ r. ⌜ r ≡ isBadPrice (parsed price) ⌝ }
+{
+    match price {
+        Parsed::Number(d) => decimal::is_zero(d),
+        Parsed::Refused => true,
+    }
+}
+
+// The same of a size: in a snapshot it must not be zero either.
+pub fn is_bad_size(size: Parsed, snapshot: bool) -> bool
+    ensures { λ r. ⌜ r ≡ isBadSize snapshot (parsed size) ⌝ }
+{
+    match size {
+        Parsed::Number(d) => {
+            if snapshot {
+                return decimal::is_zero(d);
+            }
+            false
+        }
+        Parsed::Refused => true,
+    }
+}
+
+// ---- an array of entries
+
+// What was counted, and the entry at `at` more. Most entries have two decimals, which are read in one go on the way to the entry's end;
+// any other is found first. Where the value there is not JSON, the end is 0.
+fn next_entry(s: &[u8], at: usize, m: bool, sum: Entries) -> Entries
+    requires { ⌜ sum .count ≤ at ⌝ }
+    ensures { λ r. ⌜ r ≡ counted (now (s .entry)) sum (foundAt (entryFor m) (now (s .entry)) at) ⌝ }
+{
+    let amounts = two_amounts(s, at, m);
+    if 0 < amounts.end {
+        return with_amounts(sum, amounts);
+    }
     let found = entry_at(s, at, m);
-    let price = number_at(s, found.price_from, found.price_to);
-    let size = number_at(s, found.size_from, found.size_to);
-    Amounts {
-        price,
-        size,
-        end: found.end,
+    if found.end == 0 {
+        return refused(0);
     }
-}
-
-// The value at `at`, which is no entry.
-fn passed_over(s: &[u8], at: usize) -> Found
-    ensures { λ r. ⌜ r ≡ foundOf (endOf (value entryDepth (now (s .entry)) at)) refused ⌝ }
-{
-    no_entry(value_end(s, at, ENTRY_DEPTH))
-}
-
-// The two strings that the array at `at` begins with, and where the second of them ends.
-fn two_strings(s: &[u8], at: usize) -> Found
-    ensures { λ r. ⌜ Front (now (s .entry)) at r ⌝ }
-{
-    if byte_at(s, at) != OPEN_ARRAY {
-        return no_entry(0);
-    }
-    let price_from = skip_blanks(s, at + 1);
-    let price_to = string_end(s, price_from);
-    if price_to == 0 {
-        return no_entry(0);
-    }
-    let size_from = comma_end(s, price_to);
-    if size_from == 0 {
-        return no_entry(0);
-    }
-    let size_to = string_end(s, size_from);
-    if size_to == 0 {
-        return no_entry(0);
-    }
-    Found {
-        end: size_to,
-        fair: true,
-        price_from,
-        price_to,
-        size_from,
-        size_to,
-    }
-}
-
-// Past the array that has an element which ends at `at`.
-fn rest_end(s: &[u8], at: usize) -> usize
-    ensures { λ r. ⌜ RestEnd (now (s .entry)) at r ⌝ }
-{
-    let mut i = at;
-    loop {
-        let j = comma_end(s, i);
-        if j == 0 {
-            return array_close_end(s, i);
-        }
-        let e = value_end(s, j, ELEMENT_DEPTH);
-        if e == 0 {
-            return 0;
-        }
-        i = e;
-    }
-}
-
-// The same with another end.
-fn at_end(found: Found, end: usize) -> Found
-    ensures { λ r. ⌜ r ≡ record { end = end; fair = found .fair; «price_from» = found .«price_from»; «price_to» = found .«price_to»; «size_from» = found .«size_from»; «size_to» = found .«size_to» } ⌝ }
-{
-    Found {
-        end,
-        fair: found.fair,
-        price_from: found.price_from,
-        price_to: found.price_to,
-        size_from: found.size_from,
-        size_to: found.size_to,
-    }
-}
-
-// A value that ends at `end` and is no entry.
-fn no_entry(end: usize) -> Found
-    ensures { λ r. ⌜ r ≡ foundOf end refused ⌝ }
-{
-    Found {
-        end,
-        fair: false,
-        price_from: 0,
-        price_to: 0,
-        size_from: 0,
-        size_to: 0,
-    }
+    counted(s, sum, found)
 }
 
 // What was counted, and one entry more.
@@ -320,64 +259,6 @@ fn with_amounts(sum: Entries, amounts: Amounts) -> Entries
     refused(end)
 }
 
-fn either(a: bool, b: bool) -> bool
-    ensures { λ r. ⌜ r ≡ (a || b) ⌝ }
-{
-    if a {
-        return true;
-    }
-    b
-}
-
-// What the string from `from` to `to`, quotes included, says. The decimal is read where it lies.
-pub fn parse_quoted(s: &[u8], from: usize, to: usize) -> Parsed
-    requires { ⌜ Quoted (now s) from to ⌝ }
-    ensures { λ r. ⌜ parsed r ≡ read (inner (now (s .entry)) (record { from = from; to = to })) ⌝ }
-{
-    let first = from + 1;
-    let last = to - 1;
-    parse(&s[first..last])
-}
-
-// The decimal in the string from `from` to `to`; 0 where it is none.
-fn number_at(s: &[u8], from: usize, to: usize) -> Decimal
-    requires { ⌜ Quoted (now s) from to ⌝ }
-    ensures { λ r. ⌜ NumberOf (now (s .entry)) (record { from = from; to = to }) r ⌝ }
-{
-    match parse_quoted(s, from, to) {
-        Parsed::Number(d) => d,
-        Parsed::Refused => Decimal {
-            digits: 0,
-            decimals: 0,
-        },
-    }
-}
-
-// Whether the text of a price breaks a rule of decimals, by what it says.
-pub fn is_bad_price(price: Parsed) -> bool
-    ensures { λ r. ⌜ r ≡ isBadPrice (parsed price) ⌝ }
-{
-    match price {
-        Parsed::Number(d) => decimal::is_zero(d),
-        Parsed::Refused => true,
-    }
-}
-
-// The same of a size: in a snapshot it must not be zero either.
-pub fn is_bad_size(size: Parsed, snapshot: bool) -> bool
-    ensures { λ r. ⌜ r ≡ isBadSize snapshot (parsed size) ⌝ }
-{
-    match size {
-        Parsed::Number(d) => {
-            if snapshot {
-                return decimal::is_zero(d);
-            }
-            false
-        }
-        Parsed::Refused => true,
-    }
-}
-
 // Whether the text of a size says zero.
 fn is_zero_size(size: Parsed) -> bool
     ensures { λ r. ⌜ r ≡ isZeroSize (parsed size) ⌝ }
@@ -386,6 +267,15 @@ fn is_zero_size(size: Parsed) -> bool
         Parsed::Number(d) => decimal::is_zero(d),
         Parsed::Refused => false,
     }
+}
+
+fn either(a: bool, b: bool) -> bool
+    ensures { λ r. ⌜ r ≡ (a || b) ⌝ }
+{
+    if a {
+        return true;
+    }
+    b
 }
 
 // What was counted of an array that ends at `end`.
@@ -427,6 +317,38 @@ fn refused(end: usize) -> Entries
     }
 }
 
+// ---- one entry
+
+// The two strings that the array at `at` begins with, and where the second of them ends.
+fn two_strings(s: &[u8], at: usize) -> Found
+    ensures { λ r. ⌜ Front (now (s .entry)) at r ⌝ }
+{
+    if byte_at(s, at) != OPEN_ARRAY {
+        return no_entry(0);
+    }
+    let price_from = skip_blanks(s, at + 1);
+    let price_to = string_end(s, price_from);
+    if price_to == 0 {
+        return no_entry(0);
+    }
+    let size_from = comma_end(s, price_to);
+    if size_from == 0 {
+        return no_entry(0);
+    }
+    let size_to = string_end(s, size_from);
+    if size_to == 0 {
+        return no_entry(0);
+    }
+    Found {
+        end: size_to,
+        fair: true,
+        price_from,
+        price_to,
+        size_from,
+        size_to,
+    }
+}
+
 // Past the entry whose second string ends at `at`, or 0 where what follows does not fit.
 fn entry_end(s: &[u8], at: usize, m: bool) -> usize
     ensures { λ r. ⌜ EntryEnd (entryFor m) (now (s .entry)) at r ⌝ }
@@ -450,6 +372,90 @@ fn k_rest_end(s: &[u8], at: usize) -> usize
         return 0;
     }
     rest_end(s, past)
+}
+
+// Past the array that has an element which ends at `at`.
+fn rest_end(s: &[u8], at: usize) -> usize
+    ensures { λ r. ⌜ RestEnd (now (s .entry)) at r ⌝ }
+{
+    let mut i = at;
+    loop {
+        let j = comma_end(s, i);
+        if j == 0 {
+            return array_close_end(s, i);
+        }
+        let e = value_end(s, j, ELEMENT_DEPTH);
+        if e == 0 {
+            return 0;
+        }
+        i = e;
+    }
+}
+
+// The value at `at`, which is no entry.
+fn passed_over(s: &[u8], at: usize) -> Found
+    ensures { λ r. ⌜ r ≡ foundOf (endOf (value entryDepth (now (s .entry)) at)) refused ⌝ }
+{
+    no_entry(value_end(s, at, ENTRY_DEPTH))
+}
+
+// What was found, with another end.
+fn at_end(found: Found, end: usize) -> Found
+    ensures { λ r. ⌜ r ≡ record { end = end; fair = found .fair; «price_from» = found .«price_from»; «price_to» = found .«price_to»; «size_from» = found .«size_from»; «size_to» = found .«size_to» } ⌝ }
+{
+    Found {
+        end,
+        fair: found.fair,
+        price_from: found.price_from,
+        price_to: found.price_to,
+        size_from: found.size_from,
+        size_to: found.size_to,
+    }
+}
+
+// A value that ends at `end` and is no entry.
+fn no_entry(end: usize) -> Found
+    ensures { λ r. ⌜ r ≡ foundOf end refused ⌝ }
+{
+    Found {
+        end,
+        fair: false,
+        price_from: 0,
+        price_to: 0,
+        size_from: 0,
+        size_to: 0,
+    }
+}
+
+// ---- its price and its size
+
+// The price and the size of the entry at `at`, whatever its strings hold.
+fn any_entry(s: &[u8], at: usize, m: bool) -> Amounts
+    requires { ⌜ Placed (now s) (foundAt (entryFor m) (now s) at) ⌝ }
+    ensures { λ r. ⌜ EntryAt m (now (s .entry)) at r ⌝ }
+{
+    let found = entry_at(s, at, m);
+    let price = number_at(s, found.price_from, found.price_to);
+    let size = number_at(s, found.size_from, found.size_to);
+    Amounts {
+        price,
+        size,
+        end: found.end,
+    }
+}
+
+// The decimal in the string from `from` to `to`; 0 where it is none.
+fn number_at(s: &[u8], from: usize, to: usize) -> Decimal
+    requires { ⌜ Quoted (now s) from to ⌝ }
+    ensures { λ r. ⌜ NumberOf (now (s .entry)) (record { from = from; to = to }) r ⌝ }
+{
+    match parse_quoted(s, from, to) {
+        Parsed::Number(d) => d,
+        Parsed::Refused => Decimal {
+            digits: 0,
+            decimals: 0,
+        },
+    }
 }
 
 // The entry at `at`, if its two strings are decimals; else the end is 0.
@@ -501,7 +507,7 @@ fn quoted_decimal(s: &[u8], at: usize) -> QuotedDecimal
     }
 }
 
-// No two decimals in quotes.
+// No entry of two decimals.
 fn no_amounts() -> Amounts
     ensures { λ r. ⌜ r .end ≡ 0 ⌝ }
 {

@@ -1,18 +1,17 @@
 -- The search for the first bad text, entry by entry: what is found in the rows that are left is what is found in all of them.
 -- Assumes nothing.
 use mathlib.Core.Path.{_≡_, refl, sym, ap, _∙_}
-use mathlib.Core.List.{List, [], _∷_, _++_}
-use mathlib.Core.Bool.{Bool, true, false, true≢false, _&&_, cond}
+use mathlib.Core.List.{List, [], _∷_}
+use mathlib.Core.Bool.{Bool, true, false, true≢false}
 use Prim.Native.Nat.{ℕ, zero, suc, _-_, _≤_, _<_}
 use native.Mathlib.Omega.{arith}
 use lib.ListN.{length}
-use Rattle.decimal.specs.Digits.{Reading, reads, refused}
+use Rattle.decimal.specs.Digits.{Reading}
 use Rattle.decimal.specs.Decimal.{Number, read}
-use Rattle.json_tokens.specs.Tokens.{End, At, Broken, endOf, separator}
+use Rattle.json_tokens.specs.Tokens.{endOf, separator}
 use Rattle.json_tokens.proofs.Laws.{end-at}
 use Rattle.json_tokens.proofs.Bounds.{bounds, separator-in}
-use Rattle.json.specs.Json.{Span, value}
-use Rattle.json.proofs.Bounds.{value-in}
+use Rattle.json.specs.Json.{Span}
 use Rattle.entries.specs.Places.{inner}
 use Rattle.entries.specs.Rows.{Row, isBadPrice, isBadSize, badPrice, badSize, badTexts}
 use Rattle.entries.specs.Summary.{foundOf, priceSpan, sizeSpan, foundAt}
@@ -20,7 +19,7 @@ use Rattle.entries.specs.Arrays.{rowsAt, Loadable, firstAt}
 use Rattle.entries.specs.Counting.{Placed}
 use Rattle.entries.specs.declared.Found.{Found}
 use Rattle.entries.proofs.Strings.{Sound}
-use Rattle.entries.proofs.Summary.{found-laid}
+use Rattle.entries.proofs.Summary.{found-broken, found-laid, found-past}
 use Rattle.entries.proofs.Rows.{Left, first-left, Here, left-here}
 use Rattle.first_bad.specs.Places.{noPlace, placeOf}
 
@@ -82,26 +81,10 @@ module _ (entry : List ℕ → Span → Reading Row) (s : List ℕ) (snapshot : 
 
     -- the next entry begins further on
     ends : (at < f .end) × (f .end ≤ length s)
-    unfolding foundAt foundOf
-    ends = go (value 13 s at) refl
-      where
-        fair : f .fair ≡ true
-        fair = ap (λ (x : Found). x .fair) (here .is-row)
-
-        end-of : (e : ℕ) (x : Reading Row) → foundOf e x .end ≡ e
-        end-of e (reads r) = refl
-        end-of e refused = refl
-
-        go : (x : End) → value 13 s at ≡ x → (at < f .end) × (f .end ≤ length s)
-        go (At e) v =
-            let b = bounds e (value-in 13 s at) v in
-            let q : foundAt entry s at ≡ foundOf e (entry s (record { from = at; to = e })) = rw (v, foundAt) in
-            let w : f .end ≡ e = ap (λ (x : Found). x .end) (told ∙ q) ∙ end-of e (entry s (record { from = at; to = e })) in
-            (omega arith, omega arith)
-        go Broken v =
-            let q : foundAt entry s at ≡ foundOf 0 refused = rw (v, foundAt) in
-            let w : true ≡ false = sym fair ∙ ap (λ (x : Found). x .fair) (told ∙ q) in
-            absurd (true≢false w)
+    unfolding foundOf
+    ends =
+        let fair = ap (λ (x : Found). x .fair) (here .is-row) in
+        found-past entry s at f told (λ z. true≢false (sym fair ∙ ap (λ (x : Found). x .fair) (found-broken entry s at f told z)))
 
     pub inside : at ≤ length s
     inside = let e = ends in omega arith

@@ -1,5 +1,4 @@
 // The first text of an array of entries that breaks a rule of decimals.
-ghost use mathlib.Core.Path.{_≡_};
 ghost use Rattle.entries.specs.Rows.{entryFor, badTexts};
 ghost use Rattle.entries.specs.Arrays.{Loadable, rowsAt};
 ghost use Rattle.first_bad.specs.Places.{First};

@@ -3,7 +3,6 @@
 //
 //     let n = loader::load(&message[at..], false, &mut prices, &mut sizes, &mut rests);
 //     side::apply(bids, Side::Bids, depth, &prices[..n], &sizes[..n], &rests[..n])
-ghost use mathlib.Core.Path.{_≡_};
 ghost use Rattle.decimal.specs.Decimal.{number, Within};
 ghost use Rattle.entries.specs.Rows.{entryFor};
 ghost use Rattle.entries.specs.Arrays.{Loadable, rowsAt};

@@ -1,5 +1,4 @@
 -- The checks by what one walk over a message tells. Assumes nothing: these are definitions.
-use Prim.Native.Nat.{ℕ}
 use mathlib.Core.Bool.{Bool, _||_, cond}
 use lib.Dec.{ltb, eqb}
 use Rattle.layout.specs.declared.Outline.{Outline}

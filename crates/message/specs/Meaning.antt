@@ -1,7 +1,7 @@
 -- What a message says, from the settings and the text alone: a refusal among 2 to 8, or a snapshot or an update. The checks are those of document
 -- 01's table, in its order, each over the whole message before the next one begins. Assumes nothing: these are definitions.
 use Prim.Native.Nat.{ℕ}
-use mathlib.Core.Bool.{Bool, true, false, _||_, cond}
+use mathlib.Core.Bool.{Bool, _||_, cond}
 use mathlib.Core.List.{List, [], _∷_, _++_, map}
 use lib.Dec.{ltb}
 use lib.ListN.{length}

@@ -6,7 +6,7 @@ use mathlib.Core.Bool.{Bool, true, false, cond}
 use Prim.Native.Nat.{ℕ, _≤_}
 use native.Mathlib.Omega.{arith}
 use borrow.Author.Tests.{eq-eqb, ne-eqb}
-use lib.Dec.{eqb, lit<}
+use lib.Dec.{lit<}
 use lib.ListN.{length, take, drop, length-map}
 use lib.Seq.{take-all}
 use Rattle.decimal.specs.Digits.{Reading, reads, refused}
@@ -17,7 +17,7 @@ use Rattle.entries.specs.Places.{inner}
 use Rattle.entries.specs.Rows.{Row, entryFor, numberAt}
 use Rattle.entries.specs.Arrays.{rowsAt}
 use Rattle.side.specs.Level.{PriceLevel, levelPrice, levelSize, shown, shownPrice}
-use Rattle.side.specs.Side.{Edit, sets, removes, mapEdit, All, IfSet, applyAll, ranked, afterMessage, met}
+use Rattle.side.specs.Side.{Edit, sets, removes, mapEdit, All, IfSet, applyAll, afterMessage, met}
 use Rattle.side.specs.Words.{entriesOf}
 use Rattle.side.specs.Kept.{held, Good, AfterEntries}
 use Rattle.side.specs.declared.Side.{Side}

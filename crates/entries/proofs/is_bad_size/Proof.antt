@@ -1,7 +1,7 @@
 -- `entries::is_bad_size` meets its contract: what was read is a decimal, which in a snapshot must not be zero, or none.
 -- Assumes nothing.
 use mathlib.Core.Bool.{Bool}
-use mathlib.Core.Path.{_∙_, ap, ap₂, sym}
+use mathlib.Core.Path.{_∙_, ap₂, sym}
 use Rattle.decimal.specs.Reads.{parsed}
 use Rattle.decimal.specs.declared.Parsed.{Parsed}
 use Rattle.entries.specs.Rows.{isBadSize}

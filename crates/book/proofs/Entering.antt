@@ -17,10 +17,10 @@ use Rattle.settings.specs.Settings.{Terms, good, goodDepth, goodName}
 use Rattle.settings.specs.declared.Dialect.{Dialect}
 use Rattle.settings.specs.declared.Dialect.the-variants.{K, M, Unknown}
 use Rattle.entries.specs.Places.{andThen, all, arrayAt, inner, top}
-use Rattle.entries.specs.Rows.{Row, entryK, entryM, entriesAt, numberAt, badTexts, badSize}
+use Rattle.entries.specs.Rows.{Row, entryK, entryM, entryFor, entriesAt, numberAt, badTexts, badSize}
 use Rattle.entries.specs.Summary.{zeroSize, anyZero}
 use Rattle.entries.proofs.Claims.{zero-none}
-use Rattle.entries.proofs.Shift.{Even, k-even, m-even}
+use Rattle.entries.proofs.Shift.{Even, k-even, m-even, shifted-rows, shifted-loadable}
 use Rattle.layout.specs.Layout.{Listed, Layout, Heard}
 use Rattle.message.specs.Meaning.{Quote, quoteAt, Checked, fails, passes, bad, decimals, alsoDecimals, tooMany, counted, laidOut, addressed, heardIn, framed, checked}
 use Rattle.answer.specs.declared.Answer.{Answer}
@@ -30,9 +30,9 @@ use Rattle.message.proofs.Where.{entryIn, Lies, nowhere, there, LieIn, framed-l
 use Rattle.level.specs.Level.{PriceLevel, shownPrice}
 use Rattle.level.specs.Side.{Edit, sets, removes}
 use Rattle.level.specs.Ranked.{All, IsSet, named}
-use Rattle.loader.specs.Loaded.{Loadable, rowsAt, editFor, editAt}
-use Rattle.loader.specs.Reading.{entryFor, Ready}
-use Rattle.loader.proofs.Shift.{shifted-rows, shifted-loadable, edits-shift}
+use Rattle.entries.specs.Arrays.{Loadable, rowsAt, Ready}
+use Rattle.loader.specs.Loaded.{editFor, editAt}
+use Rattle.loader.proofs.Shift.{edits-shift}
 use Rattle.sides.specs.Worked.{editsAt}
 use Rattle.reference.specs.Reference.{editOf, pricesOf}
 use Rattle.settings.specs.Settings.{isM}

@@ -35,7 +35,7 @@ use Rattle.level.specs.declared.Levels.{Levels}
 use Rattle.level.proofs.Lengths.{length-ranked, length-applyAll, afterMessage-whole}
 use Rattle.level.proofs.Meeting.{met-snapshot}
 use Rattle.sides.specs.Worked.{SideAfter, Sound, editsAt, Worked}
-use Rattle.loader.specs.Reading.{Ready}
+use Rattle.entries.specs.Arrays.{Ready}
 use Rattle.layout.specs.Layout.{Layout}
 use Rattle.layout.specs.Told.{isPrinted, sumOf, outlineOf}
 use Rattle.layout.specs.declared.Outline.{Outline}

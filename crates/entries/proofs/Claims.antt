@@ -10,10 +10,9 @@ use Rattle.decimal.specs.Decimal.{Number, read, isZero}
 use Rattle.json.specs.Json.{Span}
 use lib.ListN.{length}
 use Rattle.entries.specs.Places.{andThen, all, inner, arrayAt}
-use Rattle.entries.specs.Rows.{Row, entriesAt, badPrice, badSize, badTexts}
+use Rattle.entries.specs.Rows.{Row, entriesDepth, entriesAt, badPrice, badSize, badTexts}
 use Rattle.entries.specs.Summary.{zeroSize, anyBroken, anyZero, noEntries, summaryOf}
-use Rattle.entries.specs.declared.Entries.{Entries}
-use Rattle.entries.proofs.Strings.{StringAt, Sound}
+use Rattle.entries.proofs.Strings.{StringAt, Sound, no-row}
 
 no-list : {A B : Type 0} {a : A} {l : List A} → _≡_ {A = List A} (a ∷ l) [] → B
 no-list h = let z : _≡_ {A = ℕ} 0 1 = cc in absurd (omega arith)
@@ -108,9 +107,6 @@ pub data Strings (s : List ℕ) : List Row → Type 0 where
   no-rows : Strings s []
   one-row : (r : Row) (l : List Row) → StringAt s (r .price) → StringAt s (r .size) → Strings s l → Strings s (r ∷ l)
 
-no-rows-read : {A B : Type 0} {b : B} → refused ≡ reads b → A
-no-rows-read h = let z : _≡_ {A = ℕ} 0 1 = cc in absurd (omega arith)
-
 module _ (entry : List ℕ → Span → Reading Row) (s : List ℕ) (sound : Sound entry s) where
   all-strings : (l : List Span) (rows : List Row) → all (entry s) l ≡ reads rows → Strings s rows
   unfolding all andThen
@@ -123,13 +119,13 @@ module _ (entry : List ℕ → Span → Reading Row) (s : List ℕ) (sound : Sou
           let c = sound a r q in
           let z : rows ≡ r ∷ bs = cc in
           rw z (one-row r bs (c .0) (c .1) (k bs refl))
-      go (reads r) q refused k g = no-rows-read g
-      go refused q z k g = no-rows-read g
+      go (reads r) q refused k g = no-row g
+      go refused q z k g = no-row g
 
   pub rows-strings : (a : Span) (rows : List Row) → entriesAt entry s a ≡ reads rows → Strings s rows
   unfolding entriesAt andThen
-  rows-strings a rows h = go (arrayAt 14 s a) h
+  rows-strings a rows h = go (arrayAt entriesDepth s a) h
     where
       go : (x : Reading (List Span)) → andThen x (all (entry s)) ≡ reads rows → Strings s rows
       go (reads l) g = all-strings l rows g
-      go refused g = no-rows-read g
+      go refused g = no-row g

@@ -10,72 +10,16 @@ use Rattle.decimal.specs.Digits.{Reading, reads, refused}
 use Rattle.decimal.specs.Decimal.{Number, read, isZero}
 use Rattle.json.specs.Json.{Span}
 use Rattle.entries.specs.Places.{inner}
-use Rattle.entries.specs.Rows.{badPrice, badSize}
-use Rattle.entries.specs.Summary.{foundOf, zeroSize, noEntries}
-use Rattle.entries.specs.Counting.{amountOf, isBadPrice, isBadSize, isZeroSize, withRow, withNumbers, counted}
+use Rattle.entries.specs.Rows.{isBadPrice, isBadSize, badPrice, badSize}
+use Rattle.entries.specs.Summary.{foundOf, priceSpan, sizeSpan, isZeroSize, zeroSize, noEntries}
+use Rattle.entries.specs.Counting.{withRow, withNumbers, counted}
 use Rattle.entries.specs.declared.Found.{Found}
 use Rattle.entries.specs.declared.Entries.{Entries}
-use Rattle.entries.specs.declared.Amount.{Amount}
-use Rattle.entries.specs.declared.Amount.the-variants.{NoDecimal, Zero, Positive}
 
--- ---- amounts
+-- ---- the text between two quotes
 pub inner-part : (s : List ℕ) (from to : ℕ) → take (to - 1 - (from + 1)) (drop (from + 1) s) ≡ inner s (record { from = from; to = to })
 unfolding inner
 inner-part s from to = let n : to - 1 - (from + 1) ≡ to - from - 2 = omega arith in ap (λ k. take k (drop (from + 1) s)) n
-
-module _ {x : Reading Number} where
-  pub amount-none : x ≡ refused → NoDecimal ≡ amountOf x
-  unfolding amountOf
-  amount-none h = rw h
-
-  module _ (n : Number) (h : x ≡ reads n) where
-    pub amount-zero : isZero n ≡ true → Zero ≡ amountOf x
-    unfolding amountOf
-    amount-zero z = rw (h, z, amountOf)
-
-    pub amount-positive : isZero n ≡ false → Positive ≡ amountOf x
-    unfolding amountOf
-    amount-positive z = rw (h, z, amountOf)
-
-zero-or : (b : Bool) → b ≡ isBadPrice (elim b [ true ↦ Zero | false ↦ Positive ])
-unfolding isBadPrice
-zero-or true = refl
-zero-or false = refl
-
-zero-only : (b : Bool) → b ≡ isZeroSize (elim b [ true ↦ Zero | false ↦ Positive ])
-unfolding isZeroSize
-zero-only true = refl
-zero-only false = refl
-
-zero-fair : (b : Bool) → false ≡ isBadSize (elim b [ true ↦ Zero | false ↦ Positive ])
-unfolding isBadSize
-zero-fair true = refl
-zero-fair false = refl
-
-module _ (s : List ℕ) (a : Span) where
-  bad-price : badPrice s a ≡ isBadPrice (amountOf (read (inner s a)))
-  unfolding badPrice amountOf isBadPrice
-  bad-price = go (read (inner s a))
-    where
-      go : (x : Reading Number) → elim x [ reads n ↦ isZero n | refused ↦ true ] ≡ isBadPrice (amountOf x)
-      go (reads n) = zero-or (isZero n)
-      go refused = refl
-
-  bad-size : badSize false s a ≡ isBadSize (amountOf (read (inner s a)))
-  unfolding badSize amountOf isBadSize
-  bad-size = go (read (inner s a))
-    where
-      go : (x : Reading Number) → elim x [ reads n ↦ false | refused ↦ true ] ≡ isBadSize (amountOf x)
-      go (reads n) = zero-fair (isZero n)
-      go refused = refl
-
-  zero-size : zeroSize s a ≡ isZeroSize (amountOf (read (inner s a)))
-  unfolding zeroSize amountOf isZeroSize
-  zero-size = go (read (inner s a))
-    where
-      go : (x : Reading Number) → elim x [ reads n ↦ isZero n | refused ↦ false ] ≡ isZeroSize (amountOf x)
-      go (reads n) = zero-only (isZero n)
-      go refused = refl
 
 -- ---- one more entry
 pub or-false : (a : Bool) → (a || false) ≡ a
@@ -84,10 +28,10 @@ or-false false = refl
 
 module _ (s : List ℕ) (sum : Entries) (f : Found) where
   abbrev price : Span
-  price = record { from = f .«price_from»; to = f .«price_to» }
+  price = priceSpan f
 
   abbrev size : Span
-  size = record { from = f .«size_from»; to = f .«size_to» }
+  size = sizeSpan f
 
   pub counted-row : sum .fair ≡ true → f .fair ≡ true → counted s sum f ≡ withRow s sum (f .end) price size
   unfolding counted
@@ -101,15 +45,15 @@ module _ (s : List ℕ) (sum : Entries) (f : Found) where
   unfolding counted
   counted-unfair h = rw (h, counted)
 
-  -- by what the code finds of the two texts
-  pub counted-found : sum .fair ≡ true → f .fair ≡ true → (p z : Amount) → p ≡ amountOf (read (inner s price)) → z ≡ amountOf (read (inner s size))
-      → (b w : Bool) → b ≡ (sum .broken || (isBadPrice p || isBadSize z)) → w ≡ (sum .zero || isZeroSize z)
+  -- by what is read of the two texts
+  pub counted-found : sum .fair ≡ true → f .fair ≡ true → (p z : Reading Number) → p ≡ read (inner s price) → z ≡ read (inner s size)
+      → (b w : Bool) → b ≡ (sum .broken || (isBadPrice p || isBadSize false z)) → w ≡ (sum .zero || isZeroSize z)
       → _≡_ {A = Entries} (record { end = f .end; fair = true; count = sum .count + 1; broken = b; zero = w }) (counted s sum f)
-  unfolding withRow
+  unfolding withRow badPrice badSize zeroSize
   counted-found h g p z hp hz b w hb hw =
       let x : b ≡ (sum .broken || (badPrice s price || badSize false s size)) =
-      hb ∙ ap₂ (λ (m n : Bool). sum .broken || (m || n)) (ap isBadPrice hp ∙ sym (bad-price s price)) (ap isBadSize hz ∙ sym (bad-size s size)) in
-      let y : w ≡ (sum .zero || zeroSize s size) = hw ∙ ap (λ (m : Bool). sum .zero || m) (ap isZeroSize hz ∙ sym (zero-size s size)) in
+      hb ∙ ap₂ (λ (m n : Reading Number). sum .broken || (isBadPrice m || isBadSize false n)) hp hz in
+      let y : w ≡ (sum .zero || zeroSize s size) = hw ∙ ap (λ (n : Reading Number). sum .zero || isZeroSize n) hz in
       ap₂ (λ (m n : Bool). record { end = f .end; fair = true; count = sum .count + 1; broken = m; zero = n }) x y ∙ sym (counted-row h g)
 
   -- by the numbers of the two texts

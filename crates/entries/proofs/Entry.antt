@@ -9,16 +9,17 @@ use borrow.Author.Tests.{eq-eqb, ne-eqb}
 use Rattle.decimal.specs.Digits.{Reading, refused}
 use Rattle.json_tokens.specs.Bytes.{byteAt}
 use Rattle.json_tokens.specs.Tokens.{End, At, Broken, endOf, blanks, closing, separator, string}
-use Rattle.json_tokens.proofs.Bounds.{bounds, closing-in, separator-in}
+use Rattle.json_tokens.proofs.Laws.{end-at}
+use Rattle.json_tokens.proofs.Bounds.{bounds, end-broken, closing-in, separator-in}
 use lib.ListN.{length}
-use Rattle.json.specs.Json.{Span, item, ends, Items, items, noItems, next, before, onward, list, itemsEnd, element, elements, value}
+use Rattle.json.specs.Json.{Span, item, ends, Items, items, noItems, next, before, onward, list, itemsEnd, elements, value}
 use Rattle.json.proofs.Laws.{value-array, before-end, element-is, element-wrong, later-item, later-ends, later-wrong}
 use Rattle.json.proofs.Bounds.{value-in}
 use Rattle.json.proofs.Walk.{Walk, walk, walk-ends, walk-wrong, walk-is, walk-item}
 use Rattle.entries.specs.Places.{andThen, isString, contents, arrayAt}
-use Rattle.entries.specs.Rows.{Row, rowK, entryK, rowM, entryM}
-use Rattle.entries.specs.Summary.{foundOf, foundAt}
-use Rattle.entries.specs.Front.{Two, Front, RestEnd, endIn}
+use Rattle.entries.specs.Rows.{Row, entryDepth, elementDepth, rowK, entryK, rowM, entryM, entryFor}
+use Rattle.entries.specs.Summary.{foundOf, priceSpan, sizeSpan, foundAt}
+use Rattle.entries.specs.Front.{Two, Front, RestEnd, endIn, EntryEnd}
 use Rattle.entries.specs.declared.Found.{Found}
 use Rattle.entries.proofs.Stops.{broken-at, one, string-is, close-no-comma, Stops, stops-first, stops-comma, stops-string, Halts, halt, past-string, past-first}
 
@@ -71,10 +72,10 @@ abbrev rowOf : (List Span → Reading Row) → Items Span → Reading Row
 rowOf row x = andThen (contents x) row
 
 abbrev whole : List ℕ → ℕ → Items Span
-whole s at = elements (value 12 s) s (at + 1)
+whole s at = elements (value elementDepth s) s (at + 1)
 
 abbrev readBy : (List ℕ → List Span → Reading Row) → List ℕ → Span → Reading Row
-readBy row s a = andThen (arrayAt 13 s a) (row s)
+readBy row s a = andThen (arrayAt entryDepth s a) (row s)
 
 module _ (row : List ℕ → List Span → Reading Row) (s : List ℕ) (at : ℕ) where
   read-array : (to : ℕ) → byteAt s at ≡ 91 → readBy row s (record { from = at; to = to }) ≡ rowOf (row s) (whole s at)
@@ -93,7 +94,7 @@ foundIn row noItems = foundOf 0 refused
 found-array : (row : List ℕ → List Span → Reading Row) (s : List ℕ) (at : ℕ) → byteAt s at ≡ 91 → foundAt (readBy row) s at ≡ foundIn (row s) (whole s at)
 unfolding foundAt itemsEnd foundIn andThen contents
 found-array row s at h =
-    ap (λ (y : End). elim y [ At e ↦ foundOf e (readBy row s (record { from = at; to = e })) | Broken ↦ foundOf 0 refused ]) (value-array s at 12 h)
+    ap (λ (y : End). elim y [ At e ↦ foundOf e (readBy row s (record { from = at; to = e })) | Broken ↦ foundOf 0 refused ]) (value-array s at elementDepth h)
     ∙ go (whole s at) refl
   where
     go : (x : Items Span) → whole s at ≡ x
@@ -103,9 +104,9 @@ found-array row s at h =
 
 -- a value that is no entry
 pub found-none : (entry : List ℕ → Span → Reading Row) (s : List ℕ) (at : ℕ) → ((to : ℕ) → entry s (record { from = at; to = to }) ≡ refused)
-    → foundOf (endOf (value 13 s at)) refused ≡ foundAt entry s at
+    → foundOf (endOf (value entryDepth s at)) refused ≡ foundAt entry s at
 unfolding foundAt endOf
-found-none entry s at h = go (value 13 s at)
+found-none entry s at h = go (value entryDepth s at)
   where
     go : (x : End) → foundOf (endOf x) refused ≡ elim x [ At e ↦ foundOf e (entry s (record { from = at; to = e })) | Broken ↦ foundOf 0 refused ]
     go (At e) = ap (foundOf e) (sym (h e))
@@ -113,17 +114,19 @@ found-none entry s at h = go (value 13 s at)
 
 -- ---- without two strings at the front, the value is an entry of neither dialect
 abbrev pub Neither : List ℕ → ℕ → Type 0
-Neither s at = (to : ℕ) → (entryK s (record { from = at; to = to }) ≡ refused) × (entryM s (record { from = at; to = to }) ≡ refused)
+Neither s at = (m : Bool) (to : ℕ) → entryFor m s (record { from = at; to = to }) ≡ refused
 
 module _ (s : List ℕ) (at : ℕ) where
   pub neither-array : (byteAt s at ≡ 91 → ⊥) → Neither s at
   unfolding entryK entryM
-  neither-array h to = (read-other rowK s at to h, read-other rowM s at to h)
+  neither-array h true to = read-other rowM s at to h
+  neither-array h false to = read-other rowK s at to h
 
   module _ (opens : byteAt s at ≡ 91) where
     both : ((row : List Span → Reading Row) → Wants s row → rowOf row (whole s at) ≡ refused) → Neither s at
     unfolding entryK entryM
-    both h to = (read-array rowK s at to opens ∙ h (rowK s) (k-wants s), read-array rowM s at to opens ∙ h (rowM s) (m-wants s))
+    both h true to = read-array rowM s at to opens ∙ h (rowM s) (m-wants s)
+    both h false to = read-array rowK s at to opens ∙ h (rowK s) (k-wants s)
 
     pub neither-first : string s (blanks s (at + 1)) ≡ Broken → Neither s at
     unfolding elements contents andThen
@@ -152,10 +155,10 @@ end-in (suc r) n = refl
 
 module _ (s : List ℕ) (at : ℕ) (f : Found) (t : Two s at f) where
   abbrev price : Span
-  price = record { from = f .«price_from»; to = f .«price_to» }
+  price = priceSpan f
 
   abbrev size : Span
-  size = record { from = f .«size_from»; to = f .«size_to» }
+  size = sizeSpan f
 
   abbrev told : ℕ → Found
   told e = record { end = e; fair = true; «price_from» = f .«price_from»; «price_to» = f .«price_to»; «size_from» = f .«size_from»; «size_to» = f .«size_to» }
@@ -198,15 +201,15 @@ module _ (s : List ℕ) (at : ℕ) (f : Found) (t : Two s at f) where
       w : Walk (one s) 93 s answer (f .end) (next (one s) 93 s false (f .end)) (rowOf (rowM s) (whole s at))
       w = past-two (rowOf (rowM s))
 
-      third : (j : ℕ) → separator 44 s (f .end) ≡ At j → (x : End) → value 12 s j ≡ x → rowOf (rowM s) (whole s at) ≡ refused
+      third : (j : ℕ) → separator 44 s (f .end) ≡ At j → (x : End) → value elementDepth s j ≡ x → rowOf (rowM s) (whole s at) ≡ refused
       third j q (At e) v =
           let a : Span = record { from = j; to = e } in
-          let u = walk-is (one s) 93 s answer w (item a e) (f .end) (omega arith) (later-item (one s) 93 s (f .end) j q ∙ element-is (value 12 s) j e v) in
+          let u = walk-is (one s) 93 s answer w (item a e) (f .end) (omega arith) (later-item (one s) 93 s (f .end) j q ∙ element-is (value elementDepth s) j e v) in
           sym (u .makes) ∙ three a (list (one s) 93 s (u .left) false e)
-      third j q Broken v = sym (walk-wrong (one s) 93 s answer w (later-item (one s) 93 s (f .end) j q ∙ element-wrong (value 12 s) j v)) ∙ none
+      third j q Broken v = sym (walk-wrong (one s) 93 s answer w (later-item (one s) 93 s (f .end) j q ∙ element-wrong (value elementDepth s) j v)) ∙ none
 
       go : (x : End) → separator 44 s (f .end) ≡ x → rowOf (rowM s) (whole s at) ≡ refused
-      go (At j) q = third j q (value 12 s j) refl
+      go (At j) q = third j q (value elementDepth s j) refl
       go Broken q = sym (walk-wrong (one s) 93 s answer w (later-wrong (one s) 93 s (f .end) q c)) ∙ none
 
   -- ---- dialect K: a third string, and the rest of the array
@@ -270,22 +273,22 @@ module _ (s : List ℕ) (i : ℕ) (r : End) (w : Walk (one s) 93 s itemsEnd i (n
       go Broken c g = sym (walk-wrong (one s) 93 s itemsEnd w (later-wrong (one s) 93 s i q c)) ∙ sym (ap endIn g)
 
   module _ (j : ℕ) (q : separator 44 s i ≡ At j) where
-    pub rest-wrong : value 12 s j ≡ Broken → r ≡ endIn 0
+    pub rest-wrong : value elementDepth s j ≡ Broken → r ≡ endIn 0
     unfolding itemsEnd endIn
-    rest-wrong v = sym (walk-wrong (one s) 93 s itemsEnd w (later-item (one s) 93 s i j q ∙ element-wrong (value 12 s) j v))
+    rest-wrong v = sym (walk-wrong (one s) 93 s itemsEnd w (later-item (one s) 93 s i j q ∙ element-wrong (value elementDepth s) j v))
 
-    module _ (e : ℕ) (v : value 12 s j ≡ At e) where
+    module _ (e : ℕ) (v : value elementDepth s j ≡ At e) where
       pub rest-further : (i < e) × (e ≤ length s)
       rest-further =
           let b = bounds j (separator-in s 44 i (omega arith)) q in
-          let c = bounds e (value-in 12 s j) v in
+          let c = bounds e (value-in elementDepth s j) v in
           (omega arith, c .1)
 
       pub rest-on : Walk (one s) 93 s itemsEnd e (next (one s) 93 s false e) r
       rest-on =
           let a : Span = record { from = j; to = e } in
           let c = rest-further in
-          let u = walk-item (one s) 93 s itemsEnd w a e (later-item (one s) 93 s i j q ∙ element-is (value 12 s) j e v) (c .0) (c .1) in
+          let u = walk-item (one s) 93 s itemsEnd w a e (later-item (one s) 93 s i j q ∙ element-is (value elementDepth s) j e v) (c .0) (c .1) in
           record { left = u .left; enough = u .enough; makes = sym (before-end a _) ∙ u .makes }
 
 -- what is fair, with another end
@@ -293,3 +296,12 @@ pub told-is : (f : Found) (e : ℕ) → f .fair ≡ true
     → _≡_ {A = Found} (record { end = e; fair = f .fair; «price_from» = f .«price_from»; «price_to» = f .«price_to»; «size_from» = f .«size_from»; «size_to» = f .«size_to» })
     (record { end = e; fair = true; «price_from» = f .«price_from»; «price_to» = f .«price_to»; «size_from» = f .«size_from»; «size_to» = f .«size_to» })
 told-is f e h = rw h
+
+-- an entry of dialect M ends with the bracket past its two strings
+pub m-end : (s : List ℕ) (at r : ℕ) → r ≡ endOf (closing 93 s at) → EntryEnd entryM s at r
+unfolding foundOf
+m-end s at r h =
+    record {
+      some = λ n from f two ends. sym (m-is s from f two r (ap (closing 93 s) ends ∙ end-at (closing 93 s at) r h n));
+      none = λ z from f two ends. m-none s from f two (ap (closing 93 s) ends ∙ end-broken r (omega arith) (closing-in s 93 at (omega arith)) h z);
+    }

@@ -6,5 +6,6 @@ pub mod Counting
 pub mod Summary
 pub mod Claims
 pub mod Decimals
+pub mod Rows
 pub mod Shift
 pub mod Numbers

@@ -1,13 +1,13 @@
 -- A text that begins k bytes later, in the middle of another: its entries are the other's, k bytes earlier, and say the same numbers.
 -- Assumes nothing.
-use Prim.Native.Nat.{ℕ, zero, suc, _+_, _-_}
+use Prim.Native.Nat.{ℕ, zero, suc, _+_, _-_, _≤_}
 use mathlib.Core.Path.{_≡_, refl, sym, ap, ap₂, _∙_}
 use mathlib.Core.Bool.{Bool, true, false, _&&_, cond}
 use mathlib.Core.List.{List, [], _∷_, _++_, map}
 use native.Mathlib.Omega.{arith}
 use lib.Dec.{eqb}
-use lib.ListN.{take, drop}
-use lib.Seq.{drop-drop}
+use lib.ListN.{length, take, drop, length-drop, length-map}
+use lib.Seq.{drop-drop, take-all}
 use Rattle.decimal.specs.Digits.{Reading, reads, refused}
 use Rattle.decimal.specs.Decimal.{read, isZero}
 use Rattle.json_tokens.specs.Bytes.{byteAt}
@@ -15,8 +15,11 @@ use Rattle.json_tokens.proofs.Shift.{past-one, byte-shift}
 use Rattle.json.specs.Json.{Span, Items, elements, value}
 use Rattle.json.proofs.Shift.{shiftedSpan, ItemsShifts, both-items, no-items, elements-shift}
 use Rattle.entries.specs.Places.{andThen, all, isString, contents, arrayAt, inner}
-use Rattle.entries.specs.Rows.{Row, rowK, entryK, rowM, entryM, entriesAt, badPrice, badSize, badTexts, numberAt}
+use Rattle.entries.specs.Rows.{Row, maxEntries, entriesDepth, entryDepth, rowK, entryK, rowM, entryM, entriesAt, badPrice, badSize, badTexts, numberAt}
 use Rattle.entries.specs.Summary.{zeroSize, anyBroken, anyZero}
+use Rattle.entries.specs.Arrays.{rowsAt, Loadable}
+use Rattle.entries.proofs.Strings.{no-row, same-row}
+use Rattle.entries.proofs.Rows.{rows-are, loadable}
 
 -- an entry, k bytes later
 unfoldable pub shiftedRow : ℕ → Row → Row
@@ -137,14 +140,14 @@ module _ (k : ℕ) (s : List ℕ) where
   pub k-even : Even entryK
   unfolding entryK shiftedSpan
   k-even a =
-      ap (λ (x : Reading (List Span)). andThen x (rowK s)) (array-shift 13 (a .from) (k + a .to) (a .to))
-      ∙ then-changed (map (shiftedSpan k)) (shiftedRow k) (rowK s) (rowK (drop k s)) rowK-shift (arrayAt 13 (drop k s) a)
+      ap (λ (x : Reading (List Span)). andThen x (rowK s)) (array-shift entryDepth (a .from) (k + a .to) (a .to))
+      ∙ then-changed (map (shiftedSpan k)) (shiftedRow k) (rowK s) (rowK (drop k s)) rowK-shift (arrayAt entryDepth (drop k s) a)
 
   pub m-even : Even entryM
   unfolding entryM shiftedSpan
   m-even a =
-      ap (λ (x : Reading (List Span)). andThen x (rowM s)) (array-shift 13 (a .from) (k + a .to) (a .to))
-      ∙ then-changed (map (shiftedSpan k)) (shiftedRow k) (rowM s) (rowM (drop k s)) rowM-shift (arrayAt 13 (drop k s) a)
+      ap (λ (x : Reading (List Span)). andThen x (rowM s)) (array-shift entryDepth (a .from) (k + a .to) (a .to))
+      ∙ then-changed (map (shiftedSpan k)) (shiftedRow k) (rowM s) (rowM (drop k s)) rowM-shift (arrayAt entryDepth (drop k s) a)
 
   module _ (entry : List ℕ → Span → Reading Row) (even : Even entry) where
     all-shift : (l : List Span) → all (entry s) (map (shiftedSpan k) l) ≡ changed (map (shiftedRow k)) (all (entry (drop k s)) l)
@@ -162,9 +165,38 @@ module _ (k : ℕ) (s : List ℕ) where
     pub entries-shift : (i e f : ℕ) → entriesAt entry s (record { from = k + i; to = e }) ≡ changed (map (shiftedRow k)) (entriesAt entry (drop k s) (record { from = i; to = f }))
     unfolding entriesAt
     entries-shift i e f =
-        ap (λ (x : Reading (List Span)). andThen x (all (entry s))) (array-shift 14 i e f)
-        ∙ then-changed (map (shiftedSpan k)) (map (shiftedRow k)) (all (entry s)) (all (entry (drop k s))) all-shift (arrayAt 14 (drop k s) (record { from = i; to = f }))
+        ap (λ (x : Reading (List Span)). andThen x (all (entry s))) (array-shift entriesDepth i e f)
+        ∙ then-changed (map (shiftedSpan k)) (map (shiftedRow k)) (all (entry s)) (all (entry (drop k s))) all-shift (arrayAt entriesDepth (drop k s) (record { from = i; to = f }))
 
     -- the array of entries at k, where the later text begins
     pub rows-shift : (e f : ℕ) → entriesAt entry s (record { from = k; to = e }) ≡ changed (map (shiftedRow k)) (entriesAt entry (drop k s) (record { from = 0; to = f }))
     rows-shift e f = let n : k ≡ k + 0 = omega arith in ap (λ (i : ℕ). entriesAt entry s (record { from = i; to = e })) n ∙ entries-shift 0 e f
+
+-- ---- a text that begins with an array of entries
+
+-- the part of a text from k on, as the code has it
+pub part-is : (k : ℕ) (s : List ℕ) → take (length s - k) (drop k s) ≡ drop k s
+part-is k s = let n = length-drop k s in take-all (length s - k) (drop k s) (omega arith)
+
+-- the array of entries at k of the message has these rows; u is the text from there on
+module _ (k : ℕ) (s u : List ℕ) (from : u ≡ drop k s) (entry : List ℕ → Span → Reading Row) (even : Even k s entry) (e : ℕ) (rows : List Row)
+    (h : entriesAt entry s (record { from = k; to = e }) ≡ reads rows) where
+  record Later : Type 0 where
+    rest : List Row
+    listed : entriesAt entry u (record { from = 0; to = e }) ≡ reads rest
+    same : rows ≡ map (shiftedRow k) rest
+
+  later : Later
+  unfolding changed
+  later = go (entriesAt entry (drop k s) (record { from = 0; to = e })) refl (sym (rows-shift k s entry even e e) ∙ h)
+    where
+      go : (x : Reading (List Row)) → entriesAt entry (drop k s) (record { from = 0; to = e }) ≡ x → changed (map (shiftedRow k)) x ≡ reads rows → Later
+      go (reads rest) q g = record { rest = rest; listed = rw from q; same = same-row g }
+      go refused q g = no-row g
+
+  pub shifted-rows : rows ≡ map (shiftedRow k) (rowsAt entry u)
+  shifted-rows = later .same ∙ ap (map (shiftedRow k)) (sym (rows-are entry u e (later .listed)))
+
+  -- u can be loaded
+  pub shifted-loadable : length rows ≤ maxEntries → Loadable entry u
+  shifted-loadable few = let n = ap length (later .same) ∙ length-map (later .rest) (shiftedRow k) in loadable entry u e (later .listed) (omega arith)

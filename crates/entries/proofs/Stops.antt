@@ -16,14 +16,14 @@ use Rattle.json.specs.Json.{Span, Next, item, ends, wrong, Items, items, noItem
 use Rattle.json.proofs.Laws.{value-string, element-is, later-item, later-ends, later-wrong}
 use Rattle.json.proofs.Walk.{Walk, walk-start, walk-is, walk-item}
 use Rattle.entries.specs.Places.{isString}
-use Rattle.entries.specs.Rows.{Row}
+use Rattle.entries.specs.Rows.{Row, elementDepth}
 
 pub broken-at : {A : Type 0} {x : End} {e : ℕ} → x ≡ Broken → x ≡ At e → A
 broken-at p q = let z : _≡_ {A = ℕ} 0 1 = cc in absurd (omega arith)
 
 -- an element of an entry
 abbrev pub one : List ℕ → ℕ → Next Span
-one s = element (value 12 s)
+one s = element (value elementDepth s)
 
 -- ---- strings among other tokens
 module _ (s : List ℕ) (i : ℕ) where
@@ -61,13 +61,13 @@ pub data Stops (s : List ℕ) : Next Span → Type 0 where
 module _ (s : List ℕ) (i : ℕ) where
   no-string : string s i ≡ Broken → Stops s (one s i)
   unfolding element isString
-  no-string h = go (value 12 s i) refl
+  no-string h = go (value elementDepth s i) refl
     where
-      other : (e : ℕ) → value 12 s i ≡ At e → (b : Bool) → eqb (byteAt s i) 34 ≡ b → b ≡ false
-      other e q true p = broken-at h (sym (value-string s i 12 (eqb-true _ _ p)) ∙ q)
+      other : (e : ℕ) → value elementDepth s i ≡ At e → (b : Bool) → eqb (byteAt s i) 34 ≡ b → b ≡ false
+      other e q true p = broken-at h (sym (value-string s i elementDepth (eqb-true _ _ p)) ∙ q)
       other e q false p = refl
 
-      go : (x : End) → value 12 s i ≡ x → Stops s (elim x [ At e ↦ item (record { from = i; to = e }) e | Broken ↦ wrong ])
+      go : (x : End) → value elementDepth s i ≡ x → Stops s (elim x [ At e ↦ item (record { from = i; to = e }) e | Broken ↦ wrong ])
       go (At e) q = at-other (record { from = i; to = e }) e (other e q (eqb (byteAt s i) 34) refl)
       go Broken q = at-wrong
 
@@ -118,14 +118,14 @@ module _ (s : List ℕ) {R : Type 0} (answer : Items Span → R) where
       let b = bounds j (separator-in s 44 i (omega arith)) q in
       let c = bounds e (string-in s j) h in
       let v = walk-is (one s) 93 s answer w (one s j) j (omega arith) (later-item (one s) 93 s i j q) in
-      walk-item (one s) 93 s answer v (record { from = j; to = e }) e (element-is (value 12 s) j e (string-value s j 12 e h)) (omega arith) (c .1)
+      walk-item (one s) 93 s answer v (record { from = j; to = e }) e (element-is (value elementDepth s) j e (string-value s j elementDepth e h)) (omega arith) (c .1)
 
   -- the first string of the array whose bracket ends at i
   pub past-first : (i j e : ℕ) → j ≡ blanks s i → string s j ≡ At e
-      → Walk (one s) 93 s (λ (y : Items Span). answer (before (record { from = j; to = e }) y)) e (next (one s) 93 s false e) (answer (elements (value 12 s) s i))
+      → Walk (one s) 93 s (λ (y : Items Span). answer (before (record { from = j; to = e }) y)) e (next (one s) 93 s false e) (answer (elements (value elementDepth s) s i))
   unfolding elements
   past-first i j e b h =
       let c = bounds e (string-in s j) h in
       let g : string s (blanks s i) ≡ At e = rw b at h in
-      let v : Walk (one s) 93 s answer j (one s j) (answer (elements (value 12 s) s i)) = rw b (walk-start (one s) 93 s answer i (blanks-in s i .0) (string-no-close s i e g)) in
-      walk-item (one s) 93 s answer v (record { from = j; to = e }) e (element-is (value 12 s) j e (string-value s j 12 e h)) (omega arith) (c .1)
+      let v : Walk (one s) 93 s answer j (one s j) (answer (elements (value elementDepth s) s i)) = rw b (walk-start (one s) 93 s answer i (blanks-in s i .0) (string-no-close s i e g)) in
+      walk-item (one s) 93 s answer v (record { from = j; to = e }) e (element-is (value elementDepth s) j e (string-value s j elementDepth e h)) (omega arith) (c .1)

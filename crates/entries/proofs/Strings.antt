@@ -18,7 +18,7 @@ use Rattle.json.specs.Claims.{In-order, then, Is-element}
 use Rattle.json.proofs.Laws.{value-string}
 use Rattle.json.proofs.Claims.{elements-in-order}
 use Rattle.entries.specs.Places.{andThen, isString, contents, arrayAt}
-use Rattle.entries.specs.Rows.{Row, rowK, entryK, rowM, entryM}
+use Rattle.entries.specs.Rows.{Row, entryDepth, elementDepth, rowK, entryK, rowM, entryM, entryFor}
 use Rattle.entries.proofs.Stops.{broken-at, string-byte}
 
 -- ---- a string has two quotes: past the first, it ends past where it begins
@@ -72,11 +72,11 @@ pub record StringAt (s : List ℕ) (a : Span) : Type 0 where
   pub room : a .from + 2 ≤ a .to
   pub inside : a .to ≤ length s
 
-string-at : (s : List ℕ) (a : Span) → value 12 s (a .from) ≡ At (a .to) → isString s a ≡ true → StringAt s a
+string-at : (s : List ℕ) (a : Span) → value elementDepth s (a .from) ≡ At (a .to) → isString s a ≡ true → StringAt s a
 unfolding isString
 string-at s a v h =
     let b : byteAt s (a .from) ≡ 34 = eqb-true _ _ h in
-    let q : string s (a .from) ≡ At (a .to) = sym (value-string s (a .from) 12 b) ∙ v in
+    let q : string s (a .from) ≡ At (a .to) = sym (value-string s (a .from) elementDepth b) ∙ v in
     let c = string-two s (a .from) (a .to) q in
     record { opens = b; is-string = q; room = c .0; inside = c .1 }
 
@@ -101,29 +101,29 @@ record Begins (s : List ℕ) (l : List Span) (r : Row) : Type 0 where
   row-is : r ≡ record { price = first; size = second }
 
 module _ (s : List ℕ) (row : List Span → Reading Row) (front : (l : List Span) (r : Row) → row l ≡ reads r → Begins s l r) where
-  in-order : (hi lo : ℕ) (p z : Span) (k : List Span) → In-order (Is-element 12 s) hi lo (p ∷ (z ∷ k)) → (value 12 s (p .from) ≡ At (p .to)) × (value 12 s (z .from) ≡ At (z .to))
+  in-order : (hi lo : ℕ) (p z : Span) (k : List Span) → In-order (Is-element elementDepth s) hi lo (p ∷ (z ∷ k)) → (value elementDepth s (p .from) ≡ At (p .to)) × (value elementDepth s (z .from) ≡ At (z .to))
   in-order hi lo p z k (then lo1 from1 to1 p1 l1 a b c (then lo2 from2 to2 z1 k1 d e f o)) = (c .a-value, f .a-value)
 
-  sound-items : (i : ℕ) (x : Items Span) → elements (value 12 s) s i ≡ x → (r : Row) → andThen (contents x) row ≡ reads r → StringAt s (r .price) × StringAt s (r .size)
+  sound-items : (i : ℕ) (x : Items Span) → elements (value elementDepth s) s i ≡ x → (r : Row) → andThen (contents x) row ≡ reads r → StringAt s (r .price) × StringAt s (r .size)
   unfolding contents andThen
   sound-items i (items l e) q r h =
       let g = front l r h in
       let p = g .first in
       let z = g .second in
-      let o : In-order (Is-element 12 s) e i (p ∷ (z ∷ g .others)) = rw (g .all-of) at (elements-in-order 12 s i l e q .0) in
+      let o : In-order (Is-element elementDepth s) e i (p ∷ (z ∷ g .others)) = rw (g .all-of) at (elements-in-order elementDepth s i l e q .0) in
       let v = in-order e i p z (g .others) o in
       rw (g .row-is) (string-at s p (v .0) (g .first-is), string-at s z (v .1) (g .second-is))
   sound-items i noItems q r h = no-row h
 
-  sound-array : (a : Span) (r : Row) → andThen (arrayAt 13 s a) row ≡ reads r → StringAt s (r .price) × StringAt s (r .size)
+  sound-array : (a : Span) (r : Row) → andThen (arrayAt entryDepth s a) row ≡ reads r → StringAt s (r .price) × StringAt s (r .size)
   unfolding arrayAt andThen
   sound-array a r h = go (eqb (byteAt s (a .from)) 91) h
     where
-      go : (b : Bool) → andThen (cond b (contents (elements (value 12 s) s (a .from + 1))) refused) row ≡ reads r → StringAt s (r .price) × StringAt s (r .size)
-      go true g = sound-items (a .from + 1) (elements (value 12 s) s (a .from + 1)) refl r g
+      go : (b : Bool) → andThen (cond b (contents (elements (value elementDepth s) s (a .from + 1))) refused) row ≡ reads r → StringAt s (r .price) × StringAt s (r .size)
+      go true g = sound-items (a .from + 1) (elements (value elementDepth s) s (a .from + 1)) refl r g
       go false g = no-row g
 
-pub k-sound : (s : List ℕ) → Sound entryK s
+k-sound : (s : List ℕ) → Sound entryK s
 unfolding entryK rowK
 k-sound s a r h = sound-array s (rowK s) front a r h
   where
@@ -142,7 +142,7 @@ k-sound s a r h = sound-array s (rowK s) front a r h
     front (p ∷ (z ∷ [])) r g = no-row g
     front (p ∷ (z ∷ (t ∷ k))) r g = strings p z t k r (isString s p && (isString s z && isString s t)) refl g
 
-pub m-sound : (s : List ℕ) → Sound entryM s
+m-sound : (s : List ℕ) → Sound entryM s
 unfolding entryM rowM
 m-sound s a r h = sound-array s (rowM s) front a r h
   where
@@ -159,3 +159,7 @@ m-sound s a r h = sound-array s (rowM s) front a r h
     front (p ∷ []) r g = no-row g
     front (p ∷ (z ∷ [])) r g = strings p z r (isString s p && isString s z) refl g
     front (p ∷ (z ∷ (x ∷ k))) r g = no-row g
+
+pub sound-for : (m : Bool) (s : List ℕ) → Sound (entryFor m) s
+sound-for true s = m-sound s
+sound-for false s = k-sound s

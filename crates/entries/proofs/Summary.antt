@@ -17,8 +17,8 @@ use Rattle.json.proofs.Laws.{value-array, element-is, element-wrong}
 use Rattle.json.proofs.Bounds.{value-in}
 use Rattle.json.proofs.Walk.{Walk, walk-empty, walk-start, walk-wrong, walk-on, walk-last, walk-broken}
 use Rattle.entries.specs.Places.{andThen, all, contents, arrayAt}
-use Rattle.entries.specs.Rows.{Row, entriesAt, badPrice, badSize}
-use Rattle.entries.specs.Summary.{foundOf, foundAt, zeroSize, anyBroken, anyZero, noEntries, summaryOf, summaryAt}
+use Rattle.entries.specs.Rows.{Row, entriesDepth, entryDepth, entriesAt, badPrice, badSize}
+use Rattle.entries.specs.Summary.{foundOf, priceSpan, sizeSpan, foundAt, zeroSize, anyBroken, anyZero, noEntries, summaryOf, summaryAt}
 use Rattle.entries.specs.Counting.{Laid, withRow, counted}
 use Rattle.entries.specs.declared.Found.{Found}
 use Rattle.entries.specs.declared.Entries.{Entries}
@@ -27,7 +27,7 @@ use Rattle.entries.proofs.Counting.{or-false, counted-row, counted-othe
 
 -- an entry among entries
 abbrev pub each : List ℕ → ℕ → Next Span
-each s = element (value 13 s)
+each s = element (value entryDepth s)
 
 -- an array of no entries
 abbrev pub nothing : ℕ → Entries
@@ -135,9 +135,9 @@ module _ (entry : List ℕ → Span → Reading Row) (s : List ℕ) where
 
   -- ---- the value at a position
   module _ (at : ℕ) where
-    pub summary-other : (byteAt s at ≡ 91 → ⊥) → noEntries (endOf (value 14 s at)) ≡ summaryAt entry s at
+    pub summary-other : (byteAt s at ≡ 91 → ⊥) → noEntries (endOf (value entriesDepth s at)) ≡ summaryAt entry s at
     unfolding summaryAt endOf summaryOf noEntries entriesAt andThen arrayAt
-    summary-other h = go (value 14 s at)
+    summary-other h = go (value entriesDepth s at)
       where
         none : (e : ℕ) → summaryOf s e (entriesAt entry s (record { from = at; to = e })) ≡ noEntries e
         none e = rw (ne-eqb (byteAt s at) 91 h)
@@ -147,9 +147,9 @@ module _ (entry : List ℕ → Span → Reading Row) (s : List ℕ) where
         go Broken = refl
 
     -- the end is the value's, whatever it is
-    pub summary-end : summaryAt entry s at .end ≡ endOf (value 14 s at)
+    pub summary-end : summaryAt entry s at .end ≡ endOf (value entriesDepth s at)
     unfolding summaryAt summaryOf noEntries endOf
-    summary-end = go (value 14 s at)
+    summary-end = go (value entriesDepth s at)
       where
         at-value : (e : ℕ) (y : Reading (List Row)) → summaryOf s e y .end ≡ e
         at-value e (reads rows) = refl
@@ -159,18 +159,18 @@ module _ (entry : List ℕ → Span → Reading Row) (s : List ℕ) where
         go (At e) = at-value e (entriesAt entry s (record { from = at; to = e }))
         go Broken = refl
 
-    pub summary-is : (e : ℕ) → value 14 s at ≡ At e → summaryAt entry s at ≡ summaryOf s e (entriesAt entry s (record { from = at; to = e }))
+    pub summary-is : (e : ℕ) → value entriesDepth s at ≡ At e → summaryAt entry s at ≡ summaryOf s e (entriesAt entry s (record { from = at; to = e }))
     unfolding summaryAt
     summary-is e v = rw (v, summaryAt)
 
     module _ (opens : byteAt s at ≡ 91) where
       abbrev whole : Items Span
-      whole = elements (value 13 s) s (at + 1)
+      whole = elements (value entryDepth s) s (at + 1)
 
       summary-array : summaryAt entry s at ≡ summaryIn (nothing 0) whole
       unfolding summaryAt itemsEnd entriesAt arrayAt contents andThen summaryIn summaryOf added
       summary-array =
-          ap (λ (y : End). elim y [ At e ↦ summaryOf s e (entriesAt entry s (record { from = at; to = e })) | Broken ↦ noEntries 0 ]) (value-array s at 13 opens)
+          ap (λ (y : End). elim y [ At e ↦ summaryOf s e (entriesAt entry s (record { from = at; to = e })) | Broken ↦ noEntries 0 ]) (value-array s at entryDepth opens)
           ∙ go whole refl
         where
           same : (e : ℕ) (y : Reading (List Row)) → summaryOf s e y ≡ added s (nothing 0) e y
@@ -199,9 +199,9 @@ module _ (entry : List ℕ → Span → Reading Row) (s : List ℕ) where
 
   -- ---- what is told of the entry at a position
   module _ (i : ℕ) (g : Found) (told : g ≡ foundAt entry s i) where
-    pub found-end : g .end ≡ endOf (value 13 s i)
+    pub found-end : g .end ≡ endOf (value entryDepth s i)
     unfolding foundAt endOf foundOf
-    found-end = ap (λ (x : Found). x .end) told ∙ go (value 13 s i)
+    found-end = ap (λ (x : Found). x .end) told ∙ go (value entryDepth s i)
       where
         at-value : (e : ℕ) (y : Reading Row) → foundOf e y .end ≡ e
         at-value e (reads r) = refl
@@ -213,49 +213,49 @@ module _ (entry : List ℕ → Span → Reading Row) (s : List ℕ) where
 
     -- a fair entry's price and size are strings
     pub found-strings : Sound entry s → g .fair ≡ true
-        → StringAt s (record { from = g .«price_from»; to = g .«price_to» }) × StringAt s (record { from = g .«size_from»; to = g .«size_to» })
+        → StringAt s (priceSpan g) × StringAt s (sizeSpan g)
     unfolding foundAt foundOf
-    found-strings sound fair = go (value 13 s i) told
+    found-strings sound fair = go (value entryDepth s i) told
       where
         at-value : (e : ℕ) (y : Reading Row) → entry s (record { from = i; to = e }) ≡ y → g ≡ foundOf e y
-            → StringAt s (record { from = g .«price_from»; to = g .«price_to» }) × StringAt s (record { from = g .«size_from»; to = g .«size_to» })
+            → StringAt s (priceSpan g) × StringAt s (sizeSpan g)
         at-value e (reads r) q h = rw h (sound (record { from = i; to = e }) r q)
         at-value e refused q h = absurd (true≢false (sym fair ∙ ap (λ (x : Found). x .fair) h))
 
         go : (x : End) → g ≡ elim x [ At e ↦ foundOf e (entry s (record { from = i; to = e })) | Broken ↦ foundOf 0 refused ]
-            → StringAt s (record { from = g .«price_from»; to = g .«price_to» }) × StringAt s (record { from = g .«size_from»; to = g .«size_to» })
+            → StringAt s (priceSpan g) × StringAt s (sizeSpan g)
         go (At e) h = at-value e (entry s (record { from = i; to = e })) refl h
         go Broken h = absurd (true≢false (sym fair ∙ ap (λ (x : Found). x .fair) h))
 
     pub found-laid : Sound entry s → Laid s g
     found-laid sound fair = let c = found-strings sound fair in ((c .0 .room, c .0 .inside), (c .1 .room, c .1 .inside))
 
-    found-is : (e : ℕ) → value 13 s i ≡ At e → g ≡ foundOf e (entry s (record { from = i; to = e }))
+    found-is : (e : ℕ) → value entryDepth s i ≡ At e → g ≡ foundOf e (entry s (record { from = i; to = e }))
     unfolding foundAt
     found-is e v = told ∙ rw (v, foundAt)
 
     pub found-broken : g .end ≡ 0 → g ≡ foundOf 0 refused
     unfolding foundAt
-    found-broken z = told ∙ rw (end-broken (g .end) (omega arith) (value-in 13 s i) found-end z, foundAt)
+    found-broken z = told ∙ rw (end-broken (g .end) (omega arith) (value-in entryDepth s i) found-end z, foundAt)
 
     module _ (n : g .end ≡ 0 → ⊥) where
-      ends-at : value 13 s i ≡ At (g .end)
-      ends-at = end-at (value 13 s i) (g .end) found-end n
+      ends-at : value entryDepth s i ≡ At (g .end)
+      ends-at = end-at (value entryDepth s i) (g .end) found-end n
 
       pub found-past : (i < g .end) × (g .end ≤ length s)
-      found-past = let b = bounds (g .end) (value-in 13 s i) ends-at in (omega arith, b .1)
+      found-past = let b = bounds (g .end) (value-in entryDepth s i) ends-at in (omega arith, b .1)
 
       abbrev here : Span
       here = record { from = i; to = g .end }
 
       is-item : each s i ≡ item here (g .end)
-      is-item = element-is (value 13 s) i (g .end) ends-at
+      is-item = element-is (value entryDepth s) i (g .end) ends-at
 
     -- ---- a walk that stands at the entry
     module _ (sum r : Entries) (w : Walk (each s) 93 s (summaryIn sum) i (each s i) r) where
       pub each-wrong : g .end ≡ 0 → noEntries 0 ≡ r
       unfolding summaryIn
-      each-wrong z = walk-wrong (each s) 93 s (summaryIn sum) w (element-wrong (value 13 s) i (end-broken (g .end) (omega arith) (value-in 13 s i) found-end z))
+      each-wrong z = walk-wrong (each s) 93 s (summaryIn sum) w (element-wrong (value entryDepth s) i (end-broken (g .end) (omega arith) (value-in entryDepth s i) found-end z))
 
       module _ (n : g .end ≡ 0 → ⊥) where
         module _ (m : Entries) (c : m ≡ counted s sum g) where

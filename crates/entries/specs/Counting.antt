@@ -2,39 +2,15 @@
 -- Assumes nothing: these are definitions.
 use Prim.Native.Nat.{ℕ, _+_, _≤_}
 use mathlib.Core.Path.{_≡_}
-use mathlib.Core.Bool.{Bool, true, false, _||_, cond}
+use mathlib.Core.Bool.{true, false, _||_, cond}
 use mathlib.Core.List.{List}
 use lib.ListN.{length}
-use Rattle.decimal.specs.Digits.{Reading, reads, refused}
 use Rattle.decimal.specs.Decimal.{Number, isZero}
 use Rattle.json.specs.Json.{Span}
 use Rattle.entries.specs.Rows.{badPrice, badSize}
-use Rattle.entries.specs.Summary.{zeroSize, noEntries}
+use Rattle.entries.specs.Summary.{priceSpan, sizeSpan, zeroSize, noEntries}
 use Rattle.entries.specs.declared.Found.{Found}
 use Rattle.entries.specs.declared.Entries.{Entries}
-use Rattle.entries.specs.declared.Amount.{Amount}
-use Rattle.entries.specs.declared.Amount.the-variants.{NoDecimal, Zero, Positive}
-
--- ---- what the text of a price or a size says
-
-unfoldable pub amountOf : Reading Number → Amount
-amountOf (reads n) = elim (isZero n) [ true ↦ Zero | false ↦ Positive ]
-amountOf refused = NoDecimal
-
-unfoldable pub isBadPrice : Amount → Bool
-isBadPrice NoDecimal = true
-isBadPrice Zero = true
-isBadPrice Positive = false
-
-unfoldable pub isBadSize : Amount → Bool
-isBadSize NoDecimal = true
-isBadSize Zero = false
-isBadSize Positive = false
-
-unfoldable pub isZeroSize : Amount → Bool
-isZeroSize NoDecimal = false
-isZeroSize Zero = true
-isZeroSize Positive = false
 
 -- ---- one more entry
 
@@ -42,9 +18,12 @@ isZeroSize Positive = false
 abbrev pub Quoted : List ℕ → ℕ → ℕ → Type 0
 Quoted s from to = (from + 2 ≤ to) × (to ≤ length s)
 
+abbrev pub Placed : List ℕ → Found → Type 0
+Placed s f = Quoted s (f .«price_from») (f .«price_to») × Quoted s (f .«size_from») (f .«size_to»)
+
 -- The places of an entry, if it is one.
 abbrev pub Laid : List ℕ → Found → Type 0
-Laid s f = f .fair ≡ true → Quoted s (f .«price_from») (f .«price_to») × Quoted s (f .«size_from») (f .«size_to»)
+Laid s f = f .fair ≡ true → Placed s f
 
 unfoldable pub withRow : List ℕ → Entries → ℕ → Span → Span → Entries
 withRow s sum end price size =
@@ -68,6 +47,6 @@ unfoldable pub counted : List ℕ → Entries → Found → Entries
 counted s sum f =
     cond (sum .fair)
     (cond (f .fair)
-    (withRow s sum (f .end) (record { from = f .«price_from»; to = f .«price_to» }) (record { from = f .«size_from»; to = f .«size_to» }))
+    (withRow s sum (f .end) (priceSpan f) (sizeSpan f))
     (noEntries (f .end)))
     (noEntries (f .end))

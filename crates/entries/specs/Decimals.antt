@@ -1,54 +1,42 @@
--- Decimals in quotes, read where they lie: a string whose text is a decimal, and an array that begins with two of them.
+-- Decimals in quotes, read where they lie, and the numbers of an entry.
 -- Assumes nothing: these are definitions.
-use Prim.Native.Nat.{ℕ, _+_}
-use mathlib.Core.Bool.{cond}
+use Prim.Native.Nat.{ℕ}
+use mathlib.Core.Bool.{Bool, true}
 use mathlib.Core.List.{List}
-use lib.Dec.{eqb}
-use Rattle.decimal.specs.Digits.{Reading, reads, refused}
-use Rattle.decimal.specs.Decimal.{Number, number, read}
-use Rattle.json_tokens.specs.Bytes.{byteAt, comma, openArray}
-use Rattle.json_tokens.specs.Tokens.{At, Broken, blanks, separator, string}
-use Rattle.entries.specs.Places.{andThen, inner}
+use mathlib.Core.Path.{_≡_}
+use Rattle.decimal.specs.Digits.{Reading, reads}
+use Rattle.decimal.specs.Decimal.{number, read, Within}
+use Rattle.decimal.specs.declared.Decimal.{Decimal}
+use Rattle.json_tokens.specs.Tokens.{At, string}
+use Rattle.json.specs.Json.{Span}
+use Rattle.entries.specs.Places.{inner}
+use Rattle.entries.specs.Rows.{Row, entryFor, numberAt}
+use Rattle.entries.specs.Summary.{priceSpan, sizeSpan, foundAt}
 use Rattle.entries.specs.declared.Amounts.{Amounts}
 use Rattle.entries.specs.declared.QuotedDecimal.{QuotedDecimal}
 
--- ---- one, and where its string ends
+-- ---- read in one go
 
-pub record OneDecimal : Type 0 where
-  pub number : Number
-  pub end : ℕ
+-- The string at a position is the decimal that r has, and ends where r says.
+pub record QuotedAt (s : List ℕ) (at : ℕ) (r : QuotedDecimal) : Type 0 where
+  pub ends : string s at ≡ At (r .end)
+  pub text : read (inner s (record { from = at; to = r .end })) ≡ reads (number (r .decimal))
 
--- The string at a position, if it is a decimal.
-unfoldable pub decimalAt : List ℕ → ℕ → Reading OneDecimal
-decimalAt s at =
-    elim (string s at) [
-      | At e ↦ andThen (read (inner s (record { from = at; to = e }))) (λ n. reads (record { number = n; end = e }))
-      | Broken ↦ refused
-    ]
+-- There is an entry at a position, its texts are the decimals that r has, and it ends where r says.
+pub record DecimalsAt (entry : List ℕ → Span → Reading Row) (s : List ℕ) (at : ℕ) (r : Amounts) : Type 0 where
+  pub ends : foundAt entry s at .end ≡ r .end
+  pub fair : foundAt entry s at .fair ≡ true
+  pub price : read (inner s (priceSpan (foundAt entry s at))) ≡ reads (number (r .price))
+  pub size : read (inner s (sizeSpan (foundAt entry s at))) ≡ reads (number (r .size))
 
--- ---- two, and where the second string ends
+-- ---- the numbers of an entry
 
-pub record TwoDecimals : Type 0 where
-  pub price : Number
-  pub size : Number
-  pub end : ℕ
+pub record NumberOf (s : List ℕ) (a : Span) (d : Decimal) : Type 0 where
+  pub is : number d ≡ numberAt s a
+  pub within : Within (number d)
 
--- The first is p, and the other stands past a comma.
-unfoldable pub sizeAfter : List ℕ → OneDecimal → Reading TwoDecimals
-sizeAfter s p =
-    elim (separator comma s (p .end)) [
-      | At j ↦ andThen (decimalAt s j) (λ z. reads (record { price = p .number; size = z .number; end = z .end }))
-      | Broken ↦ refused
-    ]
-
--- The array at a position begins with them.
-unfoldable pub decimalsAt : List ℕ → ℕ → Reading TwoDecimals
-decimalsAt s at = cond (eqb (byteAt s at) openArray) (andThen (decimalAt s (blanks s (at + 1))) (sizeAfter s)) refused
-
--- ---- what the code tells: an end of 0 says that nothing was read
-
-unfoldable pub toldDecimal : QuotedDecimal → Reading OneDecimal
-toldDecimal a = cond (eqb (a .end) 0) refused (reads (record { number = number (a .decimal); end = a .end }))
-
-unfoldable pub toldDecimals : Amounts → Reading TwoDecimals
-toldDecimals a = cond (eqb (a .end) 0) refused (reads (record { price = number (a .price); size = number (a .size); end = a .end }))
+-- The price and the size of the entry that is found at a position, and its end.
+pub record EntryAt (m : Bool) (s : List ℕ) (at : ℕ) (r : Amounts) : Type 0 where
+  pub end : r .end ≡ foundAt (entryFor m) s at .end
+  pub price : NumberOf s (priceSpan (foundAt (entryFor m) s at)) (r .price)
+  pub size : NumberOf s (sizeSpan (foundAt (entryFor m) s at)) (r .size)

@@ -1,16 +1,16 @@
 -- Where things lie in a message: what the arrays and objects of it hold, members by name, strings and whole numbers.
 -- Assumes nothing: these are definitions.
 use Prim.Native.Nat.{ℕ, zero, suc, _+_, _-_}
-use mathlib.Core.Bool.{Bool, true, false, _&&_, cond}
-use mathlib.Core.List.{List, [], _∷_, _++_}
+use mathlib.Core.Bool.{Bool, cond}
+use mathlib.Core.List.{List, [], _∷_}
 use lib.Dec.{eqb}
 use lib.ListN.{take, drop}
 use Rattle.decimal.specs.Digits.{Reading, reads, refused}
 use Rattle.decimal.specs.Whole.{readWhole, readChecksum}
 use Rattle.json_tokens.specs.Bytes.{byteAt, quote, openArray, openObject}
-use Rattle.json_tokens.specs.Tokens.{End, At, Broken, blanks}
+use Rattle.json_tokens.specs.Tokens.{At, Broken, blanks}
 use Rattle.json.specs.Json.{Span, Pair, Items, items, noItems, elements, members, value, maxDepth}
-use Rattle.json.specs.Names.{part, means, hasBackslash}
+use Rattle.json.specs.Names.{part, means}
 
 -- What was read, and then what is read of it.
 unfoldable pub andThen : {A B : Type 0} → Reading A → (A → Reading B) → Reading B

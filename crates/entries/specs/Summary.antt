@@ -6,7 +6,7 @@ use mathlib.Core.Bool.{Bool, true, false, _||_}
 use mathlib.Core.List.{List, [], _∷_}
 use lib.ListN.{length}
 use Rattle.decimal.specs.Digits.{Reading, reads, refused}
-use Rattle.decimal.specs.Decimal.{read, isZero}
+use Rattle.decimal.specs.Decimal.{Number, read, isZero}
 use Rattle.json_tokens.specs.Tokens.{At, Broken}
 use Rattle.json.specs.Json.{Span, value}
 use Rattle.entries.specs.Places.{inner}
@@ -21,15 +21,25 @@ unfoldable pub foundOf : ℕ → Reading Row → Found
 foundOf end (reads r) = record { end = end; fair = true; «price_from» = r .price .from; «price_to» = r .price .to; «size_from» = r .size .from; «size_to» = r .size .to }
 foundOf end refused = record { end = end; fair = false; «price_from» = 0; «price_to» = 0; «size_from» = 0; «size_to» = 0 }
 
+-- The texts of the price and the size that were found.
+abbrev pub priceSpan : Found → Span
+priceSpan f = record { from = f .«price_from»; to = f .«price_to» }
+
+abbrev pub sizeSpan : Found → Span
+sizeSpan f = record { from = f .«size_from»; to = f .«size_to» }
+
 -- The value at a position as an entry; `entry` is K's or M's.
 unfoldable pub foundAt : (List ℕ → Span → Reading Row) → List ℕ → ℕ → Found
 foundAt entry s at = elim (value entryDepth s at) [ At e ↦ foundOf e (entry s (record { from = at; to = e })) | Broken ↦ foundOf 0 refused ]
 
 -- ---- an array of entries
 
--- The size is zero.
+-- The size is zero, by what is read of it.
+abbrev pub isZeroSize : Reading Number → Bool
+isZeroSize x = elim x [ reads n ↦ isZero n | refused ↦ false ]
+
 unfoldable pub zeroSize : List ℕ → Span → Bool
-zeroSize s a = elim (read (inner s a)) [ reads n ↦ isZero n | refused ↦ false ]
+zeroSize s a = isZeroSize (read (inner s a))
 
 -- Some row has a price that check 8 refuses, or a size that is no decimal.
 unfoldable pub anyBroken : List ℕ → List Row → Bool

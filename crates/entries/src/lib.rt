@@ -5,19 +5,20 @@
 // Any position may be asked for. Each answer has the position past the value there, whatever it is,
 // or 0 where it is not JSON, so that one walk over a message finds out whether it is JSON and reads it.
 //
+// `m` says that the dialect is M, else it is K.
+//
 // Example: the price of an entry of dialect K, `["5541.30","2.50700000","1534614248.123678"]`.
 //
-//     let found = entries::k_entry(s, at);
+//     let found = entries::entry_at(s, at, false);
 //     if found.fair {
-//         let from = found.price_from + 1;
-//         let to = found.price_to - 1;
-//         let price = decimal::parse(&s[from..to]);
+//         let price = entries::parse_quoted(s, found.price_from, found.price_to);
 //         ..
 //     }
 use decimal::Decimal;
 use decimal::Parsed;
 use decimal::ParsedFront;
 use decimal::parse;
+use json::MAX_DEPTH;
 use json::value_end;
 use json_tokens::OPEN_ARRAY;
 use json_tokens::QUOTE;
@@ -31,21 +32,26 @@ ghost use mathlib.Core.Bool.{true, false, _||_};
 ghost use Prim.Native.Nat.{_+_, _≤_};
 ghost use Rattle.decimal.specs.Digits.{refused};
 ghost use Rattle.decimal.specs.Decimal.{number, read};
-ghost use Rattle.entries.specs.Places.{inner};
+ghost use Rattle.decimal.specs.Reads.{parsed};
 ghost use Rattle.json_tokens.specs.Tokens.{endOf};
 ghost use Rattle.json.specs.Json.{value};
-ghost use Rattle.entries.specs.Rows.{entryDepth, entryK, entryM};
-ghost use Rattle.entries.specs.Summary.{foundOf, foundAt, noEntries, summaryAt};
-ghost use Rattle.entries.specs.Counting.{amountOf, isBadPrice, isBadSize, isZeroSize, Quoted, Laid, withNumbers, counted};
-ghost use Rattle.entries.specs.Decimals.{decimalAt, decimalsAt, toldDecimal, toldDecimals};
-ghost use Rattle.entries.specs.Front.{Front, RestEnd, EntryEnd, restK};
+ghost use Rattle.entries.specs.Places.{inner};
+ghost use Rattle.entries.specs.Rows.{entryDepth, entryK, entryFor, isBadPrice, isBadSize};
+ghost use Rattle.entries.specs.Summary.{foundOf, foundAt, isZeroSize, noEntries, summaryAt};
+ghost use Rattle.entries.specs.Arrays.{firstAt};
+ghost use Rattle.entries.specs.Counting.{Quoted, Placed, Laid, withNumbers, counted};
+ghost use Rattle.entries.specs.Front.{Front, RestEnd, EntryEnd};
+ghost use Rattle.entries.specs.Decimals.{QuotedAt, DecimalsAt, NumberOf, EntryAt};
+
+// The most entries of a side in one message.
+pub const MAX_ENTRIES: usize = 100;
 
 // How deep arrays and objects may nest in an array of entries, in an entry, and in an element of one.
-const ENTRIES_DEPTH: usize = 14;
+const ENTRIES_DEPTH: usize = MAX_DEPTH - 2;
 
-const ENTRY_DEPTH: usize = 13;
+const ENTRY_DEPTH: usize = ENTRIES_DEPTH - 1;
 
-const ELEMENT_DEPTH: usize = 12;
+const ELEMENT_DEPTH: usize = ENTRY_DEPTH - 1;
 
 // What stands at a position, as an entry.
 pub struct Found {
@@ -73,8 +79,7 @@ pub struct Entries {
     pub zero: bool,
 }
 
-// The two decimals in quotes that an array begins with, a price and a size, and the position past the second. An end of 0 says that
-// they are not there.
+// The price and the size of an entry, and the position past it. An end of 0 says that none was read.
 pub struct Amounts {
     pub price: Decimal,
     pub size: Decimal,
@@ -87,16 +92,9 @@ struct QuotedDecimal {
     end: usize,
 }
 
-// What the text of a price or a size says.
-enum Amount {
-    NoDecimal,
-    Zero,
-    Positive,
-}
-
-// The value at `at` as an array of entries of dialect K.
-pub fn k_entries(s: &[u8], at: usize) -> Entries
-    ensures { λ r. ⌜ r ≡ summaryAt entryK (now (s .entry)) at ⌝ }
+// The value at `at` as an array of entries.
+pub fn entries_at(s: &[u8], at: usize, m: bool) -> Entries
+    ensures { λ r. ⌜ r ≡ summaryAt (entryFor m) (now (s .entry)) at ⌝ }
 {
     if byte_at(s, at) != OPEN_ARRAY {
         return refused(value_end(s, at, ENTRIES_DEPTH));
@@ -108,7 +106,7 @@ pub fn k_entries(s: &[u8], at: usize) -> Entries
     let mut i = skip_blanks(s, at + 1);
     let mut sum = empty(0);
     loop {
-        let more = next_k(s, i, sum);
+        let more = next_entry(s, i, m, sum);
         let past = more.end;
         if past == 0 {
             return refused(0);
@@ -126,196 +124,95 @@ pub fn k_entries(s: &[u8], at: usize) -> Entries
     }
 }
 
-// The value at `at` as an array of entries of dialect M.
-pub fn m_entries(s: &[u8], at: usize) -> Entries
-    ensures { λ r. ⌜ r ≡ summaryAt entryM (now (s .entry)) at ⌝ }
+// The value at `at` as an entry.
+pub fn entry_at(s: &[u8], at: usize, m: bool) -> Found
+    ensures { λ r. ⌜ r ≡ foundAt (entryFor m) (now (s .entry)) at ⌝ }
 {
-    if byte_at(s, at) != OPEN_ARRAY {
-        return refused(value_end(s, at, ENTRIES_DEPTH));
-    }
-    let none = array_close_end(s, at + 1);
-    if 0 < none {
-        return empty(none);
-    }
-    let mut i = skip_blanks(s, at + 1);
-    let mut sum = empty(0);
-    loop {
-        let more = next_m(s, i, sum);
-        let past = more.end;
-        if past == 0 {
-            return refused(0);
+    let front = two_strings(s, at);
+    if front.fair {
+        let end = entry_end(s, front.end, m);
+        if end == 0 {
+            return passed_over(s, at);
         }
-        let j = comma_end(s, past);
-        if j == 0 {
-            let end = array_close_end(s, past);
-            if end == 0 {
-                return refused(0);
+        return at_end(front, end);
+    }
+    passed_over(s, at)
+}
+
+// Where the first entry of the array begins that the text begins with, or 0 where it has none.
+pub fn first_at(s: &[u8]) -> usize
+    ensures { λ r. ⌜ r ≡ firstAt (now (s .entry)) ⌝ }
+{
+    if 0 < array_close_end(s, 1) {
+        return 0;
+    }
+    skip_blanks(s, 1)
+}
+
+// The price and the size of the entry at `at`, and the position past it. Most often they are decimals, read on the way to its end.
+pub fn read_entry(s: &[u8], at: usize, m: bool) -> Amounts
+    requires { ⌜ Placed (now s) (foundAt (entryFor m) (now s) at) ⌝ }
+    ensures { λ r. ⌜ EntryAt m (now (s .entry)) at r ⌝ }
+{
+    let amounts = two_amounts(s, at, m);
+    if 0 < amounts.end {
+        return amounts;
+    }
+    any_entry(s, at, m)
+}
+
+// What the string from `from` to `to`, quotes included, says. The decimal is read where it lies.
+pub fn parse_quoted(s: &[u8], from: usize, to: usize) -> Parsed
+    requires { ⌜ Quoted (now s) from to ⌝ }
+    ensures { λ r. ⌜ parsed r ≡ read (inner (now (s .entry)) (record { from = from; to = to })) ⌝ }
+{
+    let first = from + 1;
+    let last = to - 1;
+    parse(&s[first..last])
+}
+
+// Whether the text of a price breaks a rule of decimals, by what it says.
+pub fn is_bad_price(price: Parsed) -> bool
+    ensures { λ r. ⌜ r ≡ isBadPrice (parsed price) ⌝ }
+{
+    match price {
+        Parsed::Number(d) => decimal::is_zero(d),
+        Parsed::Refused => true,
+    }
+}
+
+// The same of a size: in a snapshot it must not be zero either.
+pub fn is_bad_size(size: Parsed, snapshot: bool) -> bool
+    ensures { λ r. ⌜ r ≡ isBadSize snapshot (parsed size) ⌝ }
+{
+    match size {
+        Parsed::Number(d) => {
+            if snapshot {
+                return decimal::is_zero(d);
             }
-            return closed(more, end);
+            false
         }
-        sum = more;
-        i = j;
+        Parsed::Refused => true,
     }
 }
 
-// What was counted, and the entry of dialect K at `at` more. Most entries begin with two decimals in quotes, which are read in one go on
-// the way to the entry's end; any other is found first. Where the value there is not JSON, the end is 0.
-fn next_k(s: &[u8], at: usize, sum: Entries) -> Entries
+// ---- an array of entries
+
+// What was counted, and the entry at `at` more. Most entries have two decimals, which are read in one go on the way to the entry's end;
+// any other is found first. Where the value there is not JSON, the end is 0.
+fn next_entry(s: &[u8], at: usize, m: bool, sum: Entries) -> Entries
     requires { ⌜ sum .count ≤ at ⌝ }
-    ensures { λ r. ⌜ r ≡ counted (now (s .entry)) sum (foundAt entryK (now (s .entry)) at) ⌝ }
+    ensures { λ r. ⌜ r ≡ counted (now (s .entry)) sum (foundAt (entryFor m) (now (s .entry)) at) ⌝ }
 {
-    let front = two_amounts(s, at);
-    if 0 < front.end {
-        let end = k_rest_end(s, front.end);
-        if 0 < end {
-            return with_amounts(sum, front, end);
-        }
+    let amounts = two_amounts(s, at, m);
+    if 0 < amounts.end {
+        return with_amounts(sum, amounts);
     }
-    let found = k_entry(s, at);
+    let found = entry_at(s, at, m);
     if found.end == 0 {
         return refused(0);
     }
     counted(s, sum, found)
-}
-
-// The same of dialect M.
-fn next_m(s: &[u8], at: usize, sum: Entries) -> Entries
-    requires { ⌜ sum .count ≤ at ⌝ }
-    ensures { λ r. ⌜ r ≡ counted (now (s .entry)) sum (foundAt entryM (now (s .entry)) at) ⌝ }
-{
-    let front = two_amounts(s, at);
-    if 0 < front.end {
-        let end = array_close_end(s, front.end);
-        if 0 < end {
-            return with_amounts(sum, front, end);
-        }
-    }
-    let found = m_entry(s, at);
-    if found.end == 0 {
-        return refused(0);
-    }
-    counted(s, sum, found)
-}
-
-// The value at `at` as an entry of dialect K.
-pub fn k_entry(s: &[u8], at: usize) -> Found
-    ensures { λ r. ⌜ r ≡ foundAt entryK (now (s .entry)) at ⌝ }
-{
-    let front = two_strings(s, at);
-    if front.fair {
-        let third = comma_end(s, front.end);
-        if third == 0 {
-            return passed_over(s, at);
-        }
-        let past = string_end(s, third);
-        if past == 0 {
-            return passed_over(s, at);
-        }
-        let end = rest_end(s, past);
-        if end == 0 {
-            return passed_over(s, at);
-        }
-        return at_end(front, end);
-    }
-    passed_over(s, at)
-}
-
-// The value at `at` as an entry of dialect M.
-pub fn m_entry(s: &[u8], at: usize) -> Found
-    ensures { λ r. ⌜ r ≡ foundAt entryM (now (s .entry)) at ⌝ }
-{
-    let front = two_strings(s, at);
-    if front.fair {
-        let end = array_close_end(s, front.end);
-        if end == 0 {
-            return passed_over(s, at);
-        }
-        return at_end(front, end);
-    }
-    passed_over(s, at)
-}
-
-// The value at `at`, which is no entry.
-fn passed_over(s: &[u8], at: usize) -> Found
-    ensures { λ r. ⌜ r ≡ foundOf (endOf (value entryDepth (now (s .entry)) at)) refused ⌝ }
-{
-    no_entry(value_end(s, at, ENTRY_DEPTH))
-}
-
-// The two strings that the array at `at` begins with, and where the second of them ends.
-fn two_strings(s: &[u8], at: usize) -> Found
-    ensures { λ r. ⌜ Front (now (s .entry)) at r ⌝ }
-{
-    if byte_at(s, at) != OPEN_ARRAY {
-        return no_entry(0);
-    }
-    let price_from = skip_blanks(s, at + 1);
-    let price_to = string_end(s, price_from);
-    if price_to == 0 {
-        return no_entry(0);
-    }
-    let size_from = comma_end(s, price_to);
-    if size_from == 0 {
-        return no_entry(0);
-    }
-    let size_to = string_end(s, size_from);
-    if size_to == 0 {
-        return no_entry(0);
-    }
-    Found {
-        end: size_to,
-        fair: true,
-        price_from,
-        price_to,
-        size_from,
-        size_to,
-    }
-}
-
-// Past the array that has an element which ends at `at`.
-fn rest_end(s: &[u8], at: usize) -> usize
-    ensures { λ r. ⌜ RestEnd (now (s .entry)) at r ⌝ }
-{
-    let mut i = at;
-    loop {
-        let j = comma_end(s, i);
-        if j == 0 {
-            return array_close_end(s, i);
-        }
-        let e = value_end(s, j, ELEMENT_DEPTH);
-        if e == 0 {
-            return 0;
-        }
-        i = e;
-    }
-}
-
-// The same with another end.
-fn at_end(found: Found, end: usize) -> Found
-    ensures { λ r. ⌜ r ≡ record { end = end; fair = found .fair; «price_from» = found .«price_from»; «price_to» = found .«price_to»; «size_from» = found .«size_from»; «size_to» = found .«size_to» } ⌝ }
-{
-    Found {
-        end,
-        fair: found.fair,
-        price_from: found.price_from,
-        price_to: found.price_to,
-        size_from: found.size_from,
-        size_to: found.size_to,
-    }
-}
-
-// A value that ends at `end` and is no entry.
-fn no_entry(end: usize) -> Found
-    ensures { λ r. ⌜ r ≡ foundOf end refused ⌝ }
-{
-    Found {
-        end,
-        fair: false,
-        price_from: 0,
-        price_to: 0,
-        size_from: 0,
-        size_to: 0,
-    }
 }
 
 // What was counted, and one entry more.
@@ -326,14 +223,15 @@ fn counted(s: &[u8], sum: Entries, found: Found) -> Entries
     let end = found.end;
     if sum.fair {
         if found.fair {
-            let price = amount_at(s, found.price_from, found.price_to);
-            let size = amount_at(s, found.size_from, found.size_to);
+            let price = parse_quoted(s, found.price_from, found.price_to);
+            let size = parse_quoted(s, found.size_from, found.size_to);
+            let bad = either(is_bad_price(price), is_bad_size(size, false));
             return Entries {
                 end,
                 fair: true,
                 count: sum.count + 1,
-                broken: is_broken(sum.broken, price, size),
-                zero: is_zero(sum.zero, size),
+                broken: either(sum.broken, bad),
+                zero: either(sum.zero, is_zero_size(size)),
             };
         }
         return refused(end);
@@ -342,13 +240,14 @@ fn counted(s: &[u8], sum: Entries, found: Found) -> Entries
 }
 
 // What was counted, and one entry more: its two decimals, and its end.
-fn with_amounts(sum: Entries, front: Amounts, end: usize) -> Entries
-    requires { ⌜ sum .count + 1 ≤ end ⌝ }
-    ensures { λ r. ⌜ r ≡ withNumbers sum end (number (front .price)) (number (front .size)) ⌝ }
+fn with_amounts(sum: Entries, amounts: Amounts) -> Entries
+    requires { ⌜ sum .count + 1 ≤ amounts .end ⌝ }
+    ensures { λ r. ⌜ r ≡ withNumbers sum (amounts .end) (number (amounts .price)) (number (amounts .size)) ⌝ }
 {
+    let end = amounts.end;
     if sum.fair {
-        let price = front.price;
-        let size = front.size;
+        let price = amounts.price;
+        let size = amounts.size;
         return Entries {
             end,
             fair: true,
@@ -360,6 +259,16 @@ fn with_amounts(sum: Entries, front: Amounts, end: usize) -> Entries
     refused(end)
 }
 
+// Whether the text of a size says zero.
+fn is_zero_size(size: Parsed) -> bool
+    ensures { λ r. ⌜ r ≡ isZeroSize (parsed size) ⌝ }
+{
+    match size {
+        Parsed::Number(d) => decimal::is_zero(d),
+        Parsed::Refused => false,
+    }
+}
+
 fn either(a: bool, b: bool) -> bool
     ensures { λ r. ⌜ r ≡ (a || b) ⌝ }
 {
@@ -367,56 +276,6 @@ fn either(a: bool, b: bool) -> bool
         return true;
     }
     b
-}
-
-// What the text from `from` to `to`, quotes included, says. The decimal is read where it lies.
-fn amount_at(s: &[u8], from: usize, to: usize) -> Amount
-    requires { ⌜ Quoted (now s) from to ⌝ }
-    ensures { λ r. ⌜ r ≡ amountOf (read (inner (now (s .entry)) (record { from = from; to = to }))) ⌝ }
-{
-    let first = from + 1;
-    let last = to - 1;
-    match parse(&s[first..last]) {
-        Parsed::Number(d) => {
-            if decimal::is_zero(d) {
-                return Amount::Zero;
-            }
-            Amount::Positive
-        }
-        Parsed::Refused => Amount::NoDecimal,
-    }
-}
-
-// Whether something was broken before, or this price or this size is.
-fn is_broken(before: bool, price: Amount, size: Amount) -> bool
-    ensures { λ r. ⌜ r ≡ (before || (isBadPrice price || isBadSize size)) ⌝ }
-{
-    if before {
-        return true;
-    }
-    match price {
-        Amount::NoDecimal => true,
-        Amount::Zero => true,
-        Amount::Positive => match size {
-            Amount::NoDecimal => true,
-            Amount::Zero => false,
-            Amount::Positive => false,
-        },
-    }
-}
-
-// Whether a size was zero before, or this one is.
-fn is_zero(before: bool, size: Amount) -> bool
-    ensures { λ r. ⌜ r ≡ (before || isZeroSize size) ⌝ }
-{
-    if before {
-        return true;
-    }
-    match size {
-        Amount::NoDecimal => false,
-        Amount::Zero => true,
-        Amount::Positive => false,
-    }
 }
 
 // What was counted of an array that ends at `end`.
@@ -458,9 +317,51 @@ fn refused(end: usize) -> Entries
     }
 }
 
-// Past the entry of dialect K whose second string ends at `at`, or 0 where what follows does not fit.
-pub fn k_rest_end(s: &[u8], at: usize) -> usize
-    ensures { λ r. ⌜ (r ≡ endOf (restK (now (s .entry)) at)) × EntryEnd entryK (now (s .entry)) at r ⌝ }
+// ---- one entry
+
+// The two strings that the array at `at` begins with, and where the second of them ends.
+fn two_strings(s: &[u8], at: usize) -> Found
+    ensures { λ r. ⌜ Front (now (s .entry)) at r ⌝ }
+{
+    if byte_at(s, at) != OPEN_ARRAY {
+        return no_entry(0);
+    }
+    let price_from = skip_blanks(s, at + 1);
+    let price_to = string_end(s, price_from);
+    if price_to == 0 {
+        return no_entry(0);
+    }
+    let size_from = comma_end(s, price_to);
+    if size_from == 0 {
+        return no_entry(0);
+    }
+    let size_to = string_end(s, size_from);
+    if size_to == 0 {
+        return no_entry(0);
+    }
+    Found {
+        end: size_to,
+        fair: true,
+        price_from,
+        price_to,
+        size_from,
+        size_to,
+    }
+}
+
+// Past the entry whose second string ends at `at`, or 0 where what follows does not fit.
+fn entry_end(s: &[u8], at: usize, m: bool) -> usize
+    ensures { λ r. ⌜ EntryEnd (entryFor m) (now (s .entry)) at r ⌝ }
+{
+    if m {
+        return array_close_end(s, at);
+    }
+    k_rest_end(s, at)
+}
+
+// The same of dialect K: a third string, and whatever else the array has.
+fn k_rest_end(s: &[u8], at: usize) -> usize
+    ensures { λ r. ⌜ EntryEnd entryK (now (s .entry)) at r ⌝ }
 {
     let third = comma_end(s, at);
     if third == 0 {
@@ -473,9 +374,93 @@ pub fn k_rest_end(s: &[u8], at: usize) -> usize
     rest_end(s, past)
 }
 
-// The two decimals in quotes that the array at `at` begins with.
-pub fn two_amounts(s: &[u8], at: usize) -> Amounts
-    ensures { λ r. ⌜ toldDecimals r ≡ decimalsAt (now (s .entry)) at ⌝ }
+// Past the array that has an element which ends at `at`.
+fn rest_end(s: &[u8], at: usize) -> usize
+    ensures { λ r. ⌜ RestEnd (now (s .entry)) at r ⌝ }
+{
+    let mut i = at;
+    loop {
+        let j = comma_end(s, i);
+        if j == 0 {
+            return array_close_end(s, i);
+        }
+        let e = value_end(s, j, ELEMENT_DEPTH);
+        if e == 0 {
+            return 0;
+        }
+        i = e;
+    }
+}
+
+// The value at `at`, which is no entry.
+fn passed_over(s: &[u8], at: usize) -> Found
+    ensures { λ r. ⌜ r ≡ foundOf (endOf (value entryDepth (now (s .entry)) at)) refused ⌝ }
+{
+    no_entry(value_end(s, at, ENTRY_DEPTH))
+}
+
+// What was found, with another end.
+fn at_end(found: Found, end: usize) -> Found
+    ensures { λ r. ⌜ r ≡ record { end = end; fair = found .fair; «price_from» = found .«price_from»; «price_to» = found .«price_to»; «size_from» = found .«size_from»; «size_to» = found .«size_to» } ⌝ }
+{
+    Found {
+        end,
+        fair: found.fair,
+        price_from: found.price_from,
+        price_to: found.price_to,
+        size_from: found.size_from,
+        size_to: found.size_to,
+    }
+}
+
+// A value that ends at `end` and is no entry.
+fn no_entry(end: usize) -> Found
+    ensures { λ r. ⌜ r ≡ foundOf end refused ⌝ }
+{
+    Found {
+        end,
+        fair: false,
+        price_from: 0,
+        price_to: 0,
+        size_from: 0,
+        size_to: 0,
+    }
+}
+
+// ---- its price and its size
+
+// The price and the size of the entry at `at`, whatever its strings hold.
+fn any_entry(s: &[u8], at: usize, m: bool) -> Amounts
+    requires { ⌜ Placed (now s) (foundAt (entryFor m) (now s) at) ⌝ }
+    ensures { λ r. ⌜ EntryAt m (now (s .entry)) at r ⌝ }
+{
+    let found = entry_at(s, at, m);
+    let price = number_at(s, found.price_from, found.price_to);
+    let size = number_at(s, found.size_from, found.size_to);
+    Amounts {
+        price,
+        size,
+        end: found.end,
+    }
+}
+
+// The decimal in the string from `from` to `to`; 0 where it is none.
+fn number_at(s: &[u8], from: usize, to: usize) -> Decimal
+    requires { ⌜ Quoted (now s) from to ⌝ }
+    ensures { λ r. ⌜ NumberOf (now (s .entry)) (record { from = from; to = to }) r ⌝ }
+{
+    match parse_quoted(s, from, to) {
+        Parsed::Number(d) => d,
+        Parsed::Refused => Decimal {
+            digits: 0,
+            decimals: 0,
+        },
+    }
+}
+
+// The entry at `at`, if its two strings are decimals; else the end is 0.
+fn two_amounts(s: &[u8], at: usize, m: bool) -> Amounts
+    ensures { λ r. ⌜ ((r .end ≡ 0 → ⊥) → DecimalsAt (entryFor m) (now (s .entry)) at r) ⌝ }
 {
     if byte_at(s, at) != OPEN_ARRAY {
         return no_amounts();
@@ -489,18 +474,21 @@ pub fn two_amounts(s: &[u8], at: usize) -> Amounts
         return no_amounts();
     }
     let second = quoted_decimal(s, next);
+    if second.end == 0 {
+        return no_amounts();
+    }
     let price = first.decimal;
     let size = second.decimal;
     Amounts {
         price,
         size,
-        end: second.end,
+        end: entry_end(s, second.end, m),
     }
 }
 
 // The decimal in quotes at `at`. Digits and a point stand for themselves in a string, so that it is read in one go.
 fn quoted_decimal(s: &[u8], at: usize) -> QuotedDecimal
-    ensures { λ r. ⌜ toldDecimal r ≡ decimalAt (now (s .entry)) at ⌝ }
+    ensures { λ r. ⌜ ((r .end ≡ 0 → ⊥) → QuotedAt (now (s .entry)) at r) ⌝ }
 {
     if byte_at(s, at) != QUOTE {
         return no_decimal();
@@ -519,7 +507,7 @@ fn quoted_decimal(s: &[u8], at: usize) -> QuotedDecimal
     }
 }
 
-// No two decimals in quotes.
+// No entry of two decimals.
 fn no_amounts() -> Amounts
     ensures { λ r. ⌜ r .end ≡ 0 ⌝ }
 {

@@ -50,13 +50,13 @@ fn line(s: &[u8]) {
     let c = s[0];
     let text = &s[2..];
     if c == b'K' {
-        tell_entry(text, entries::k_entry(text, 0));
+        tell_entry(text, entries::entry_at(text, 0, false));
     } else if c == b'M' {
-        tell_entry(text, entries::m_entry(text, 0));
+        tell_entry(text, entries::entry_at(text, 0, true));
     } else if c == b'k' {
-        tell_entries(entries::k_entries(text, 0));
+        tell_entries(entries::entries_at(text, 0, false));
     } else if c == b'm' {
-        tell_entries(entries::m_entries(text, 0));
+        tell_entries(entries::entries_at(text, 0, true));
     }
 }
 

@@ -1,28 +1,26 @@
 -- The search for the first bad text, entry by entry: what is found in the rows that are left is what is found in all of them.
 -- Assumes nothing.
 use mathlib.Core.Path.{_≡_, refl, sym, ap, _∙_}
-use mathlib.Core.List.{List, [], _∷_, _++_}
-use mathlib.Core.Bool.{Bool, true, false, true≢false, _&&_, cond}
+use mathlib.Core.List.{List, [], _∷_}
+use mathlib.Core.Bool.{Bool, true, false, true≢false}
 use Prim.Native.Nat.{ℕ, zero, suc, _-_, _≤_, _<_}
 use native.Mathlib.Omega.{arith}
 use lib.ListN.{length}
-use Rattle.decimal.specs.Digits.{Reading, reads, refused}
-use Rattle.decimal.specs.Decimal.{Number, read, isZero}
-use Rattle.json_tokens.specs.Tokens.{End, At, Broken, endOf, separator}
+use Rattle.decimal.specs.Digits.{Reading}
+use Rattle.decimal.specs.Decimal.{Number, read}
+use Rattle.json_tokens.specs.Tokens.{endOf, separator}
 use Rattle.json_tokens.proofs.Laws.{end-at}
 use Rattle.json_tokens.proofs.Bounds.{bounds, separator-in}
-use Rattle.json.specs.Json.{Span, value}
-use Rattle.json.proofs.Bounds.{value-in}
+use Rattle.json.specs.Json.{Span}
 use Rattle.entries.specs.Places.{inner}
-use Rattle.entries.specs.Rows.{Row, badPrice, badSize, badTexts}
-use Rattle.entries.specs.Summary.{foundOf, foundAt}
-use Rattle.entries.specs.Counting.{Laid}
+use Rattle.entries.specs.Rows.{Row, isBadPrice, isBadSize, badPrice, badSize, badTexts}
+use Rattle.entries.specs.Summary.{foundOf, priceSpan, sizeSpan, foundAt}
+use Rattle.entries.specs.Arrays.{rowsAt, Loadable, firstAt}
+use Rattle.entries.specs.Counting.{Placed}
 use Rattle.entries.specs.declared.Found.{Found}
 use Rattle.entries.proofs.Strings.{Sound}
-use Rattle.entries.proofs.Summary.{found-laid}
-use Rattle.loader.specs.Loaded.{rowsAt, Loadable}
-use Rattle.loader.specs.Reading.{firstAt, Placed, priceSpan, sizeSpan}
-use Rattle.loader.proofs.Rows.{Left, first-left, Here, left-here}
+use Rattle.entries.proofs.Summary.{found-broken, found-laid, found-past}
+use Rattle.entries.proofs.Rows.{Left, first-left, Here, left-here}
 use Rattle.first_bad.specs.Places.{noPlace, placeOf}
 
 -- `at` is where the next entry begins, or 0 where there is none
@@ -83,26 +81,10 @@ module _ (entry : List ℕ → Span → Reading Row) (s : List ℕ) (snapshot : 
 
     -- the next entry begins further on
     ends : (at < f .end) × (f .end ≤ length s)
-    unfolding foundAt foundOf
-    ends = go (value 13 s at) refl
-      where
-        fair : f .fair ≡ true
-        fair = ap (λ (x : Found). x .fair) (here .is-row)
-
-        end-of : (e : ℕ) (x : Reading Row) → foundOf e x .end ≡ e
-        end-of e (reads r) = refl
-        end-of e refused = refl
-
-        go : (x : End) → value 13 s at ≡ x → (at < f .end) × (f .end ≤ length s)
-        go (At e) v =
-            let b = bounds e (value-in 13 s at) v in
-            let q : foundAt entry s at ≡ foundOf e (entry s (record { from = at; to = e })) = rw (v, foundAt) in
-            let w : f .end ≡ e = ap (λ (x : Found). x .end) (told ∙ q) ∙ end-of e (entry s (record { from = at; to = e })) in
-            (omega arith, omega arith)
-        go Broken v =
-            let q : foundAt entry s at ≡ foundOf 0 refused = rw (v, foundAt) in
-            let w : true ≡ false = sym fair ∙ ap (λ (x : Found). x .fair) (told ∙ q) in
-            absurd (true≢false w)
+    unfolding foundOf
+    ends =
+        let fair = ap (λ (x : Found). x .fair) (here .is-row) in
+        found-past entry s at f told (λ z. true≢false (sym fair ∙ ap (λ (x : Found). x .fair) (found-broken entry s at f told z)))
 
     pub inside : at ≤ length s
     inside = let e = ends in omega arith
@@ -123,26 +105,12 @@ remaining-less n zero j p q f = absurd (omega arith)
 remaining-less n (suc k) zero p q f = omega arith
 remaining-less n (suc k) (suc i) p q f = let g = f (λ (z : suc i ≡ 0). omega arith) in omega arith
 
--- ---- one text
-
-module _ (s : List ℕ) (a : Span) where
-  pub price-number : (n : Number) → read (inner s a) ≡ reads n → isZero n ≡ badPrice s a
+-- ---- by what is read of the two texts
+module _ (s : List ℕ) (a : Span) (x : Reading Number) (h : x ≡ read (inner s a)) where
+  pub price-read : isBadPrice x ≡ badPrice s a
   unfolding badPrice
-  price-number n h = sym (rw (h, badPrice))
+  price-read = ap isBadPrice h
 
-  pub price-none : read (inner s a) ≡ refused → true ≡ badPrice s a
-  unfolding badPrice
-  price-none h = sym (rw (h, badPrice))
-
-  module _ (snapshot : Bool) where
-    pub size-snapshot : (n : Number) → read (inner s a) ≡ reads n → snapshot ≡ true → isZero n ≡ badSize snapshot s a
-    unfolding badSize
-    size-snapshot n h g = sym (rw (h, g, badSize))
-
-    pub size-update : (n : Number) → read (inner s a) ≡ reads n → snapshot ≡ false → false ≡ badSize snapshot s a
-    unfolding badSize
-    size-update n h g = sym (rw (h, g, badSize))
-
-    pub size-none : read (inner s a) ≡ refused → true ≡ badSize snapshot s a
-    unfolding badSize
-    size-none h = sym (rw (h, badSize))
+  pub size-read : (snapshot : Bool) → isBadSize snapshot x ≡ badSize snapshot s a
+  unfolding badSize
+  size-read snapshot = ap (isBadSize snapshot) h

@@ -1,14 +1,13 @@
 // The first text of an array of entries that breaks a rule of decimals.
-ghost use mathlib.Core.Path.{_≡_};
-ghost use Rattle.entries.specs.Rows.{badPrice, badSize, badTexts};
-ghost use Rattle.entries.specs.Counting.{Quoted};
-ghost use Rattle.loader.specs.Loaded.{Loadable, rowsAt};
-ghost use Rattle.loader.specs.Reading.{entryFor};
+ghost use Rattle.entries.specs.Rows.{entryFor, badTexts};
+ghost use Rattle.entries.specs.Arrays.{Loadable, rowsAt};
 ghost use Rattle.first_bad.specs.Places.{First};
-use decimal::Parsed;
+use entries::entry_at;
+use entries::first_at;
+use entries::is_bad_price;
+use entries::is_bad_size;
+use entries::parse_quoted;
 use json_tokens::comma_end;
-use loader::entry_at;
-use loader::first_at;
 
 // Where a bad text lies: its first position, and the position past it.
 pub struct Place {
@@ -27,14 +26,14 @@ pub fn first_bad(s: &[u8], m: bool, snapshot: bool) -> Place
     let mut at = first_at(s);
     while 0 < at {
         let found = entry_at(s, at, m);
-        if is_bad_price(s, found.price_from, found.price_to) {
+        if is_bad_price(parse_quoted(s, found.price_from, found.price_to)) {
             return Place {
                 bad: true,
                 from: found.price_from,
                 to: found.price_to,
             };
         }
-        if is_bad_size(s, found.size_from, found.size_to, snapshot) {
+        if is_bad_size(parse_quoted(s, found.size_from, found.size_to), snapshot) {
             return Place {
                 bad: true,
                 from: found.size_from,
@@ -47,34 +46,5 @@ pub fn first_bad(s: &[u8], m: bool, snapshot: bool) -> Place
         bad: false,
         from: 0,
         to: 0,
-    }
-}
-
-fn is_bad_price(s: &[u8], from: usize, to: usize) -> bool
-    requires { ⌜ Quoted (now s) from to ⌝ }
-    ensures { λ r. ⌜ r ≡ badPrice (now (s .entry)) (record { from = from; to = to }) ⌝ }
-{
-    let first = from + 1;
-    let last = to - 1;
-    match decimal::parse(&s[first..last]) {
-        Parsed::Number(d) => decimal::is_zero(d),
-        Parsed::Refused => true,
-    }
-}
-
-fn is_bad_size(s: &[u8], from: usize, to: usize, snapshot: bool) -> bool
-    requires { ⌜ Quoted (now s) from to ⌝ }
-    ensures { λ r. ⌜ r ≡ badSize snapshot (now (s .entry)) (record { from = from; to = to }) ⌝ }
-{
-    let first = from + 1;
-    let last = to - 1;
-    match decimal::parse(&s[first..last]) {
-        Parsed::Number(d) => {
-            if snapshot {
-                return decimal::is_zero(d);
-            }
-            false
-        }
-        Parsed::Refused => true,
     }
 }

@@ -1,7 +1,6 @@
 -- The loop over an array of entries: the words of the rows before an entry, and the rows from it on. Assumes nothing.
 use Prim.Native.Nat.{ℕ, _+_, _≤_, _<_}
 use mathlib.Core.Path.{_≡_, refl, sym, ap, _∙_, subst}
-use mathlib.Core.Bool.{Bool, true, false}
 use mathlib.Core.List.{List, [], _∷_, _++_, append-nil, append-assoc}
 use native.Mathlib.Omega.{arith}
 use lib.ListN.{length, set, length-append}
@@ -9,28 +8,25 @@ use Rattle.decimal.specs.Digits.{Reading}
 use Rattle.decimal.specs.Decimal.{Number}
 use Rattle.json_tokens.specs.Tokens.{endOf, separator}
 use Rattle.json.specs.Json.{Span}
-use Rattle.entries.specs.Rows.{Row}
+use Rattle.entries.specs.Rows.{Row, maxEntries}
 use Rattle.entries.specs.Summary.{foundOf, foundAt}
+use Rattle.entries.specs.Arrays.{rowsAt, Loadable, firstAt}
+use Rattle.entries.specs.Counting.{Placed}
 use Rattle.entries.specs.declared.Found.{Found}
-use Rattle.entries.proofs.Strings.{Sound, k-sound, m-sound}
+use Rattle.entries.proofs.Strings.{Sound}
 use Rattle.entries.proofs.Summary.{found-laid}
+use Rattle.entries.proofs.Rows.{Left, first-left, Here, left-here}
 use Rattle.level.specs.Words.{Packed}
 use Rattle.level.specs.declared.Level.{Level}
-use Rattle.loader.specs.Loaded.{rowsAt, Loadable, Room, Loaded}
-use Rattle.loader.specs.Reading.{entryFor, firstAt, Placed, LevelAt}
-use Rattle.loader.proofs.Rows.{Left, first-left, Here, left-here}
-use Rattle.loader.proofs.Words.{rowOf, loaded-none, loaded-more}
-
-pub sound-for : (m : Bool) (s : List ℕ) → Sound (entryFor m) s
-sound-for true s = m-sound s
-sound-for false s = k-sound s
+use Rattle.loader.specs.Loaded.{Room, Loaded}
+use Rattle.loader.proofs.Words.{LevelAt, rowOf, loaded-none, loaded-more}
 
 -- `at` is where the next entry begins, or 0 where there is none
 pub record Going (entry : List ℕ → Span → Reading Row) (piece : Number → Number → List ℕ) (s prices sizes rests : List ℕ) (at k : ℕ) : Type 0 where
   pub done : List Row
   pub left : List Row
   pub whole : rowsAt entry s ≡ done ++ left
-  pub few : length (rowsAt entry s) ≤ 100
+  pub few : length (rowsAt entry s) ≤ maxEntries
   pub loaded : Loaded piece s done prices sizes rests k
   pub over : at ≡ 0 → left ≡ []
   pub on : (at ≡ 0 → ⊥) → Left entry s at left

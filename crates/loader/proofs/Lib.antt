@@ -1,6 +1,4 @@
--- What the proofs of several functions cite, here and in the crates above.
-pub mod Rows
+-- In reading order: the words of an entry; the loop over an array of entries; entries in the middle of a message.
 pub mod Words
-pub mod Amounts
 pub mod Going
 pub mod Shift

@@ -6,16 +6,14 @@ use mathlib.Core.List.{List, [], _∷_, _++_, map}
 use native.Mathlib.Omega.{arith}
 use native.Mathlib.Numerals.{add-one}
 use borrow.Author.Tests.{eqb-true, eqb-false}
-use lib.Dec.{eqb, lit<}
+use lib.Dec.{eqb}
 use lib.ListN.{length, take, set, length-append, length-set}
 use lib.Seq.{take-suc-set, length-take-le}
-use Rattle.decimal.specs.Digits.{reads, refused}
-use Rattle.decimal.specs.Decimal.{Number, number, read, Within, isZero}
+use Rattle.decimal.specs.Decimal.{Number, Within, isZero}
 use Rattle.decimal.specs.declared.Decimal.{Decimal}
-use Rattle.decimal.proofs.RoundTrip.{read-within}
-use Rattle.json.specs.Json.{Span}
-use Rattle.entries.specs.Places.{inner}
 use Rattle.entries.specs.Rows.{Row, numberAt}
+use Rattle.entries.specs.Summary.{priceSpan, sizeSpan}
+use Rattle.entries.specs.Decimals.{NumberOf}
 use Rattle.entries.specs.declared.Found.{Found}
 use Rattle.level.specs.Level.{PriceLevel}
 use Rattle.level.specs.Words.{levelPrice, levelSize, shown}
@@ -27,18 +25,14 @@ use Rattle.level.proofs.All.{all-append}
 use Rattle.level.proofs.Packing.{edit-packed, edit-removal, entries-snoc}
 use Rattle.checksum.specs.Carried.{Carries, Made}
 use Rattle.loader.specs.Loaded.{editFor, editAt, Room, Loaded}
-use Rattle.loader.specs.Reading.{priceSpan, sizeSpan, NumberOf, LevelAt}
 
 -- ---- the level of an entry
 
-module _ (s : List ℕ) (a : Span) where
-  pub number-read : (d : Decimal) → read (inner s a) ≡ reads (number d) → NumberOf s a d
-  unfolding numberAt
-  number-read d h = record { is = rw (h, numberAt); within = read-within (inner s a) (number d) h }
-
-  pub number-none : read (inner s a) ≡ refused → NumberOf s a (record { digits = 0; decimals = 0 })
-  unfolding numberAt number
-  number-none h = record { is = rw (h, numberAt); within = record { few = omega arith; low = lit< tt } }
+-- the level shows the two numbers of an entry, and carries the sum of its piece
+pub record LevelAt (piece : Number → Number → List ℕ) (s : List ℕ) (f : Found) (level : Level) : Type 0 where
+  pub shows : shown level ≡ record { price = numberAt s (priceSpan f); size = numberAt s (sizeSpan f) }
+  pub within : Within (levelPrice level)
+  pub carries : Carries piece level
 
 pub level-made : {piece : Number → Number → List ℕ} (s : List ℕ) (f : Found) {price size : Decimal} {level : Level} → NumberOf s (priceSpan f) price → NumberOf s (sizeSpan f) size
     → Made piece price size level → LevelAt piece s f level

@@ -1,3 +1,2 @@
--- In reading order: what the loader makes of an array of entries; what it reads on the way.
+-- What the loader makes of an array of entries.
 pub mod Loaded
-pub mod Reading

@@ -1,19 +1,18 @@
 -- What the loader makes of an array of entries. Assumes nothing: these are definitions.
 use Prim.Native.Nat.{ℕ, _≤_}
-use mathlib.Core.Bool.{cond}
-use mathlib.Core.List.{List, [], map}
+use mathlib.Core.Bool.{Bool, true, false, cond}
+use mathlib.Core.List.{List, map}
 use mathlib.Core.Path.{_≡_}
 use lib.ListN.{length, take}
-use Rattle.decimal.specs.Digits.{Reading, reads, refused}
 use Rattle.decimal.specs.Decimal.{Number, isZero}
-use Rattle.json.specs.Json.{Span}
-use Rattle.entries.specs.Rows.{Row, entriesAt, numberAt}
+use Rattle.piece.specs.Piece.{kPiece, mPiece}
+use Rattle.entries.specs.Rows.{Row, maxEntries, numberAt}
 use Rattle.level.specs.Level.{PriceLevel}
 use Rattle.level.specs.Words.{shown}
 use Rattle.level.specs.Side.{Edit, sets, removes}
 use Rattle.level.specs.Ranked.{mapEdit, All, IfSet}
 use Rattle.level.specs.Words.{entriesOf}
-use Rattle.side.specs.Applying.{maxEntries, Given}
+use Rattle.side.specs.Applying.{Given}
 use Rattle.checksum.specs.Carried.{Carries}
 
 -- ---- what an entry does to its side
@@ -25,22 +24,12 @@ editFor price size = cond (isZero size) (removes price) (sets (record { price = 
 unfoldable pub editAt : List ℕ → Row → Edit PriceLevel
 editAt s r = editFor (numberAt s (r .price)) (numberAt s (r .size))
 
--- ---- a text that begins with an array of entries; `entry` is K's or M's
-
--- Its rows, in written order. Where the array ends is told by its bytes: the end of the span is not asked.
-unfoldable pub rowsOf : Reading (List Row) → List Row
-rowsOf (reads rows) = rows
-rowsOf refused = []
-
-unfoldable pub rowsAt : (List ℕ → Span → Reading Row) → List ℕ → List Row
-rowsAt entry s = rowsOf (entriesAt entry s (record { from = 0; to = length s }))
-
-pub record Loadable (entry : List ℕ → Span → Reading Row) (s : List ℕ) : Type 0 where
-  pub end : ℕ
-  pub listed : entriesAt entry s (record { from = 0; to = end }) ≡ reads (rowsAt entry s)
-  pub few : length (rowsAt entry s) ≤ maxEntries
-
 -- ---- the words
+
+-- A level's piece of checksum text, of a dialect: M's, or else K's.
+abbrev pub pieceFor : Bool → Number → Number → List ℕ
+pieceFor true = mPiece
+pieceFor false = kPiece
 
 pub record Room (prices sizes rests : List ℕ) : Type 0 where
   pub prices-long : length prices ≡ maxEntries

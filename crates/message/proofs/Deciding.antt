@@ -1,12 +1,12 @@
 -- The checks by what one walk over a message tells are the checks of the message.
 -- Assumes nothing.
-use mathlib.Core.Path.{_≡_, refl, sym, ap, _∙_}
+use mathlib.Core.Path.{_≡_, refl, sym, _∙_}
 use mathlib.Core.List.{List, [], _∷_, _++_}
 use mathlib.Core.Bool.{Bool, true, false, true≢false, _&&_, _||_, cond}
-use Prim.Native.Nat.{ℕ, _<_, _≤_}
+use Prim.Native.Nat.{ℕ}
 use native.Mathlib.Omega.{arith}
 use borrow.Author.Tests.{eq-eqb, ne-eqb}
-use lib.Dec.{ltb, eqb}
+use lib.Dec.{ltb}
 use lib.ListN.{length}
 use Rattle.decimal.specs.Digits.{Reading, reads, refused}
 use Rattle.json_tokens.specs.Tokens.{End, At, Broken, blanks, ended}
@@ -18,14 +18,13 @@ use Rattle.entries.specs.Rows.{badTexts}
 use Rattle.entries.specs.Summary.{anyBroken, anyZero}
 use Rattle.entries.proofs.Claims.{broken-none, none-broken, zero-none, none-zero}
 use Rattle.layout.specs.Layout.{Listed, Layout, Heard}
-use Rattle.layout.specs.Told.{noOutline, noFrame, anyBad, outlineOf, toldOf, toldAt}
+use Rattle.layout.specs.Told.{anyBad, outlineOf, toldOf, toldAt}
 use Rattle.layout.specs.declared.Outline.{Outline}
 use Rattle.layout.specs.declared.Told.{Told}
-use Rattle.message.specs.Meaning.{Checked, fails, passes, maxMessage, bad, decimals, alsoDecimals, tooMany, counted, laidOut, addressed}
+use Rattle.message.specs.Meaning.{fails, passes, bad, decimals, tooMany, counted, laidOut, addressed}
 use Rattle.message.specs.Verdict.{verdictOf}
 use Rattle.message.specs.Deciding.{laidOutline, addressedTold, decided}
-use Rattle.answer.specs.declared.Answer.the-variants.{TooLong, NotJson, Escaped, NotOurs, BadLayout, TooManyEntries, BadDecimal}
-use Rattle.message.specs.declared.Verdict.{Verdict}
+use Rattle.answer.specs.declared.Answer.the-variants.{NotJson, Escaped, NotOurs, BadLayout, TooManyEntries, BadDecimal}
 use Rattle.message.specs.declared.Verdict.the-variants.{Fails, Passes}
 
 -- ---- one test at a time

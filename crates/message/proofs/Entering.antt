@@ -1,33 +1,29 @@
 -- The entries of a message that passes the checks: they can be loaded where they lie.
 -- Assumes nothing.
-use mathlib.Core.Path.{_≡_, refl, sym, ap, ap₂, _∙_, subst}
-use mathlib.Core.List.{List, [], _∷_, map, _++_}
-use mathlib.Core.Bool.{Bool, true, false, true≢false, _&&_, _||_, not, cond}
-use Prim.Native.Nat.{ℕ, suc, _≤_, _<_, _+_}
+use mathlib.Core.Path.{_≡_, refl, sym, ap, _∙_, subst}
+use mathlib.Core.List.{List, [], _∷_}
+use mathlib.Core.Bool.{Bool, true, false, true≢false, _||_, cond}
+use Prim.Native.Nat.{ℕ, _≤_, _<_}
 use native.Mathlib.Omega.{arith}
-use borrow.Author.Tests.{eqb-true, ltb-false, ne-eqb, eq-eqb}
+use borrow.Author.Tests.{eqb-true, ltb-false}
 use lib.Dec.{eqb, ltb, lit<}
-use lib.ListN.{length, drop, length-map}
+use lib.ListN.{length, drop}
 use Rattle.decimal.specs.Digits.{Reading, reads, refused}
-use Rattle.decimal.specs.Decimal.{Number, read, isZero}
 use Rattle.json_tokens.specs.Bytes.{byteAt}
 use Rattle.json_tokens.proofs.Laws.{in-byte}
 use Rattle.json.specs.Json.{Span, text}
-use Rattle.settings.specs.Settings.{Terms, isM, good, goodDepth, goodName}
+use Rattle.settings.specs.Settings.{Terms, isM, good, goodDepth}
 use Rattle.settings.specs.declared.Dialect.{Dialect}
 use Rattle.settings.specs.declared.Dialect.the-variants.{K, M, Unknown}
-use Rattle.entries.specs.Places.{andThen, all, arrayAt, inner, top}
-use Rattle.entries.specs.Rows.{Row, entryK, entryM, entriesAt, numberAt, badTexts, badSize}
-use Rattle.entries.specs.Summary.{zeroSize, anyZero}
-use Rattle.entries.proofs.Claims.{zero-none}
-use Rattle.entries.proofs.Shift.{Even, k-even, m-even}
+use Rattle.entries.specs.Places.{andThen, arrayAt, top}
+use Rattle.entries.specs.Rows.{Row, entryFor, entriesAt}
+use Rattle.entries.proofs.Shift.{Even, k-even, m-even, shifted-loadable}
 use Rattle.layout.specs.Layout.{Listed, Layout, Heard}
-use Rattle.message.specs.Meaning.{Quote, quoteAt, Checked, fails, passes, bad, decimals, alsoDecimals, tooMany, counted, laidOut, addressed, heardIn, framed, checked}
+use Rattle.message.specs.Meaning.{Checked, fails, passes, bad, decimals, alsoDecimals, tooMany, counted, laidOut, addressed, heardIn, framed, checked}
 use Rattle.answer.specs.declared.Answer.{Answer}
 use Rattle.answer.specs.declared.Answer.the-variants.{TooLong, NotJson, Escaped, NotOurs, BadLayout, TooManyEntries, BadDecimal}
-use Rattle.message.proofs.Where.{entryIn, Lies, nowhere, there, LieIn, framed-lies}
-use Rattle.loader.specs.Reading.{entryFor, Ready}
-use Rattle.loader.proofs.Shift.{shifted-loadable}
+use Rattle.message.proofs.Where.{entryIn, Lies, nowhere, there}
+use Rattle.entries.specs.Arrays.{Ready}
 
 pub no-pass : {A : Type 0} (a : Answer) (l : Layout) → fails a ≡ passes l → A
 no-pass a l h = let z : _≡_ {A = ℕ} 0 1 = cc in absurd (omega arith)

@@ -3,24 +3,22 @@
 use mathlib.Core.Path.{_≡_, refl, sym, ap, ap₂, _∙_, subst}
 use mathlib.Core.List.{List, [], _∷_, map}
 use mathlib.Core.Bool.{Bool, true, false, true≢false, _&&_, cond}
-use Prim.Native.Nat.{ℕ, zero, suc, _+_, _≤_, _<_}
+use Prim.Native.Nat.{ℕ, _+_, _≤_, _<_}
 use native.Mathlib.Omega.{arith}
-use borrow.Author.Tests.{eq-eqb, ne-eqb, lt-ltb, le-ltb, eqb-true}
+use borrow.Author.Tests.{eq-eqb, ne-eqb, lt-ltb, le-ltb}
 use lib.Dec.{eqb, ltb}
-use lib.ListN.{length, take, drop, length-drop}
-use Rattle.decimal.specs.Digits.{Reading, reads, refused}
+use lib.ListN.{length, drop, length-drop}
+use Rattle.decimal.specs.Digits.{Reading, reads}
 use Rattle.json.specs.Json.{Span}
 use Rattle.json.proofs.Shift.{shiftedSpan}
 use Rattle.settings.specs.Settings.{Terms, isM, good}
 use Rattle.settings.specs.declared.Dialect.{Dialect}
-use Rattle.entries.specs.Rows.{Row, entriesAt, badTexts, firstOf}
-use Rattle.entries.proofs.Shift.{shiftedRow, texts-shift}
+use Rattle.entries.specs.Rows.{Row, entryFor, entriesAt, badTexts, firstOf}
+use Rattle.entries.proofs.Shift.{texts-shift, shifted-rows}
 use Rattle.layout.specs.Layout.{Listed, Layout}
 use Rattle.layout.specs.Told.{outlineOf}
 use Rattle.layout.specs.declared.Outline.{Outline}
-use Rattle.loader.specs.Loaded.{rowsAt}
-use Rattle.loader.specs.Reading.{entryFor, Ready}
-use Rattle.loader.proofs.Shift.{shifted-rows}
+use Rattle.entries.specs.Arrays.{rowsAt, Ready}
 use Rattle.first_bad.specs.Places.{noPlace, placeOf, First}
 use Rattle.first_bad.specs.declared.Place.{Place}
 use Rattle.message.specs.Meaning.{Checked, fails, passes, framed, earlier, firstBad, firstBadOf, badDecimal}

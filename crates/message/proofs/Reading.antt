@@ -2,28 +2,25 @@
 -- Assumes nothing.
 use mathlib.Core.Path.{_≡_, refl, sym, ap, _∙_}
 use mathlib.Core.List.{List}
-use mathlib.Core.Bool.{Bool, true, false, true≢false, _&&_, _||_, cond}
+use mathlib.Core.Bool.{Bool, true, false, true≢false, _&&_}
 use Prim.Native.Nat.{ℕ, _<_, _≤_}
 use native.Mathlib.Omega.{arith}
 use borrow.Author.Tests.{lt-ltb, le-ltb, leb-true}
-use lib.Dec.{leb, ltb}
+use lib.Dec.{leb}
 use lib.ListN.{length}
-use Rattle.decimal.specs.Digits.{Reading, reads, refused}
+use Rattle.decimal.specs.Digits.{reads, refused}
 use Rattle.json_tokens.specs.Tokens.{End, At, Broken, endOf, blanks, ended}
-use Rattle.json.specs.Json.{value, text}
+use Rattle.json.specs.Json.{value}
 use Rattle.settings.specs.Settings.{Terms, goodDepth, goodName, good}
-use Rattle.settings.specs.declared.Dialect.{Dialect}
-use Rattle.settings.specs.declared.Dialect.the-variants.{K, M, Unknown}
-use Rattle.entries.specs.Places.{top}
-use Rattle.layout.specs.Layout.{Layout}
-use Rattle.layout.specs.Told.{noFrame, anyBad, outlineOf, toldOf, toldAt}
+use Rattle.settings.specs.declared.Dialect.the-variants.{K, Unknown}
+use Rattle.layout.specs.Told.{noFrame, outlineOf, toldOf, toldAt}
 use Rattle.layout.specs.declared.Outline.{Outline}
 use Rattle.layout.specs.declared.Told.{Told}
-use Rattle.message.specs.Meaning.{Checked, fails, passes, decimals, alsoDecimals, addressed, heardIn, framed, checked, judged}
+use Rattle.message.specs.Meaning.{Checked, fails, passes, alsoDecimals, heardIn, framed, checked, judged}
 use Rattle.message.specs.Verdict.{verdictOf}
 use Rattle.message.specs.Deciding.{decided}
 use Rattle.answer.specs.declared.Answer.{Answer}
-use Rattle.answer.specs.declared.Answer.the-variants.{Shut, TooLong, NotJson, BadDecimal}
+use Rattle.answer.specs.declared.Answer.the-variants.{Shut, TooLong, BadDecimal}
 use Rattle.message.specs.declared.Verdict.{Verdict}
 use Rattle.message.specs.declared.Verdict.the-variants.{Fails, Passes}
 use Rattle.message.proofs.Deciding.{decided-is, none-bad, some-bad}

@@ -24,7 +24,7 @@ use Rattle.message_k.specs.LayoutK.{Frame, frameOf, isSnapshot, isUpdate, toget
 use Rattle.message_m.specs.LayoutM.{isSnapshotAt, listedIn as listedInM, layoutM, heardM}
 use lib.Dec.{leb, ltb, eqb, lit<}
 use lib.ListN.{length, getD}
-use Rattle.message.specs.Meaning.{Checked, fails, passes, tooMany, counted, laidOut, addressed, heardIn, framed}
+use Rattle.message.specs.Meaning.{fails, passes, tooMany, counted, laidOut, addressed, heardIn, framed}
 use Rattle.answer.specs.declared.Answer.{Answer}
 use Rattle.answer.specs.declared.Answer.the-variants.{TooLong, NotJson, Escaped, NotOurs, BadLayout, TooManyEntries}
 

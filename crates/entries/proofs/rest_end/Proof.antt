@@ -13,6 +13,7 @@ use Rattle.json_tokens.specs.Tokens.{separator}
 use Rattle.json.proofs.Bounds.{value-in}
 use Rattle.json.proofs.Walk.{Walk}
 use Rattle.json.specs.Json.{itemsEnd, list, next, value}
+use Rattle.entries.specs.Rows.{elementDepth}
 use Rattle.entries.proofs.Entry.{rest-close, rest-further, rest-on, rest-wrong}
 use Rattle.entries.proofs.Stops.{one}
 use Rattle.entries.proofs.rest_end.Statement.{statement}
@@ -56,7 +57,7 @@ returns-2 c n l =
     let j = c .before .before .before .comma-end .result in
     let q = end-at (separator 44 s i) j (c .before .before .before .comma-end .ensures) (c .before .before .if1 .left) in
     let e = c .before .value-end .result in
-    let v = end-broken e (omega arith) (value-in 12 s j) (c .before .value-end .ensures) (c .if2 .taken) in
+    let v = end-broken e (omega arith) (value-in elementDepth s j) (c .before .value-end .ensures) (c .if2 .taken) in
     rest-wrong s i _ (w n l) j q v
 
 loop-less : tie.Need-loop-less Inv-loop μ-loop
@@ -68,7 +69,7 @@ loop-less c =
     let j = c .before .before .before .comma-end .result in
     let q = end-at (separator 44 s i) j (c .before .before .before .comma-end .ensures) (c .before .before .if1 .left) in
     let e = c .before .value-end .result in
-    let v = end-at (value 12 s j) e (c .before .value-end .ensures) (c .if2 .left) in
+    let v = end-at (value elementDepth s j) e (c .before .value-end .ensures) (c .if2 .left) in
     let b = rest-further s i _ (w (length s) (omega arith)) j q e v in
     omega arith
 
@@ -81,7 +82,7 @@ loop-again c n l =
     let j = c .before .before .before .comma-end .result in
     let q = end-at (separator 44 s i) j (c .before .before .before .comma-end .ensures) (c .before .before .if1 .left) in
     let e = c .before .value-end .result in
-    let v = end-at (value 12 s j) e (c .before .value-end .ensures) (c .if2 .left) in
+    let v = end-at (value elementDepth s j) e (c .before .value-end .ensures) (c .if2 .left) in
     rest-on s i _ (w n l) j q e v
 
 pub rest-end-spec : {M : Type 1} → statement M

@@ -2,7 +2,7 @@
 use mathlib.Core.Path.{subst, sym}
 use mathlib.Core.Bool.{Bool}
 use Rattle.checksum.specs.Carried.{Made}
-use Rattle.loader.specs.Reading.{pieceFor}
+use Rattle.loader.specs.Loaded.{pieceFor}
 use borrow.Author.Needs.{needs}
 use Rattle.loader.proofs.level_of.Statement.{statement}
 use Rattle.loader.proofs.level_of.Tie as tie

@@ -2,10 +2,12 @@
 use borrow.Author.Needs.{needs}
 use Prim.Native.Nat.{_-_}
 use native.Mathlib.Omega.{arith}
+use Rattle.entries.specs.Rows.{entryFor}
 use Rattle.entries.specs.Summary.{foundAt}
-use Rattle.loader.specs.Reading.{entryFor, pieceFor}
+use Rattle.entries.proofs.Strings.{sound-for}
+use Rattle.loader.specs.Loaded.{pieceFor}
 use Rattle.loader.proofs.Words.{level-made}
-use Rattle.loader.proofs.Going.{Going, sound-for, going-start, going-end, going-below, going-placed, going-more}
+use Rattle.loader.proofs.Going.{Going, going-start, going-end, going-below, going-placed, going-more}
 use Rattle.loader.proofs.load.Statement.{statement}
 use Rattle.loader.proofs.load.Tie as tie
 

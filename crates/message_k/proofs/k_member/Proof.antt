@@ -23,8 +23,8 @@ returns c =
 is-short-name-requires-2 : tie.Need-is-short-name-requires-2
 is-short-name-requires-2 c κs = search needs
 
-k-entries-requires : tie.Need-k-entries-requires
-k-entries-requires c κs = search needs
+entries-at-requires : tie.Need-entries-at-requires
+entries-at-requires c κs = search needs
 
 with-entries-requires : tie.Need-with-entries-requires
 with-entries-requires c κs = search needs
@@ -33,13 +33,13 @@ returns-2 : tie.Need-returns-2
 unfolding spelled
 returns-2 c =
     let a = c .before .before .before .before .before .before .before .args in
-    read-a (now (a .s)) (a .members) (record { from = a .name-from; to = a .name-to }) (a .from) (c .before .k-entries .result) (c .before .k-entries .ensures) (c .with-entries .result) (sym (c .before .before .before .is-short-name2 .ensures) ∙ c .before .before .if2 .taken) (c .with-entries .ensures)
+    read-a (now (a .s)) (a .members) (record { from = a .name-from; to = a .name-to }) (a .from) (c .before .entries-at .result) (c .before .entries-at .ensures) (c .with-entries .result) (sym (c .before .before .before .is-short-name2 .ensures) ∙ c .before .before .if2 .taken) (c .with-entries .ensures)
 
 is-short-name-requires-3 : tie.Need-is-short-name-requires-3
 is-short-name-requires-3 c κs = search needs
 
-k-entries-requires-2 : tie.Need-k-entries-requires-2
-k-entries-requires-2 c κs = search needs
+entries-at-requires-2 : tie.Need-entries-at-requires-2
+entries-at-requires-2 c κs = search needs
 
 with-entries-requires-2 : tie.Need-with-entries-requires-2
 with-entries-requires-2 c κs = search needs
@@ -48,13 +48,13 @@ returns-3 : tie.Need-returns-3
 unfolding spelled
 returns-3 c =
     let a = c .before .before .before .before .before .before .before .before .before .args in
-    read-b (now (a .s)) (a .members) (record { from = a .name-from; to = a .name-to }) (a .from) (c .before .k-entries2 .result) (c .before .k-entries2 .ensures) (c .with-entries2 .result) (sym (c .before .before .before .is-short-name3 .ensures) ∙ c .before .before .if3 .taken) (c .with-entries2 .ensures)
+    read-b (now (a .s)) (a .members) (record { from = a .name-from; to = a .name-to }) (a .from) (c .before .entries-at2 .result) (c .before .entries-at2 .ensures) (c .with-entries2 .result) (sym (c .before .before .before .is-short-name3 .ensures) ∙ c .before .before .if3 .taken) (c .with-entries2 .ensures)
 
 is-short-name-requires-4 : tie.Need-is-short-name-requires-4
 is-short-name-requires-4 c κs = search needs
 
-k-entries-requires-3 : tie.Need-k-entries-requires-3
-k-entries-requires-3 c κs = search needs
+entries-at-requires-3 : tie.Need-entries-at-requires-3
+entries-at-requires-3 c κs = search needs
 
 with-entries-requires-3 : tie.Need-with-entries-requires-3
 with-entries-requires-3 c κs = search needs
@@ -63,13 +63,13 @@ returns-4 : tie.Need-returns-4
 unfolding spelled
 returns-4 c =
     let a = c .before .before .before .before .before .before .before .before .before .before .before .args in
-    read-as (now (a .s)) (a .members) (record { from = a .name-from; to = a .name-to }) (a .from) (c .before .k-entries3 .result) (c .before .k-entries3 .ensures) (c .with-entries3 .result) (sym (c .before .before .before .is-short-name4 .ensures) ∙ c .before .before .if4 .taken) (c .with-entries3 .ensures)
+    read-as (now (a .s)) (a .members) (record { from = a .name-from; to = a .name-to }) (a .from) (c .before .entries-at3 .result) (c .before .entries-at3 .ensures) (c .with-entries3 .result) (sym (c .before .before .before .is-short-name4 .ensures) ∙ c .before .before .if4 .taken) (c .with-entries3 .ensures)
 
 is-short-name-requires-5 : tie.Need-is-short-name-requires-5
 is-short-name-requires-5 c κs = search needs
 
-k-entries-requires-4 : tie.Need-k-entries-requires-4
-k-entries-requires-4 c κs = search needs
+entries-at-requires-4 : tie.Need-entries-at-requires-4
+entries-at-requires-4 c κs = search needs
 
 with-entries-requires-4 : tie.Need-with-entries-requires-4
 with-entries-requires-4 c κs = search needs
@@ -78,7 +78,7 @@ returns-5 : tie.Need-returns-5
 unfolding spelled
 returns-5 c =
     let a = c .before .before .before .before .before .before .before .before .before .before .before .before .before .args in
-    read-bs (now (a .s)) (a .members) (record { from = a .name-from; to = a .name-to }) (a .from) (c .before .k-entries4 .result) (c .before .k-entries4 .ensures) (c .with-entries4 .result) (sym (c .before .before .before .is-short-name5 .ensures) ∙ c .before .before .if5 .taken) (c .with-entries4 .ensures)
+    read-bs (now (a .s)) (a .members) (record { from = a .name-from; to = a .name-to }) (a .from) (c .before .entries-at4 .result) (c .before .entries-at4 .ensures) (c .with-entries4 .result) (sym (c .before .before .before .is-short-name5 .ensures) ∙ c .before .before .if5 .taken) (c .with-entries4 .ensures)
 
 value-end-requires : tie.Need-value-end-requires
 value-end-requires c κs = search needs
@@ -97,19 +97,19 @@ k-member-spec =
     with-checksum-requires
     returns
     is-short-name-requires-2
-    k-entries-requires
+    entries-at-requires
     with-entries-requires
     returns-2
     is-short-name-requires-3
-    k-entries-requires-2
+    entries-at-requires-2
     with-entries-requires-2
     returns-3
     is-short-name-requires-4
-    k-entries-requires-3
+    entries-at-requires-3
     with-entries-requires-3
     returns-4
     is-short-name-requires-5
-    k-entries-requires-4
+    entries-at-requires-4
     with-entries-requires-4
     returns-5
     value-end-requires

@@ -15,8 +15,8 @@ use Rattle.message_m.proofs.more_data.Tie as tie
 is-short-name-requires : tie.Need-is-short-name-requires
 is-short-name-requires c κs = search needs
 
-m-entries-requires : tie.Need-m-entries-requires
-m-entries-requires c κs = search needs
+entries-at-requires : tie.Need-entries-at-requires
+entries-at-requires c κs = search needs
 
 listing-at-requires : tie.Need-listing-at-requires
 listing-at-requires c κs = search needs
@@ -29,15 +29,15 @@ returns c =
     let a = c .before .before .before .before .before .before .before .before .args in
     let s = now (a .s) in
     let m : Pair = memberAt 14 s (a .first) (a .past) (a .from) in
-    let h = ap (λ (x : Entries). x .end) (c .before .before .m-entries .ensures) ∙ summary-end entryM s (a .from) in
-    let g = slot-more s (a .met .bids) (m .value) (c .slotted .ensures) (side-is s (a .from) (c .before .before .m-entries .result) (c .before .before .m-entries .ensures) (c .before .listing-at .result) (c .before .listing-at .ensures)) in
+    let h = ap (λ (x : Entries). x .end) (c .before .before .entries-at .ensures) ∙ summary-end entryM s (a .from) in
+    let g = slot-more s (a .met .bids) (m .value) (c .slotted .ensures) (side-is s (a .from) (c .before .before .entries-at .result) (c .before .before .entries-at .ensures) (c .before .listing-at .result) (c .before .listing-at .ensures)) in
     data-bids s (a .met) m h (named s (m .name) bids-name (c .before .before .before .before .is-short-name .ensures) (c .before .before .before .if1 .taken)) g
 
 is-short-name-requires-2 : tie.Need-is-short-name-requires-2
 is-short-name-requires-2 c κs = search needs
 
-m-entries-requires-2 : tie.Need-m-entries-requires-2
-m-entries-requires-2 c κs = search needs
+entries-at-requires-2 : tie.Need-entries-at-requires-2
+entries-at-requires-2 c κs = search needs
 
 listing-at-requires-2 : tie.Need-listing-at-requires-2
 listing-at-requires-2 c κs = search needs
@@ -50,8 +50,8 @@ returns-2 c =
     let a = c .before .before .before .before .before .before .before .before .before .before .args in
     let s = now (a .s) in
     let m : Pair = memberAt 14 s (a .first) (a .past) (a .from) in
-    let h = ap (λ (x : Entries). x .end) (c .before .before .m-entries2 .ensures) ∙ summary-end entryM s (a .from) in
-    let g = slot-more s (a .met .asks) (m .value) (c .slotted2 .ensures) (side-is s (a .from) (c .before .before .m-entries2 .result) (c .before .before .m-entries2 .ensures) (c .before .listing-at2 .result) (c .before .listing-at2 .ensures)) in
+    let h = ap (λ (x : Entries). x .end) (c .before .before .entries-at2 .ensures) ∙ summary-end entryM s (a .from) in
+    let g = slot-more s (a .met .asks) (m .value) (c .slotted2 .ensures) (side-is s (a .from) (c .before .before .entries-at2 .result) (c .before .before .entries-at2 .ensures) (c .before .listing-at2 .result) (c .before .listing-at2 .ensures)) in
     data-asks s (a .met) m h (named s (m .name) bids-name (c .before .before .before .before .before .before .is-short-name .ensures) (c .before .before .before .before .before .if1 .left)) (named s (m .name) asks-name (c .before .before .before .before .is-short-name2 .ensures) (c .before .before .before .if2 .taken)) g
 
 value-end-requires : tie.Need-value-end-requires
@@ -69,12 +69,12 @@ more-data-spec =
     tie.close
     (tie.spec
     is-short-name-requires
-    m-entries-requires
+    entries-at-requires
     listing-at-requires
     slotted-requires
     returns
     is-short-name-requires-2
-    m-entries-requires-2
+    entries-at-requires-2
     listing-at-requires-2
     slotted-requires-2
     returns-2

@@ -1,6 +1,6 @@
 -- `apply_entries` meets its contract: no entries leave the side as it is; others are loaded, then applied.
 use Rattle.sides.proofs.Working.{none-worked, some-worked}
-use Rattle.loader.proofs.Shift.{part-is}
+use Rattle.entries.proofs.Shift.{part-is}
 use mathlib.Core.Path.{refl}
 use native.Mathlib.Omega.{arith}
 use lib.ListN.{length-take}

@@ -1,7 +1,7 @@
 -- `bad_at` meets its contract: no entries, a bad text among them, or none.
 use Rattle.message.proofs.FirstBad.{bad-none, bad-found, bad-missed}
 use denote.Ref.{now}
-use Rattle.loader.proofs.Shift.{part-is}
+use Rattle.entries.proofs.Shift.{part-is}
 use borrow.Author.Needs.{needs}
 use Rattle.message.proofs.bad.bad_at.Statement.{statement}
 use Rattle.message.proofs.bad.bad_at.Tie as tie

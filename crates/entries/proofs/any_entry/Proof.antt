@@ -1,10 +1,12 @@
 -- `any_entry` meets its contract: the two numbers are those of the texts that were found.
 use mathlib.Core.Path.{ap, sym, subst}
+use Rattle.entries.specs.Summary.{priceSpan, sizeSpan}
+use Rattle.entries.specs.Decimals.{NumberOf}
+use Rattle.entries.specs.Counting.{Placed}
 use Rattle.entries.specs.declared.Found.{Found}
-use Rattle.loader.specs.Reading.{priceSpan, sizeSpan, Placed, NumberOf}
 use borrow.Author.Needs.{needs}
-use Rattle.loader.proofs.any_entry.Statement.{statement}
-use Rattle.loader.proofs.any_entry.Tie as tie
+use Rattle.entries.proofs.any_entry.Statement.{statement}
+use Rattle.entries.proofs.any_entry.Tie as tie
 
 entry-at-requires : tie.Need-entry-at-requires
 entry-at-requires c κs = search needs

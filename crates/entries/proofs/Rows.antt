@@ -13,19 +13,13 @@ use Rattle.json_tokens.proofs.Laws.{end-at}
 use Rattle.json_tokens.proofs.Bounds.{bounds, end-broken, blanks-in, closing-in, separator-in}
 use Rattle.json.specs.Json.{Span, Items, items, noItems, next, before, onward, list, listOf, elements, value}
 use Rattle.json.proofs.Laws.{element-is, element-wrong, first-ends, first-item, later-item, later-ends, later-wrong}
 use Rattle.entries.specs.Places.{andThen, all, contents, arrayAt}
-use Rattle.entries.specs.Rows.{Row, entriesAt}
+use Rattle.entries.specs.Rows.{Row, maxEntries, entryDepth, entriesAt}
 use Rattle.entries.specs.Summary.{foundOf, foundAt}
+use Rattle.entries.specs.Arrays.{rowsOf, rowsAt, Loadable, firstAt}
 use Rattle.entries.specs.declared.Found.{Found}
 use Rattle.entries.proofs.Summary.{each}
-use Rattle.loader.specs.Loaded.{rowsOf, rowsAt, Loadable}
-use Rattle.loader.specs.Reading.{firstAt}
-
-pub no-rows : {A B : Type 0} {r : B} → refused ≡ reads r → A
-no-rows h = let z : _≡_ {A = ℕ} 0 1 = cc in absurd (omega arith)
-
-pub same-rows : {A : Type 0} {x y : A} → _≡_ {A = Reading A} (reads x) (reads y) → y ≡ x
-same-rows h = cc
+use Rattle.entries.proofs.Strings.{no-row, same-row}
 
 -- ---- where the first entry begins
 module _ (s : List ℕ) where
@@ -43,7 +37,7 @@ module _ (entry : List ℕ → Span → Reading Row) (s : List ℕ) where
   unfolding rowsAt rowsOf entriesAt arrayAt
   rows-are end h = ap rowsOf h
 
-  pub loadable : (end : ℕ) {rows : List Row} → entriesAt entry s (record { from = 0; to = end }) ≡ reads rows → length rows ≤ 100 → Loadable entry s
+  pub loadable : (end : ℕ) {rows : List Row} → entriesAt entry s (record { from = 0; to = end }) ≡ reads rows → length rows ≤ maxEntries → Loadable entry s
   loadable end {rows} h l =
       let e = rows-are end h in
       record { end = end; listed = h ∙ ap reads (sym e); few = rw e l }
@@ -64,13 +58,13 @@ module _ (entry : List ℕ → Span → Reading Row) (s : List ℕ) where
   rows-elements (items l e) = refl
   rows-elements noItems = refl
 
-  in-array : (end : ℕ) (rows : List Row) → entriesAt entry s (record { from = 0; to = end }) ≡ reads rows → rowsIn (elements (value 13 s) s 1) ≡ reads rows
+  in-array : (end : ℕ) (rows : List Row) → entriesAt entry s (record { from = 0; to = end }) ≡ reads rows → rowsIn (elements (value entryDepth s) s 1) ≡ reads rows
   unfolding entriesAt arrayAt andThen
   in-array end rows h = go (eqb (byteAt s 0) 91) h
     where
-      go : (b : Bool) → andThen (cond b (contents (elements (value 13 s) s 1)) refused) (all (entry s)) ≡ reads rows → rowsIn (elements (value 13 s) s 1) ≡ reads rows
-      go true g = sym (rows-elements (elements (value 13 s) s 1)) ∙ g
-      go false g = no-rows g
+      go : (b : Bool) → andThen (cond b (contents (elements (value entryDepth s) s 1)) refused) (all (entry s)) ≡ reads rows → rowsIn (elements (value entryDepth s) s 1) ≡ reads rows
+      go true g = sym (rows-elements (elements (value entryDepth s) s 1)) ∙ g
+      go false g = no-row g
 
   module _ (end : ℕ) (rows : List Row) (h : entriesAt entry s (record { from = 0; to = end }) ≡ reads rows) where
     begins : rowsIn (onward (λ e. list (each s) 93 s (length s) false e) (next (each s) 93 s true 1)) ≡ reads rows
@@ -84,7 +78,7 @@ module _ (entry : List ℕ → Span → Reading Row) (s : List ℕ) where
         go : (x : End) → closing 93 s 1 ≡ x → (firstAt s ≡ 0 → rows ≡ []) × ((firstAt s ≡ 0 → ⊥) → Left (firstAt s) rows)
         go (At e) q =
             let f : firstAt s ≡ 0 = rw (q, firstAt) in
-            (λ z. same-rows (rw (first-ends (each s) 93 s 1 e q) at begins), λ n. absurd (n f))
+            (λ z. same-row (rw (first-ends (each s) 93 s 1 e q) at begins), λ n. absurd (n f))
         go Broken q =
             let f : firstAt s ≡ blanks s 1 = rw (q, firstAt) in
             let b = blanks-in s 1 in
@@ -103,20 +97,20 @@ module _ (entry : List ℕ → Span → Reading Row) (s : List ℕ) where
   split a (items l e) rows h = go (entry s a) refl (all (entry s) l) refl h
     where
       go : (y : Reading Row) → entry s a ≡ y → (z : Reading (List Row)) → all (entry s) l ≡ z → andThen y (λ b. andThen z (λ bs. reads (b ∷ bs))) ≡ reads rows → Split a (items l e) rows
-      go (reads r) p (reads rs) q h = record { row = r; later = rs; reads-row = p; reads-later = q; both = same-rows h }
-      go (reads r) p refused q h = no-rows h
-      go refused p z q h = no-rows h
-  split a noItems rows h = no-rows h
+      go (reads r) p (reads rs) q h = record { row = r; later = rs; reads-row = p; reads-later = q; both = same-row h }
+      go (reads r) p refused q h = no-row h
+      go refused p z q h = no-row h
+  split a noItems rows h = no-row h
 
   past-comma : (n e : ℕ) (later : List Row) → rowsIn (list (each s) 93 s n false e) ≡ reads later → (j : ℕ) → j ≡ endOf (separator 44 s e)
       → (j ≡ 0 → later ≡ []) × ((j ≡ 0 → ⊥) → Left j later)
   unfolding list rowsIn onward all endOf
-  past-comma zero e later h j g = no-rows h
+  past-comma zero e later h j g = no-row h
   past-comma (suc n) e later h j g = go (separator 44 s e) refl
     where
       at-close : separator 44 s e ≡ Broken → (y : End) → closing 93 s e ≡ y → later ≡ []
-      at-close q (At k) d = same-rows (rw (later-ends (each s) 93 s e k q d) at h)
-      at-close q Broken d = no-rows (rw (later-wrong (each s) 93 s e q d) at h)
+      at-close q (At k) d = same-row (rw (later-ends (each s) 93 s e k q d) at h)
+      at-close q Broken d = no-row (rw (later-wrong (each s) 93 s e q d) at h)
 
       go : (x : End) → separator 44 s e ≡ x → (j ≡ 0 → later ≡ []) × ((j ≡ 0 → ⊥) → Left j later)
       go (At i) q =
@@ -137,12 +131,12 @@ module _ (entry : List ℕ → Span → Reading Row) (s : List ℕ) where
 
   pub left-here : (i : ℕ) (rows : List Row) → Left i rows → (g : Found) → g ≡ foundAt entry s i → Here rows g
   unfolding onward rowsIn foundAt foundOf
-  left-here i rows w g told = go (value 13 s i) refl
+  left-here i rows w g told = go (value entryDepth s i) refl
     where
-      go : (x : End) → value 13 s i ≡ x → Here rows g
+      go : (x : End) → value entryDepth s i ≡ x → Here rows g
       go (At e) v =
           let a : Span = record { from = i; to = e } in
-          let p = split a (list (each s) 93 s (w .steps) false e) rows (rw (element-is (value 13 s) i e v) at (w .rest)) in
+          let p = split a (list (each s) 93 s (w .steps) false e) rows (rw (element-is (value entryDepth s) i e v) at (w .rest)) in
           let f : foundAt entry s i ≡ foundOf e (entry s a) = rw (v, foundAt) in
           let r : g ≡ foundOf e (reads (p .row)) = told ∙ f ∙ ap (foundOf e) (p .reads-row) in
           let n : g .end ≡ e = ap (λ (x : Found). x .end) r in
@@ -153,4 +147,4 @@ module _ (entry : List ℕ → Span → Reading Row) (s : List ℕ) where
             is-row = r ∙ ap (λ (k : ℕ). foundOf k (reads (p .row))) (sym n);
             onwards = λ j h. past-comma (w .steps) e (p .later) (p .reads-later) j (h ∙ ap (λ (k : ℕ). endOf (separator 44 s k)) n);
           }
-      go Broken v = no-rows (rw (element-wrong (value 13 s) i v) at (w .rest))
+      go Broken v = no-row (rw (element-wrong (value entryDepth s) i v) at (w .rest))

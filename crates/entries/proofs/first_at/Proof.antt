@@ -1,9 +1,9 @@
 -- `first_at` meets its contract: an array that closes at once has no entry.
 use native.Mathlib.Omega.{arith}
-use Rattle.loader.proofs.Rows.{first-none, first-some}
+use Rattle.entries.proofs.Rows.{first-none, first-some}
 use borrow.Author.Needs.{needs}
-use Rattle.loader.proofs.first_at.Statement.{statement}
-use Rattle.loader.proofs.first_at.Tie as tie
+use Rattle.entries.proofs.first_at.Statement.{statement}
+use Rattle.entries.proofs.first_at.Tie as tie
 
 array-close-end-requires : tie.Need-array-close-end-requires
 array-close-end-requires c κs = search needs

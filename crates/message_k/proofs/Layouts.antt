@@ -15,7 +15,7 @@ use Rattle.entries.specs.Places.{andThen, valuesOf, only, quotedChecksumAt}
 use Rattle.entries.specs.Summary.{anyBroken, anyZero}
 use Rattle.layout.specs.Layout.{printed, unprinted, laid}
 use Rattle.layout.specs.Told.{listingOf, isPrinted, sumOf, noOutline, outlineOf, outlineFrom}
-use Rattle.layout.specs.Fold.{foldFrom}
+use Rattle.json.specs.Fold.{foldFrom}
 use Rattle.layout.specs.Marks.{few, fewMore, moreListed, slotsOf}
 use Rattle.layout.specs.declared.Slot.{Slot}
 use Rattle.layout.proofs.Laws.{outline-of}

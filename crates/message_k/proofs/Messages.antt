@@ -15,7 +15,7 @@ use Rattle.json.proofs.Laws.{value-array}
 use Rattle.entries.specs.Places.{andThen, all, contents, arrayAt, objectAt, wholeAt}
 use Rattle.layout.specs.Layout.{Heard}
 use Rattle.layout.specs.Told.{outlineOf, noFrame, toldOf, toldAt}
-use Rattle.layout.specs.Fold.{foldFrom, foldedIn}
+use Rattle.json.specs.Fold.{foldFrom, foldedIn}
 use Rattle.layout.specs.declared.Told.{Told}
 use Rattle.message_k.specs.LayoutK.{Frame, frameOf, escapedK, oursK, objectsLayout, layoutK, heardK}
 use Rattle.message_k.specs.MembersK.{isRead, withMember, noMembers, closedAt, membersOf}

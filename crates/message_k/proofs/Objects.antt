@@ -10,7 +10,7 @@ use Rattle.json_tokens.specs.Tokens.{End, At, Broken, endOf}
 use Rattle.json.specs.Json.{Pair, Items, items, noItems, itemsEnd, members, value}
 use Rattle.json.proofs.Laws.{value-object}
 use Rattle.entries.specs.Places.{contents, objectAt}
-use Rattle.layout.specs.Fold.{foldedIn}
+use Rattle.json.specs.Fold.{foldedIn}
 use Rattle.message_k.specs.MembersK.{withMember, noMembers, closedAt, membersOf, membersAt}
 use Rattle.message_k.specs.declared.Members.{Members}
 

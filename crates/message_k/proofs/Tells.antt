@@ -8,7 +8,7 @@ use Rattle.decimal.specs.Ascii.{ascii}
 use Rattle.json.specs.Json.{Span, Pair}
 use Rattle.json.specs.Names.{means}
 use Rattle.entries.specs.Places.{valuesOf}
-use Rattle.layout.specs.Fold.{foldFrom}
+use Rattle.json.specs.Fold.{foldFrom}
 use Rattle.layout.specs.Marks.{few, more, emptySlot, moreListed, slotsOf}
 use Rattle.layout.specs.declared.Slot.{Slot}
 use Rattle.layout.specs.declared.Mark.{Mark}

@@ -13,7 +13,7 @@ use Rattle.entries.specs.Places.{objectAt, quotedChecksumAt}
 use Rattle.entries.specs.Rows.{entryK}
 use Rattle.layout.specs.Layout.{listedAt}
 use Rattle.layout.specs.Told.{nothingListed, listingOf, outlineFrom, noOutline}
-use Rattle.layout.specs.Fold.{foldFrom}
+use Rattle.json.specs.Fold.{foldFrom}
 use Rattle.layout.specs.Marks.{unmarked, more, emptySlot, moreListed}
 use Rattle.layout.specs.declared.Listing.{Listing}
 use Rattle.layout.specs.declared.Outline.{Outline}

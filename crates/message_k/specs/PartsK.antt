@@ -9,7 +9,7 @@ use Rattle.json.specs.Json.{Span, Items}
 use Rattle.json.specs.Names.{means, hasBackslash}
 use Rattle.entries.specs.Places.{isString, objectAt, wholeAt}
 use Rattle.layout.specs.Told.{noOutline}
-use Rattle.layout.specs.Fold.{foldedIn}
+use Rattle.json.specs.Fold.{foldedIn}
 use Rattle.layout.specs.declared.Outline.{Outline}
 use Rattle.layout.specs.declared.Told.{Told}
 use Rattle.message_k.specs.MembersK.{isRead, noMembers, membersOf, hasMore, snapshotBy, updateBy, outlineBy}

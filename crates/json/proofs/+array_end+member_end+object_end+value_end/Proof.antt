@@ -6,14 +6,14 @@ use Prim.Native.Nat.{_*_, _+_, _-_, _<_, suc, ℕ}
 use borrow.Author.Needs.{needs}
 use denote.Ref.{now}
 use lib.ListN.{length}
-use mathlib.Core.Path.{_∙_, _≡_, ap, sym}
+use mathlib.Core.Path.{_∙_, _≡_, ap, refl, sym}
 use native.Mathlib.Omega.{arith}
 use Rattle.json_tokens.proofs.Bounds.{end-broken, separator-in, string-in}
 use Rattle.json_tokens.proofs.Laws.{end-at, end-none, in-byte, then-at, then-broken}
 use Rattle.json_tokens.specs.Tokens.{andThen, endOf, separator, string}
-use Rattle.json.proofs.Ends.{elements-tell, ends-empty, ends-further, ends-last, ends-on, ends-start, ends-wrong, listEnd, members-tell}
+use Rattle.json.proofs.Ends.{elements-tell, ends, ends-empty, ends-last, ends-start, listEnd, members-tell, tells-item, tells-wrong}
+use Rattle.json.proofs.Fold.{Left, fold-further, fold-on, fold-wrong, is-brace, is-bracket}
 use Rattle.json.proofs.Laws.{value-array, value-none, value-object, value-scalar, value-string}
-use Rattle.json.proofs.Walk.{Walk}
 use Rattle.json.specs.Json.{element, elements, member, memberEnd, members, value}
 use borrow.Fn.Kinds.{In}
 use borrow.Fn.PlainCycle.{Measures, is, falls, and}
@@ -83,7 +83,7 @@ value-end-below t =
     and 1 value-end-kinds.ps (falls 1 value-end-kinds.ps _<_ μ-value-end t) value-end.Pre
 
 abbrev array-end-Inv-loop : array-end-lts.InvT-loop
-array-end-Inv-loop s at depth empty i₀ i = Walk (element (value depth s)) 93 s listEnd i (element (value depth s) i) (listEnd (elements (value depth s) s at))
+array-end-Inv-loop s at depth empty i₀ i = Left (ends (element (value depth s)) 93 is-bracket s) tt i (listEnd (elements (value depth s) s at))
 
 abbrev array-end-μ-loop : array-end-lts.MeasureT-loop
 array-end-μ-loop s at depth empty i₀ i = length s - i
@@ -97,7 +97,7 @@ array-end-returns t c =
     let a = c .before .before .before .args in
     let s = now (a .s) in
     let d = a .depth in
-    ends-empty (element (value d s)) 93 (omega arith) s (elements-tell d s) (a .at) (c .before .array-close-end .result) (c .before .array-close-end .ensures) (c .if1 .taken)
+    ends-empty (element (value d s)) 93 is-bracket s (a .at) (c .before .array-close-end .result) (c .before .array-close-end .ensures) (c .if1 .taken)
 
 array-end-skip-blanks-requires : (t : ℕ) → array-end-lts.Need-skip-blanks-requires (array-close-end-reads.Asked, array-close-end-reads.Learnt, skip-blanks-reads.Asked, skip-blanks-reads.Learnt, value-end-below t, value-end.Post, comma-end-reads.Asked, comma-end-reads.Learnt) (array-end-at t) array-end.Post array-end-Inv-loop array-end-μ-loop
 array-end-skip-blanks-requires t c κs = search needs
@@ -108,7 +108,7 @@ array-end-loop-holds t c =
     let a = c .before .before .before .before .args in
     let s = now (a .s) in
     let d = a .depth in
-    ends-start (element (value d s)) 93 (omega arith) s (elements-tell d s) (a .at) (c .before .before .array-close-end .result) (c .before .before .array-close-end .ensures) (c .skip-blanks .result) (omega arith) (c .skip-blanks .ensures)
+    ends-start (element (value d s)) 93 is-bracket s (a .at) (c .before .before .array-close-end .result) (c .before .before .array-close-end .ensures) (omega arith) (c .skip-blanks .result) (c .skip-blanks .ensures)
 
 array-end-value-end-requires : (t : ℕ) → array-end-lts.Need-value-end-requires (array-close-end-reads.Asked, array-close-end-reads.Learnt, skip-blanks-reads.Asked, skip-blanks-reads.Learnt, value-end-below t, value-end.Post, comma-end-reads.Asked, comma-end-reads.Learnt) (array-end-at t) array-end.Post array-end-Inv-loop array-end-μ-loop
 array-end-value-end-requires t c κs = search needs
@@ -123,7 +123,7 @@ array-end-returns-2 t c =
     let t = elements-tell d s in
     let e = c .before .value-end .result in
     let h = c .before .value-end .ensures in
-    ends-wrong (element (value d s)) 93 (omega arith) s t w e h (c .if2 .taken)
+    fold-wrong (ends (element (value d s)) 93 is-bracket s) tt w (tells-wrong t i e h (c .if2 .taken))
 
 array-end-comma-end-requires : (t : ℕ) → array-end-lts.Need-comma-end-requires (array-close-end-reads.Asked, array-close-end-reads.Learnt, skip-blanks-reads.Asked, skip-blanks-reads.Learnt, value-end-below t, value-end.Post, comma-end-reads.Asked, comma-end-reads.Learnt) (array-end-at t) array-end.Post array-end-Inv-loop array-end-μ-loop
 array-end-comma-end-requires t c κs = search needs
@@ -141,7 +141,7 @@ array-end-returns-3 t c =
     let t = elements-tell d s in
     let e = c .before .before .before .before .value-end .result in
     let h = c .before .before .before .before .value-end .ensures in
-    c .array-close-end2 .ensures ∙ ends-last (element (value d s)) 93 (omega arith) s t w e h (c .before .before .before .if2 .left) (c .before .before .comma-end .result) (c .before .before .comma-end .ensures) (c .before .if3 .taken)
+    c .array-close-end2 .ensures ∙ ends-last (element (value d s)) 93 is-bracket s w (tells-item t i e h (c .before .before .before .if2 .left) .1) (c .before .before .comma-end .result) (c .before .before .comma-end .ensures) (c .before .if3 .taken)
 
 array-end-loop-less : (t : ℕ) → array-end-lts.Need-loop-less (array-close-end-reads.Asked, array-close-end-reads.Learnt, skip-blanks-reads.Asked, skip-blanks-reads.Learnt, value-end-below t, value-end.Post, comma-end-reads.Asked, comma-end-reads.Learnt) (array-end-at t) array-end.Post array-end-Inv-loop array-end-μ-loop
 array-end-loop-less t c =
@@ -153,7 +153,7 @@ array-end-loop-less t c =
     let t = elements-tell d s in
     let e = c .before .before .before .value-end .result in
     let h = c .before .before .before .value-end .ensures in
-    let m = ends-further (element (value d s)) 93 (omega arith) s t w e h (c .before .before .if2 .left) (c .before .comma-end .result) (c .before .comma-end .ensures) (c .if3 .left) in
+    let m = fold-further (ends (element (value d s)) 93 is-bracket s) tt w (tells-item t i e h (c .before .before .if2 .left) .1) (c .before .comma-end .result) (c .before .comma-end .ensures) (c .if3 .left) in
     omega arith
 
 array-end-loop-again : (t : ℕ) → array-end-lts.Need-loop-again (array-close-end-reads.Asked, array-close-end-reads.Learnt, skip-blanks-reads.Asked, skip-blanks-reads.Learnt, value-end-below t, value-end.Post, comma-end-reads.Asked, comma-end-reads.Learnt) (array-end-at t) array-end.Post array-end-Inv-loop array-end-μ-loop
@@ -166,7 +166,7 @@ array-end-loop-again t c =
     let t = elements-tell d s in
     let e = c .before .before .before .value-end .result in
     let h = c .before .before .before .value-end .ensures in
-    ends-on (element (value d s)) 93 (omega arith) s t w e h (c .before .before .if2 .left) (c .before .comma-end .result) (c .before .comma-end .ensures) (c .if3 .left)
+    fold-on (ends (element (value d s)) 93 is-bracket s) tt w (tells-item t i e h (c .before .before .if2 .left) .1) (c .before .comma-end .result) (c .before .comma-end .ensures) (c .if3 .left) refl
 
 member-end-string-end-requires : (t : ℕ) → member-end-lts.Need-string-end-requires (string-end-reads.Asked, string-end-reads.Learnt, colon-end-reads.Asked, colon-end-reads.Learnt, value-end-below t, value-end.Post) (member-end-at t) member-end.Post
 member-end-string-end-requires t c κs = search needs
@@ -215,7 +215,7 @@ member-end-returns-3 t c =
     c .value-end .ensures ∙ sym (ap endOf (then-at (λ k. andThen (separator 58 s k) v) p ∙ then-at v (end-at (separator 58 s k) j (c .before .before .colon-end .ensures) (c .before .if2 .left))))
 
 abbrev object-end-Inv-loop : object-end-lts.InvT-loop
-object-end-Inv-loop s at depth empty i₀ i = Walk (member (value depth s) s) 125 s listEnd i (member (value depth s) s i) (listEnd (members (value depth s) s at))
+object-end-Inv-loop s at depth empty i₀ i = Left (ends (member (value depth s) s) 125 is-brace s) tt i (listEnd (members (value depth s) s at))
 
 abbrev object-end-μ-loop : object-end-lts.MeasureT-loop
 object-end-μ-loop s at depth empty i₀ i = length s - i
@@ -229,7 +229,7 @@ object-end-returns t c =
     let a = c .before .before .before .args in
     let s = now (a .s) in
     let d = a .depth in
-    ends-empty (member (value d s) s) 125 (omega arith) s (members-tell d s) (a .at) (c .before .object-close-end .result) (c .before .object-close-end .ensures) (c .if1 .taken)
+    ends-empty (member (value d s) s) 125 is-brace s (a .at) (c .before .object-close-end .result) (c .before .object-close-end .ensures) (c .if1 .taken)
 
 object-end-skip-blanks-requires : (t : ℕ) → object-end-lts.Need-skip-blanks-requires (object-close-end-reads.Asked, object-close-end-reads.Learnt, skip-blanks-reads.Asked, skip-blanks-reads.Learnt, member-end-below t, member-end.Post, comma-end-reads.Asked, comma-end-reads.Learnt) (object-end-at t) object-end.Post object-end-Inv-loop object-end-μ-loop
 object-end-skip-blanks-requires t c κs = search needs
@@ -240,7 +240,7 @@ object-end-loop-holds t c =
     let a = c .before .before .before .before .args in
     let s = now (a .s) in
     let d = a .depth in
-    ends-start (member (value d s) s) 125 (omega arith) s (members-tell d s) (a .at) (c .before .before .object-close-end .result) (c .before .before .object-close-end .ensures) (c .skip-blanks .result) (omega arith) (c .skip-blanks .ensures)
+    ends-start (member (value d s) s) 125 is-brace s (a .at) (c .before .before .object-close-end .result) (c .before .before .object-close-end .ensures) (omega arith) (c .skip-blanks .result) (c .skip-blanks .ensures)
 
 object-end-member-end-requires : (t : ℕ) → object-end-lts.Need-member-end-requires (object-close-end-reads.Asked, object-close-end-reads.Learnt, skip-blanks-reads.Asked, skip-blanks-reads.Learnt, member-end-below t, member-end.Post, comma-end-reads.Asked, comma-end-reads.Learnt) (object-end-at t) object-end.Post object-end-Inv-loop object-end-μ-loop
 object-end-member-end-requires t c κs = search needs
@@ -255,7 +255,7 @@ object-end-returns-2 t c =
     let t = members-tell d s in
     let e = c .before .member-end .result in
     let h = c .before .member-end .ensures in
-    ends-wrong (member (value d s) s) 125 (omega arith) s t w e h (c .if2 .taken)
+    fold-wrong (ends (member (value d s) s) 125 is-brace s) tt w (tells-wrong t i e h (c .if2 .taken))
 
 object-end-comma-end-requires : (t : ℕ) → object-end-lts.Need-comma-end-requires (object-close-end-reads.Asked, object-close-end-reads.Learnt, skip-blanks-reads.Asked, skip-blanks-reads.Learnt, member-end-below t, member-end.Post, comma-end-reads.Asked, comma-end-reads.Learnt) (object-end-at t) object-end.Post object-end-Inv-loop object-end-μ-loop
 object-end-comma-end-requires t c κs = search needs
@@ -273,7 +273,7 @@ object-end-returns-3 t c =
     let t = members-tell d s in
     let e = c .before .before .before .before .member-end .result in
     let h = c .before .before .before .before .member-end .ensures in
-    c .object-close-end2 .ensures ∙ ends-last (member (value d s) s) 125 (omega arith) s t w e h (c .before .before .before .if2 .left) (c .before .before .comma-end .result) (c .before .before .comma-end .ensures) (c .before .if3 .taken)
+    c .object-close-end2 .ensures ∙ ends-last (member (value d s) s) 125 is-brace s w (tells-item t i e h (c .before .before .before .if2 .left) .1) (c .before .before .comma-end .result) (c .before .before .comma-end .ensures) (c .before .if3 .taken)
 
 object-end-loop-less : (t : ℕ) → object-end-lts.Need-loop-less (object-close-end-reads.Asked, object-close-end-reads.Learnt, skip-blanks-reads.Asked, skip-blanks-reads.Learnt, member-end-below t, member-end.Post, comma-end-reads.Asked, comma-end-reads.Learnt) (object-end-at t) object-end.Post object-end-Inv-loop object-end-μ-loop
 object-end-loop-less t c =
@@ -285,7 +285,7 @@ object-end-loop-less t c =
     let t = members-tell d s in
     let e = c .before .before .before .member-end .result in
     let h = c .before .before .before .member-end .ensures in
-    let m = ends-further (member (value d s) s) 125 (omega arith) s t w e h (c .before .before .if2 .left) (c .before .comma-end .result) (c .before .comma-end .ensures) (c .if3 .left) in
+    let m = fold-further (ends (member (value d s) s) 125 is-brace s) tt w (tells-item t i e h (c .before .before .if2 .left) .1) (c .before .comma-end .result) (c .before .comma-end .ensures) (c .if3 .left) in
     omega arith
 
 object-end-loop-again : (t : ℕ) → object-end-lts.Need-loop-again (object-close-end-reads.Asked, object-close-end-reads.Learnt, skip-blanks-reads.Asked, skip-blanks-reads.Learnt, member-end-below t, member-end.Post, comma-end-reads.Asked, comma-end-reads.Learnt) (object-end-at t) object-end.Post object-end-Inv-loop object-end-μ-loop
@@ -298,7 +298,7 @@ object-end-loop-again t c =
     let t = members-tell d s in
     let e = c .before .before .before .member-end .result in
     let h = c .before .before .before .member-end .ensures in
-    ends-on (member (value d s) s) 125 (omega arith) s t w e h (c .before .before .if2 .left) (c .before .comma-end .result) (c .before .comma-end .ensures) (c .if3 .left)
+    fold-on (ends (member (value d s) s) 125 is-brace s) tt w (tells-item t i e h (c .before .before .if2 .left) .1) (c .before .comma-end .result) (c .before .comma-end .ensures) (c .if3 .left) refl
 
 value-end-byte-at-requires : (t : ℕ) → value-end-lts.Need-byte-at-requires (byte-at-reads.Asked, byte-at-reads.Learnt, string-end-reads.Asked, string-end-reads.Learnt, scalar-end-reads.Asked, scalar-end-reads.Learnt, array-end-below t, array-end.Post, object-end-below t, object-end.Post) (value-end-at t) value-end.Post
 value-end-byte-at-requires t c κs = search needs

@@ -7,6 +7,7 @@ ghost use Rattle.crc32_spec.specs.Text.{word};
 use crate::START;
 use crate::words::absorb;
 use crate::words::absorb8;
+use text::wide;
 
 // The checksum of a text.
 pub fn crc(t: &[u8]) -> u32
@@ -41,12 +42,6 @@ fn tail(s: u32, t: &[u8], at: usize) -> u32
         return absorb(s, load8(t, t.len() - 8) >> (64 - 8 * (n as u64)), n as u64);
     }
     absorb(s, load_few(t, at), n as u64)
-}
-
-fn wide(b: u8) -> u64
-    ensures { λ r. ⌜ (r ≡ b) × (r < 256) ⌝ }
-{
-    b as u64
 }
 
 // The eight bytes from a position on, as one number: one load.

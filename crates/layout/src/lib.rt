@@ -1,6 +1,7 @@
 // What one walk over a message tells of it, in either dialect: everything that the checks need, so that the first refusal that
 // fits is chosen afterwards.
 use entries::Entries;
+use text::either;
 ghost use mathlib.Core.Path.{_≡_};
 ghost use mathlib.Core.Bool.{_||_};
 ghost use Rattle.layout.specs.Marks.{fewMore, unmarked, more, emptySlot};
@@ -168,12 +169,6 @@ fn has_zero(flags: usize) -> bool
     ensures { λ r. ⌜ r ≡ hasZero flags ⌝ }
 {
     4 <= flags
-}
-
-fn either(a: bool, b: bool) -> bool
-    ensures { λ r. ⌜ r ≡ (a || b) ⌝ }
-{
-    if a { true } else { b }
 }
 
 // A layout that is broken.

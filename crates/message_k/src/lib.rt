@@ -20,7 +20,6 @@ use json_tokens::OPEN_ARRAY;
 use json_tokens::OPEN_OBJECT;
 use json_tokens::QUOTE;
 use json_tokens::array_close_end;
-use json_tokens::byte_at;
 use json_tokens::colon_end;
 use json_tokens::comma_end;
 use json_tokens::object_close_end;
@@ -40,11 +39,13 @@ use layout::no_slot;
 use layout::outline_of;
 use layout::slotted;
 use layout::untold;
+use text::both;
+use text::byte_at;
 ghost use mathlib.Core.Path.{_≡_};
 ghost use mathlib.Core.Bool.{true, _&&_};
 ghost use mathlib.Core.List.{_++_};
 ghost use Prim.Native.Nat.{_≤_, _<_};
-ghost use Rattle.decimal.specs.Ascii.{ascii};
+ghost use Rattle.text.specs.Text.{ascii};
 ghost use Rattle.decimal.specs.Digits.{written};
 ghost use Rattle.json_tokens.specs.Tokens.{At};
 ghost use Rattle.json.specs.Json.{elements, value};
@@ -430,12 +431,6 @@ fn two_objects(whole: bool, one: Members, two: Members) -> Outline
         return k_outline(false, is_update(each, one, two), two);
     }
     no_outline()
-}
-
-fn both(a: bool, b: bool) -> bool
-    ensures { λ r. ⌜ r ≡ (a && b) ⌝ }
-{
-    if a { b } else { false }
 }
 
 // Whether an object has `a` or `b`, where `before` is told before it and `after` with it. Counts stop at two, so this says

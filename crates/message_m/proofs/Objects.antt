@@ -8,7 +8,7 @@ use native.Mathlib.Omega.{arith}
 use borrow.Author.Tests.{eq-eqb, ne-eqb, eqb-true, eqb-false}
 use lib.Dec.{eqb}
 use Rattle.decimal.specs.Digits.{Reading, reads, refused}
-use Rattle.json_tokens.specs.Bytes.{byteAt}
+use Rattle.text.specs.Text.{byteAt}
 use Rattle.json_tokens.specs.Tokens.{Broken, endOf, blanks, closing}
 use Rattle.json.specs.Json.{Span, Pair, Items, items, noItems, itemsEnd, members, value}
 use Rattle.json.proofs.Laws.{value-object}

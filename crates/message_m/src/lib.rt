@@ -13,7 +13,6 @@ use json::is_short_name;
 use json::value_end;
 use json_tokens::OPEN_OBJECT;
 use json_tokens::QUOTE;
-use json_tokens::byte_at;
 use json_tokens::colon_end;
 use json_tokens::comma_end;
 use json_tokens::object_close_end;
@@ -32,10 +31,13 @@ use layout::no_slot;
 use layout::outline_of;
 use layout::slotted;
 use layout::untold;
+use text::both;
+use text::byte_at;
+use text::either;
 ghost use mathlib.Core.Path.{_≡_};
 ghost use mathlib.Core.Bool.{_&&_, _||_};
 ghost use lib.Dec.{eqb};
-ghost use Rattle.decimal.specs.Ascii.{ascii};
+ghost use Rattle.text.specs.Text.{ascii};
 ghost use Rattle.decimal.specs.Reads.{parsedChecksum, parsedWhole};
 ghost use Rattle.json_tokens.specs.Tokens.{endOf};
 ghost use Rattle.json.specs.Json.{value};
@@ -295,18 +297,6 @@ fn is_product(s: &[u8], key: usize, from: usize, to: usize, name: &[u8]) -> bool
         return is_name(s, from, to, name);
     }
     false
-}
-
-fn either(a: bool, b: bool) -> bool
-    ensures { λ r. ⌜ r ≡ (a || b) ⌝ }
-{
-    if a { true } else { b }
-}
-
-fn both(a: bool, b: bool) -> bool
-    ensures { λ r. ⌜ r ≡ (a && b) ⌝ }
-{
-    if a { b } else { false }
 }
 
 // The members `data`, and one member more, whose value is read here, whatever its name.

@@ -10,10 +10,12 @@ ghost use Prim.Native.Nat.{_+_, _<_, _^_};
 ghost use lib.ListN.{length};
 ghost use Rattle.decimal.specs.Decimal.{number, Within};
 ghost use Rattle.decimal.specs.Tail.{remaining};
-ghost use Rattle.piece.specs.Piece.{colon, kPiece, mPiece, SumsTo, Fed, Fronted};
+ghost use Rattle.text.specs.Text.{colon};
+ghost use Rattle.piece.specs.Piece.{kPiece, mPiece, SumsTo, Fed, Fronted};
 use decimal::Decimal;
 use decimal::Step;
 use decimal::Tail;
+use text::wide;
 
 const COLON: u8 = 58;
 
@@ -73,12 +75,6 @@ fn feed(tail: Tail, piece: Piece) -> Piece
             }
         }
     }
-}
-
-fn wide(b: u8) -> u64
-    ensures { λ r. ⌜ (r ≡ b) × (r < 256) ⌝ }
-{
-    b as u64
 }
 
 // The piece with a colon in front of it.

@@ -31,7 +31,7 @@ use Rattle.json.proofs.value_end.Reads as value-end
 use Rattle.json.proofs.value_end.Kinds as value-end-kinds
 use Rattle.json.proofs.+array_end+member_end+object_end+value_end.Lts-value_end as value-end-lts
 use Rattle.json_tokens.proofs.array_close_end.Reads as array-close-end-reads
-use Rattle.json_tokens.proofs.byte_at.Reads as byte-at-reads
+use Rattle.text.proofs.byte_at.Reads as byte-at-reads
 use Rattle.json_tokens.proofs.colon_end.Reads as colon-end-reads
 use Rattle.json_tokens.proofs.comma_end.Reads as comma-end-reads
 use Rattle.json_tokens.proofs.object_close_end.Reads as object-close-end-reads

@@ -3,8 +3,8 @@
 use borrow.Author.Needs.{needs}
 use mathlib.Core.Path.{ap}
 use Rattle.crc32_spec.specs.Crc.{crc, finish}
-use Rattle.crc32.proofs.text.crc.Statement.{statement}
-use Rattle.crc32.proofs.text.crc.Tie as tie
+use Rattle.crc32.proofs.slices.crc.Statement.{statement}
+use Rattle.crc32.proofs.slices.crc.Tie as tie
 
 returns : tie.Need-returns
 unfolding crc

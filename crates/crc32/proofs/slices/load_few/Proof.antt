@@ -7,8 +7,8 @@ use mathlib.Core.Path.{_≡_, _∙_, ap}
 use native.Mathlib.Omega.{arith}
 use Rattle.crc32_spec.specs.Text.{word}
 use Rattle.crc32.proofs.Texts.{byte-before, few-lt, no-bytes-left}
-use Rattle.crc32.proofs.text.load_few.Statement.{statement}
-use Rattle.crc32.proofs.text.load_few.Tie as tie
+use Rattle.crc32.proofs.slices.load_few.Statement.{statement}
+use Rattle.crc32.proofs.slices.load_few.Tie as tie
 
 abbrev Inv-loop : tie.InvT-loop
 Inv-loop t at w₀ i₀ w i = (at ≤ i) × (i ≤ length t) × (w ≡ word (drop i t))

@@ -3,8 +3,8 @@
 use borrow.Author.Needs.{needs}
 use native.Mathlib.Omega.{arith}
 use Rattle.crc32.proofs.Texts.{at-end, last-absorbed, last-load}
-use Rattle.crc32.proofs.text.tail.Statement.{statement}
-use Rattle.crc32.proofs.text.tail.Tie as tie
+use Rattle.crc32.proofs.slices.tail.Statement.{statement}
+use Rattle.crc32.proofs.slices.tail.Tie as tie
 
 returns : tie.Need-returns
 returns c = at-end (c .before .before .args .t .now) (c .before .before .args .s) (c .before .before .args .at) (omega arith)

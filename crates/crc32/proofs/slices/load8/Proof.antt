@@ -3,8 +3,8 @@
 use borrow.Author.Needs.{needs}
 use native.Mathlib.Omega.{arith}
 use Rattle.crc32.proofs.Texts.{eight-bytes}
-use Rattle.crc32.proofs.text.load8.Statement.{statement}
-use Rattle.crc32.proofs.text.load8.Tie as tie
+use Rattle.crc32.proofs.slices.load8.Statement.{statement}
+use Rattle.crc32.proofs.slices.load8.Tie as tie
 
 returns : tie.Need-returns
 returns c = omega (arith, eight-bytes (c .before .before .before .before .before .before .before .before .before .before .before .before .before .before .before .before .before .args .t .now) (c .before .before .before .before .before .before .before .before .before .before .before .before .before .before .before .before .before .args .at) (omega arith))

@@ -7,8 +7,8 @@ use mathlib.Core.Path.{_≡_, refl, _∙_}
 use native.Mathlib.Omega.{arith}
 use Rattle.crc32_spec.specs.Crc.{run}
 use Rattle.crc32.proofs.Texts.{eight-absorbed}
-use Rattle.crc32.proofs.text.run.Statement.{statement}
-use Rattle.crc32.proofs.text.run.Tie as tie
+use Rattle.crc32.proofs.slices.run.Statement.{statement}
+use Rattle.crc32.proofs.slices.run.Tie as tie
 
 abbrev Inv-loop : tie.InvT-loop
 Inv-loop s t state₀ i₀ state i = (i ≤ length t) × (run state (drop i t) ≡ run s t)

@@ -4,7 +4,6 @@ use entries::Entries;
 use json::MAX_DEPTH;
 use text::either;
 ghost use mathlib.Core.Path.{_≡_};
-ghost use mathlib.Core.Bool.{_||_};
 ghost use Rattle.layout.specs.Marks.{fewMore, unmarked, more, emptySlot};
 ghost use Rattle.layout.specs.Told.{notListed, nothingListed, listingFrom, flagsOf, isListed, isBroken, hasZero, isBad, outlineFrom, noOutline, noFrame};
 

@@ -5,7 +5,6 @@
 //
 //     piece::k_piece(price, size)    // `5000304` for 0.05000 and 0.00000304
 //     piece::m_piece(price, size)    // `:9:2` for 9 and 2: a colon before each part, so that pieces are joined as they are
-ghost use mathlib.Core.Path.{_≡_};
 ghost use Prim.Native.Nat.{_+_, _<_, _^_};
 ghost use lib.ListN.{length};
 ghost use Rattle.decimal.specs.Decimal.{number, Within};

@@ -8,9 +8,9 @@ use native.Mathlib.Omega.{arith}
 use borrow.Author.Tests.{eqb-true, ltb-false, ne-eqb, eq-eqb}
 use lib.Dec.{eqb, ltb, lit<}
 use lib.ListN.{length, drop, length-map}
+use Rattle.text.specs.Text.{byteAt}
 use Rattle.decimal.specs.Digits.{Reading, reads, refused}
 use Rattle.decimal.specs.Decimal.{Number, read, isZero}
-use Rattle.json_tokens.specs.Bytes.{byteAt}
 use Rattle.json_tokens.proofs.Laws.{in-byte}
 use Rattle.json.specs.Json.{Span, text}
 use Rattle.settings.specs.Settings.{Terms, good, goodDepth, goodName}

@@ -23,7 +23,8 @@ use Rattle.level.specs.Words.{levelsIn, noLevel}
 use Rattle.level.specs.Kept.{maxLevels, maxWords}
 use Rattle.level.proofs.Stored.{length-levels}
 use Rattle.level.specs.declared.Level.{Level}
-use Rattle.checksum.specs.Text.{joined, kLevel, kText, kLevels, kChecksum, mLevel, interleaved, colonJoined, mText, mLevels, mChecksum, colon}
+use Rattle.text.specs.Text.{joined, colon}
+use Rattle.checksum.specs.Text.{kLevel, kText, kLevels, kChecksum, mLevel, interleaved, colonJoined, mText, mLevels, mChecksum}
 use Rattle.checksum.specs.Carried.{Carries, Made, MadeOf, summed}
 
 -- ---- a level that was made carries its piece

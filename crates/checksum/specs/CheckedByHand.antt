@@ -3,14 +3,14 @@ use Prim.Native.Nat.{ℕ}
 use Prim.Native.String.{String}
 use mathlib.Core.Path.{_≡_, refl}
 use mathlib.Core.List.{List, [], _∷_, map}
-use Rattle.decimal.specs.Ascii.{ascii}
-use Rattle.decimal.specs.Digits.{Reading, reads, refused, isDigit, leading, valueFrom, fixed, significantIn, significant, written}
+use Rattle.text.specs.Text.{ascii, isDigit, joined}
+use Rattle.decimal.specs.Digits.{Reading, reads, refused, leading, valueFrom, fixed, significantIn, significant, written}
 use Rattle.decimal.specs.Decimal.{Number, isWhole, fractional, pointed, prefix, read, text, afterPoint, withoutPoint, withoutZeros, stripped, value, orderOf, order}
 use Rattle.decimal.specs.declared.Order.the-variants.{Equal}
 use Rattle.crc32_spec.specs.Crc.{bit, bits, step, run, crc}
 use Rattle.level.specs.Level.{PriceLevel}
 use Rattle.level.specs.Ranked.{All}
-use Rattle.checksum.specs.Text.{joined, kLevel, kText, interleaved, colonJoined, mLevel, mText}
+use Rattle.checksum.specs.Text.{kLevel, kText, interleaved, colonJoined, mLevel, mText}
 
 -- A decimal and a level from their texts.
 unfoldable pub decimal : String → Number

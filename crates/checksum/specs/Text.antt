@@ -3,13 +3,10 @@
 use Prim.Native.Nat.{ℕ, zero, suc}
 use mathlib.Core.List.{List, [], _∷_, _++_, map}
 use lib.ListN.{take, drop}
+use Rattle.text.specs.Text.{colon, joined}
 use Rattle.decimal.specs.Decimal.{text, stripped}
 use Rattle.crc32_spec.specs.Crc.{crc}
 use Rattle.level.specs.Level.{PriceLevel}
-
-unfoldable pub joined : List (List ℕ) → List ℕ
-joined [] = []
-joined (t ∷ ts) = t ++ joined ts
 
 -- ---- K: the best asks, low to high, then the best bids, high to low, or as many as there are. No separators.
 
@@ -32,9 +29,6 @@ kChecksum bids asks = crc (kText kLevels bids asks)
 -- How many levels a side M sums: all that there may be.
 abbrev pub mLevels : ℕ
 mLevels = 100
-
-abbrev pub colon : ℕ
-colon = 58
 
 unfoldable pub mLevel : PriceLevel → List ℕ
 mLevel level = text (level .price) ++ (colon ∷ text (level .size))

@@ -2,6 +2,7 @@
 //
 // The second one takes a text bit by bit into a register that moves upwards, with the polynomial 0x04C11DB7, and turns
 // the register round at the end. Written for each group: how many comparisons were made, and how many of them differed.
+use text::wide;
 ghost use Prim.Native.Nat.{_+_, _≤_};
 
 // ---- the second CRC-32
@@ -117,12 +118,6 @@ fn shift(zeros: &[u8], n: usize) -> u64
         crc32::shift(305419896, n as u64),
         second(305419896, &zeros[0..n]),
     )
-}
-
-fn wide(b: u8) -> u64
-    ensures { λ r. ⌜ r ≤ 255 ⌝ }
-{
-    b as u64
 }
 
 fn word(t: &[u8], at: usize) -> u64

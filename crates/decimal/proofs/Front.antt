@@ -9,7 +9,8 @@ use borrow.Author.Tests.{ltb-true, ltb-false, eq-eqb, ne-eqb, lt-ltb}
 use lib.Dec.{leb, ltb, eqb, lit≤}
 use lib.ListN.{length, getD, take, drop, length-take, length-drop, List·getD-eq-default}
 use lib.Seq.{getD-drop, drop-drop, take-all, length-take-le}
-use Rattle.decimal.specs.Digits.{Reading, reads, refused, isDigit, leading, valueFrom, valueOf}
+use Rattle.text.specs.Text.{isDigit}
+use Rattle.decimal.specs.Digits.{Reading, reads, refused, leading, valueFrom, valueOf}
 use Rattle.decimal.specs.Decimal.{isWhole, Number, Prefix, prefixed, fractional, pointed, prefix, maxWhole, maxDecimals}
 use Rattle.decimal.specs.Reads.{Ran}
 use Rattle.decimal.specs.declared.reading.Run.{Run}

@@ -12,7 +12,8 @@ use borrow.Author.Tests.{lt-ltb, le-ltb, le-leb, lt-leb, eq-eqb, ne-eqb, eqb-tru
 use lib.Dec.{leb, ltb, eqb, lit<}
 use lib.ListN.{length, getD, take, drop, drop-of-length-le, List·getD-eq-default}
 use lib.Seq.{drop-cons, getD-drop, drop-drop, take-all, take-nil}
-use Rattle.decimal.specs.Digits.{Reading, reads, refused, isDigit, leading, valueFrom, valueOf}
+use Rattle.text.specs.Text.{isDigit}
+use Rattle.decimal.specs.Digits.{Reading, reads, refused, leading, valueFrom, valueOf}
 use Rattle.decimal.specs.Decimal.{isWhole, Number, Prefix, prefixed, fractional, pointed, prefix, read, maxWhole, maxDecimals, point}
 use Rattle.decimal.specs.Reads.{DigitOf}
 use Rattle.decimal.proofs.Digits.{leading-more, leading-stop, digit-in, is-digit, tens}

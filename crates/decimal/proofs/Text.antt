@@ -9,7 +9,8 @@ use borrow.Author.Tests.{eq-eqb, ne-eqb, eqb-true, eqb-false}
 use lib.Dec.{eqb, lit<}
 use lib.Pow.{pow-add}
 use lib.ListN.{length, getD, length-append}
-use Rattle.decimal.specs.Digits.{isDigit, digit, fixed, significant, written}
+use Rattle.text.specs.Text.{isDigit}
+use Rattle.decimal.specs.Digits.{digit, fixed, significant, written}
 use Rattle.decimal.specs.Decimal.{Number, Within, point, text, afterPoint, withoutPoint, withoutZeros, stripped, maxWhole, maxDecimals}
 use Rattle.decimal.specs.Tail.{remaining, remainingOf}
 use Rattle.decimal.specs.declared.Tail.{Tail}

@@ -2,7 +2,8 @@
 use mathlib.Core.Path.{_≡_, refl}
 use mathlib.Core.List.{List, [], _∷_}
 use Prim.Native.Nat.{ℕ, _/_, _%_, _^_}
-use Rattle.decimal.specs.Digits.{Reading, reads, refused, isDigit, leading, valueFrom, fixed, significantIn, significant, written}
+use Rattle.text.specs.Text.{isDigit}
+use Rattle.decimal.specs.Digits.{Reading, reads, refused, leading, valueFrom, fixed, significantIn, significant, written}
 use Rattle.decimal.specs.Decimal.{Number, isWhole, fractional, pointed, prefix, read, text, afterPoint, withoutPoint, withoutZeros, stripped, value}
 use Rattle.decimal.specs.Whole.{readWhole, atMost, readChecksum}
 

@@ -1,5 +1,4 @@
 -- In reading order: texts written out; digits; decimals; whole numbers; a text laid into a buffer; a text handed out from its end; worked examples.
-pub mod Ascii
 pub mod Digits
 pub mod Decimal
 pub mod Whole

@@ -4,7 +4,6 @@ ghost use mathlib.Core.Bool.{_&&_};
 ghost use Prim.Native.Nat.{_+_, _-_, _*_, _^_, _≤_};
 ghost use lib.Dec.{ltb, eqb};
 ghost use lib.ListN.{length, getD, drop};
-ghost use Rattle.decimal.specs.Digits.{isDigit};
 ghost use Rattle.decimal.specs.Decimal.{read, prefix};
 ghost use Rattle.decimal.specs.Whole.{readWhole, readChecksum};
 ghost use Rattle.decimal.specs.Reads.{parsed, parsedFront, parsedWhole, parsedChecksum, Ran, DigitOf};
@@ -13,6 +12,9 @@ use crate::Parsed;
 use crate::ParsedChecksum;
 use crate::ParsedFront;
 use crate::ParsedWhole;
+use text::byte_at;
+use text::is_digit;
+use text::wide;
 
 // Digits before the point, after it, and of a whole number; the largest checksum.
 const MAX_WHOLE: usize = 10;
@@ -26,8 +28,6 @@ const MAX_CHECKSUM: u64 = 4_294_967_295;
 const POINT: u8 = 46;
 
 const ZERO: u8 = 48;
-
-const NINE: u8 = 57;
 
 // Digits that were read: the number that they stand for, and the position past them.
 struct Run {
@@ -156,25 +156,6 @@ fn needless_zero(s: &[u8], at: usize, end: usize) -> bool
     s[at] == ZERO
 }
 
-// The byte at a position, and 0 past the end.
-fn byte_at(s: &[u8], at: usize) -> u8
-    ensures { λ r. ⌜ r ≡ getD (now (s .entry)) at 0 ⌝ }
-{
-    if at < s.len() { s[at] } else { 0 }
-}
-
-fn is_digit(c: u8) -> bool
-    ensures { λ r. ⌜ r ≡ isDigit c ⌝ }
-{
-    if c < ZERO {
-        return false;
-    }
-    if NINE < c {
-        return false;
-    }
-    true
-}
-
 // The value of the digit at a position, and 10 or more where there is none.
 fn digit_at(s: &[u8], at: usize) -> u64
     ensures { λ r. ⌜ DigitOf (getD (now (s .entry)) at 0) r ⌝ }
@@ -184,10 +165,4 @@ fn digit_at(s: &[u8], at: usize) -> u64
     } else {
         10
     }
-}
-
-fn wide(x: u8) -> u64
-    ensures { λ r. ⌜ r ≡ x ⌝ }
-{
-    x as u64
 }

@@ -10,13 +10,13 @@ use borrow.Author.Tests.{eqb-false, eqb-true, ne-eqb, le-ltb, leb-true}
 use lib.Dec.{eqb, leb, lit<}
 use lib.ListN.{length, getD, take, drop, length-append, length-drop, take-append-drop}
 use lib.Seq.{drop-drop, length-take-le}
-use Rattle.decimal.specs.Digits.{Reading, reads, refused, isDigit, leading}
+use Rattle.text.specs.Text.{isDigit, byteAt}
+use Rattle.decimal.specs.Digits.{Reading, reads, refused, leading}
 use Rattle.decimal.specs.Decimal.{Number, number, Prefix, prefixed, isWhole, fractional, prefix, read, maxWhole, maxDecimals}
 use Rattle.decimal.specs.declared.Decimal.{Decimal}
 use Rattle.decimal.proofs.Digits.{Digits, none, one, digit-in}
 use Rattle.decimal.proofs.Scan.{prefix-refused, prefix-pointed, pointed-plain, pointed-fraction, read-all}
 use Rattle.decimal.proofs.RoundTrip.{Shape, plain, with-point, read-shape, prefix-stop, read-within}
-use Rattle.json_tokens.specs.Bytes.{byteAt}
 use Rattle.json_tokens.specs.Tokens.{At, blanks, chars, separator, stringRest, string}
 use Rattle.json_tokens.proofs.Laws.{here, in-byte, string-yes}
 use Rattle.json.specs.Json.{Span}

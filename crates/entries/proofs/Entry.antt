@@ -6,8 +6,8 @@ use mathlib.Core.Bool.{Bool, true, false, true≢false, _&&_}
 use Prim.Native.Nat.{ℕ, zero, suc, _+_, _≤_, _<_}
 use native.Mathlib.Omega.{arith}
 use borrow.Author.Tests.{eq-eqb, ne-eqb}
+use Rattle.text.specs.Text.{byteAt}
 use Rattle.decimal.specs.Digits.{Reading, refused}
-use Rattle.json_tokens.specs.Bytes.{byteAt}
 use Rattle.json_tokens.specs.Tokens.{End, At, Broken, endOf, blanks, closing, separator, string}
 use Rattle.json_tokens.proofs.Laws.{end-at}
 use Rattle.json_tokens.proofs.Bounds.{bounds, end-broken, closing-in, separator-in}

@@ -7,7 +7,7 @@ use native.Mathlib.Omega.{arith}
 use lib.Dec.{eqb}
 use lib.ListN.{length}
 use Rattle.decimal.specs.Digits.{Reading, reads, refused}
-use Rattle.json_tokens.specs.Bytes.{byteAt}
+use Rattle.text.specs.Text.{byteAt}
 use Rattle.json_tokens.specs.Tokens.{End, At, Broken, endOf, blanks, closing, separator}
 use Rattle.json_tokens.proofs.Laws.{end-at}
 use Rattle.json_tokens.proofs.Bounds.{bounds, end-broken, blanks-in, closing-in, separator-in}

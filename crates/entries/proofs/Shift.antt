@@ -8,9 +8,9 @@ use native.Mathlib.Omega.{arith}
 use lib.Dec.{eqb}
 use lib.ListN.{length, take, drop, length-drop, length-map}
 use lib.Seq.{drop-drop, take-all}
+use Rattle.text.specs.Text.{byteAt}
 use Rattle.decimal.specs.Digits.{Reading, reads, refused}
 use Rattle.decimal.specs.Decimal.{read, isZero}
-use Rattle.json_tokens.specs.Bytes.{byteAt}
 use Rattle.json_tokens.proofs.Shift.{past-one, byte-shift}
 use Rattle.json.specs.Json.{Span, Items, elements, value}
 use Rattle.json.proofs.Shift.{shiftedSpan, ItemsShifts, both-items, no-items, elements-shift}

@@ -7,8 +7,8 @@ use Prim.Native.Nat.{ℕ}
 use native.Mathlib.Omega.{arith}
 use borrow.Author.Tests.{eqb-true, eqb-false, eq-eqb}
 use lib.Dec.{eqb}
+use Rattle.text.specs.Text.{byteAt}
 use Rattle.decimal.specs.Digits.{Reading, refused}
-use Rattle.json_tokens.specs.Bytes.{byteAt}
 use Rattle.json_tokens.specs.Tokens.{End, At, Broken, blanks, closing, separator, string}
 use Rattle.json_tokens.proofs.Laws.{closing-no, separator-no, string-no}
 use Rattle.json_tokens.proofs.Bounds.{bounds, blanks-in, separator-in, string-in}

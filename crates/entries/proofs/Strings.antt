@@ -8,8 +8,9 @@ use native.Mathlib.Omega.{arith}
 use lib.ListN.{length, drop}
 use lib.Dec.{eqb, ltb}
 use borrow.Author.Tests.{eqb-true}
+use Rattle.text.specs.Text.{byteAt}
 use Rattle.decimal.specs.Digits.{Reading, reads, refused}
-use Rattle.json_tokens.specs.Bytes.{byteAt, hexDigit, escaped}
+use Rattle.json_tokens.specs.Bytes.{hexDigit, escaped}
 use Rattle.json_tokens.specs.Tokens.{End, At, Broken, chars, escape, hexes, stringRest, string}
 use Rattle.json_tokens.proofs.Laws.{string-yes}
 use Rattle.json_tokens.proofs.Bounds.{In, within, none, bounds, in-when, in-sub, string-in}

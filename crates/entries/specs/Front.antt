@@ -5,8 +5,9 @@ use mathlib.Core.Path.{_≡_}
 use mathlib.Core.Bool.{Bool, true, false}
 use mathlib.Core.List.{List}
 use lib.ListN.{length}
+use Rattle.text.specs.Text.{byteAt}
 use Rattle.decimal.specs.Digits.{Reading, reads, refused}
-use Rattle.json_tokens.specs.Bytes.{byteAt, openArray, comma, closeArray}
+use Rattle.json_tokens.specs.Bytes.{openArray, comma, closeArray}
 use Rattle.json_tokens.specs.Tokens.{End, At, Broken, blanks, separator, string}
 use Rattle.json.specs.Json.{Span, list, itemsEnd, element, value}
 use Rattle.entries.specs.Rows.{Row, elementDepth, entryFor}

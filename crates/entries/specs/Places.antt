@@ -5,9 +5,10 @@ use mathlib.Core.Bool.{Bool, cond}
 use mathlib.Core.List.{List, [], _∷_}
 use lib.Dec.{eqb}
 use lib.ListN.{take, drop}
+use Rattle.text.specs.Text.{byteAt}
 use Rattle.decimal.specs.Digits.{Reading, reads, refused}
 use Rattle.decimal.specs.Whole.{readWhole, readChecksum}
-use Rattle.json_tokens.specs.Bytes.{byteAt, quote, openArray, openObject}
+use Rattle.json_tokens.specs.Bytes.{quote, openArray, openObject}
 use Rattle.json_tokens.specs.Tokens.{At, Broken, blanks}
 use Rattle.json.specs.Json.{Span, Pair, Items, items, noItems, elements, members, value, maxDepth}
 use Rattle.json.specs.Names.{part, means}

@@ -23,10 +23,11 @@ use json::value_end;
 use json_tokens::OPEN_ARRAY;
 use json_tokens::QUOTE;
 use json_tokens::array_close_end;
-use json_tokens::byte_at;
 use json_tokens::comma_end;
 use json_tokens::skip_blanks;
 use json_tokens::string_end;
+use text::byte_at;
+use text::either;
 ghost use mathlib.Core.Path.{_≡_};
 ghost use mathlib.Core.Bool.{true, false, _||_};
 ghost use Prim.Native.Nat.{_+_, _≤_};
@@ -267,15 +268,6 @@ fn is_zero_size(size: Parsed) -> bool
         Parsed::Number(d) => decimal::is_zero(d),
         Parsed::Refused => false,
     }
-}
-
-fn either(a: bool, b: bool) -> bool
-    ensures { λ r. ⌜ r ≡ (a || b) ⌝ }
-{
-    if a {
-        return true;
-    }
-    b
 }
 
 // What was counted of an array that ends at `end`.

@@ -12,7 +12,8 @@ use Rattle.settings.specs.Settings.{Terms}
 use Rattle.answer.specs.declared.Answer.the-variants.{TooLong, Shut}
 use Rattle.message.specs.Meaning.{maxMessage, framed, alsoDecimals, checked, Said, refuses, saidOf, said}
 use Rattle.reference.specs.Reference.{Reference, opened, isShut, After, hear, hearing}
-use Rattle.lines.specs.Lines.{linesOf, joined, inBlocks}
+use Rattle.text.specs.Text.{joined}
+use Rattle.lines.specs.Lines.{linesOf, inBlocks}
 use Rattle.lines.proofs.Blocks.{blocks-lines}
 use Rattle.line_text.specs.Opening.{lineOne}
 use Rattle.feed.specs.Feed.{replyTo, replies, session, output, carried}

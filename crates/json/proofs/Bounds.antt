@@ -7,7 +7,7 @@ use Prim.Native.Nat.{ℕ, zero, suc, _+_, _≤_, _<_}
 use native.Mathlib.Omega.{arith}
 use lib.ListN.{length}
 use lib.Dec.{eqb}
-use Rattle.json_tokens.specs.Bytes.{byteAt}
+use Rattle.text.specs.Text.{byteAt}
 use Rattle.json_tokens.specs.Tokens.{End, At, Broken, andThen, blanks, closing, separator, string}
 use Rattle.json_tokens.proofs.Bounds.{within, none, bounds, in-when, in-sub, Within, blanks-in, string-in, closing-in, separator-in, scalar-in}
 use Rattle.json.specs.Json.{Span, Pair, Next, item, ends, wrong, Items, next, onward, list, listOf, itemsEnd, element, member, memberEnd, elements, members, value}

@@ -1,17 +1,17 @@
--- A loop over the items of an array or an object that asks only for ends, which are plain numbers: each step of it, by what the numbers are.
+-- The loops over an array and an object that ask only for the end: what they keep of the items is nothing. `Fold` has their law.
 -- Assumes nothing.
-use mathlib.Core.Path.{_≡_, refl}
+use mathlib.Core.Path.{_≡_, refl, _∙_}
 use mathlib.Core.List.{List}
-use Prim.Native.Nat.{ℕ, _≤_, _<_}
+use Prim.Native.Nat.{ℕ, _<_}
 use native.Mathlib.Omega.{arith}
-use lib.ListN.{length}
 use Rattle.json_tokens.specs.Tokens.{End, At, Broken, endOf, blanks, closing, separator}
-use Rattle.json_tokens.proofs.Laws.{end-at}
-use Rattle.json_tokens.proofs.Bounds.{Within, bounds, end-broken, blanks-in, closing-in, separator-in}
-use Rattle.json.specs.Json.{Next, item, wrong, Items, items, noItems, before, listOf, itemsEnd, element, member, memberEnd, value}
+use Rattle.json_tokens.proofs.Laws.{end-at, end-is, end-none}
+use Rattle.json_tokens.proofs.Bounds.{Within, bounds, end-broken, closing-in}
+use Rattle.json.specs.Json.{Next, item, wrong, Items, items, noItems, listOf, itemsEnd, element, member, memberEnd, value}
+use Rattle.json.specs.Fold.{foldedIn}
 use Rattle.json.proofs.Laws.{element-is, element-wrong, by-member, member-is, no-member}
 use Rattle.json.proofs.Bounds.{value-in, memberEnd-value}
-use Rattle.json.proofs.Walk.{Walk, walk-empty, walk-start, walk-wrong, walk-on, walk-last, walk-broken}
+use Rattle.json.proofs.Fold.{Loop, Stands, Left, made, fold-empty, fold-start, fold-last, fold-broken}
 
 -- the end of a list, as a number
 abbrev pub listEnd : {A : Type 0} → Items A → ℕ
@@ -39,54 +39,41 @@ module _ (d : ℕ) (s : List ℕ) where
     is-wrong = no-member (value d s) s;
   }
 
-module _ {A : Type 0} (one : ℕ → Next A) (close : ℕ) (pos : 0 < close) (s : List ℕ) {end : ℕ → End} (t : Tells one s end) where
-  -- at the beginning: e is where the closing bracket ends, if the list is empty
-  module _ (i e : ℕ) (h : e ≡ endOf (closing close s i)) where
-    pub ends-empty : 0 < e → e ≡ listEnd (listOf one close s i)
-    unfolding endOf itemsEnd
-    ends-empty p = walk-empty one close s listEnd i e (end-at (closing close s i) e h (λ z. omega arith))
+module _ {A : Type 0} {one : ℕ → Next A} {s : List ℕ} {end : ℕ → End} (t : Tells one s end) (i e : ℕ) (h : e ≡ endOf (end i)) where
+  pub tells-wrong : e ≡ 0 → one i ≡ wrong
+  tells-wrong z = t .is-wrong i (end-broken e (omega arith) (t .inside i) h z)
 
-    pub ends-start : (k : ℕ) → e ≡ 0 → k ≡ blanks s i → Walk one close s listEnd k (one k) (listEnd (listOf one close s i))
-    ends-start k z b = rw b (walk-start one close s listEnd i (blanks-in s i .0) (end-broken e (omega arith) (closing-in s close i pos) h z))
+  pub tells-item : (e ≡ 0 → ⊥) → (a : A) × Stands one s i a e
+  tells-item n =
+      let a = t .is-item i e (end-at (end i) e h n) in
+      let b = bounds e (t .inside i) (end-at (end i) e h n) in
+      (a .0, record { is = a .1; some = omega arith; inside = b .1 })
 
-  -- where an item is to begin: e is where it ends, and j where the comma past it does
-  module _ {i r : ℕ} (w : Walk one close s listEnd i (one i) r) (e : ℕ) (h : e ≡ endOf (end i)) where
-    pub ends-wrong : e ≡ 0 → 0 ≡ r
-    unfolding endOf itemsEnd
-    ends-wrong z = walk-wrong one close s listEnd w (t .is-wrong i (end-broken e (omega arith) (t .inside i) h z))
+module _ {A : Type 0} (one : ℕ → Next A) (bracket : ℕ) (is-byte : 0 < bracket) (s : List ℕ) where
+  -- nothing is kept
+  abbrev pub ends : Loop A (Unit {0}) ℕ
+  ends = record { text = s; one = one; bracket = bracket; is-byte = is-byte; step = λ st a. st; close = λ e st. e; bad = 0 }
 
-    module _ (n : e ≡ 0 → ⊥) (j : ℕ) (g : j ≡ endOf (separator 44 s e)) where
-      past : (i < e) × (e ≤ length s)
-      past = let b = bounds e (t .inside i) (end-at (end i) e h n) in (omega arith, b .1)
+  ends-are : (x : Items A) → made ends tt x ≡ listEnd x
+  unfolding foldedIn endOf itemsEnd
+  ends-are (items l e) = refl
+  ends-are noItems = refl
 
-      pub ends-last : j ≡ 0 → endOf (closing close s e) ≡ r
-      unfolding endOf itemsEnd
-      ends-last z = go (closing close s e) refl
-        where
-          a : (a : A) × (one i ≡ item a e)
-          a = t .is-item i e (end-at (end i) e h n)
+  module _ (i e : ℕ) (h : e ≡ endOf (closing bracket s i)) where
+    pub ends-empty : 0 < e → e ≡ listEnd (listOf one bracket s i)
+    ends-empty p = fold-empty ends tt i e h (λ z. omega arith) ∙ ends-are (listOf one bracket s i)
 
-          q : separator 44 s e ≡ Broken
-          q = end-broken j (omega arith) (separator-in s 44 e (omega arith)) g z
+    pub ends-start : e ≡ 0 → (k : ℕ) → k ≡ blanks s i → Left ends tt k (listEnd (listOf one bracket s i))
+    ends-start z k b = rw (ends-are (listOf one bracket s i)) at (fold-start ends tt i e h z k b)
 
-          go : (x : End) → closing close s e ≡ x → endOf x ≡ r
-          go (At k) c = walk-last one close s listEnd w (a .0) e (a .1) (past .0) (past .1) k q c
-          go Broken c = walk-broken one close s listEnd w (a .0) e (a .1) (past .0) (past .1) q c
-
-      module _ (m : j ≡ 0 → ⊥) where
-        q : separator 44 s e ≡ At j
-        q = end-at (separator 44 s e) j g m
-
-        pub ends-further : (i < j) × (i < length s)
-        ends-further = let b = bounds j (separator-in s 44 e (omega arith)) q in let p = past in (omega arith, omega arith)
-
-        pub ends-on : Walk one close s listEnd j (one j) r
-        unfolding itemsEnd before
-        ends-on =
-            let a = t .is-item i e (end-at (end i) e h n) in
-            let b = bounds j (separator-in s 44 e (omega arith)) q in
-            walk-on one close s listEnd w (a .0) e (a .1) (past .0) (past .1) j (omega arith) q listEnd (go (a .0))
-          where
-            go : (a : A) (x : Items A) → listEnd (before a x) ≡ listEnd x
-            go a (items l e) = refl
-            go a noItems = refl
+  -- no comma behind an item: the answer is where the bracket ends, if it does
+  pub ends-last : {i r : ℕ} → Left ends tt i r → {a : A} {e : ℕ} → Stands one s i a e → (l : ℕ) → l ≡ endOf (separator 44 s e) → l ≡ 0
+      → endOf (closing bracket s e) ≡ r
+  unfolding endOf
+  ends-last {i} {r} w {a} {e} h l c z = go (closing bracket s e) refl
+    where
+      go : (x : End) → closing bracket s e ≡ x → endOf x ≡ r
+      go (At k) q =
+          let b = bounds k (closing-in s bracket e is-byte) q in
+          fold-last ends tt w h l c z k (end-is q) (λ y. omega arith) refl
+      go Broken q = fold-broken ends tt w h l c z 0 (end-none q) refl

@@ -6,7 +6,7 @@ use mathlib.Core.Bool.{true, false}
 use Prim.Native.Nat.{ℕ, zero, suc, _+_}
 use native.Mathlib.Omega.{arith}
 use borrow.Author.Tests.{ne-eqb}
-use Rattle.json_tokens.specs.Bytes.{byteAt}
+use Rattle.text.specs.Text.{byteAt}
 use Rattle.json_tokens.specs.Tokens.{End, At, Broken, andThen, blanks, closing, separator, string, scalar, ended}
 use Rattle.json_tokens.proofs.Laws.{scalar-string}
 use Rattle.json.specs.Json.{Next, item, ends, wrong, Items, items, noItems, next, before, itemsEnd, element, member, memberEnd, elements, members, value, text}

@@ -2,9 +2,8 @@
 pub mod Laws
 pub mod Bounds
 pub mod Walk
+pub mod Fold
 pub mod Ends
-pub mod Reading
 pub mod Names
-pub mod Finding
 pub mod Claims
 pub mod Shift

@@ -9,7 +9,7 @@ use lib.ListN.{length, getD, take, drop, drop-of-length-le}
 use lib.Seq.{take-nil}
 use lib.Dec.{eqb}
 use borrow.Author.Tests.{eq-eqb, ne-eqb, eqb-true}
-use Rattle.json_tokens.specs.Bytes.{byteAt}
+use Rattle.text.specs.Text.{byteAt}
 use Rattle.json_tokens.specs.Tokens.{End, At, Broken, andThen, prefix, word}
 use Rattle.json_tokens.proofs.Laws.{here, past, by-place, then-at, then-broken, word-nil, word-cons, word-other, word-append}
 use Rattle.json_tokens.proofs.Bounds.{word-is}

@@ -4,7 +4,7 @@ use mathlib.Core.Path.{_≡_}
 use mathlib.Core.List.{List, [], _∷_}
 use mathlib.Core.Bool.{true, false}
 use lib.ListN.{length}
-use Rattle.json_tokens.specs.Bytes.{colon}
+use Rattle.text.specs.Text.{colon}
 use Rattle.json_tokens.specs.Tokens.{At, blanks, separator, string}
 use Rattle.json.specs.Json.{Span, Pair, items, elements, members, value, maxDepth, text}
 use Rattle.json.specs.Names.{means, hasBackslash, holds}

@@ -6,7 +6,8 @@ use mathlib.Core.List.{List, [], _∷_}
 use mathlib.Core.Bool.{Bool, true, false}
 use lib.ListN.{length}
 use lib.Dec.{eqb}
-use Rattle.json_tokens.specs.Bytes.{byteAt, comma, colon, openArray, closeArray, openObject, closeObject}
+use Rattle.text.specs.Text.{byteAt, colon}
+use Rattle.json_tokens.specs.Bytes.{comma, openArray, closeArray, openObject, closeObject}
 use Rattle.json_tokens.specs.Tokens.{End, At, Broken, andThen, blanks, closing, separator, string, scalar, ended}
 
 -- a part of the text: its first position, and the position past it

@@ -1,7 +1,6 @@
 -- In reading order.
 pub mod Json
-pub mod Reading
+pub mod Fold
 pub mod Names
-pub mod Finding
 pub mod Claims
 pub mod Examples

@@ -8,7 +8,8 @@ use native.Mathlib.Omega.{arith}
 use lib.ListN.{length, take, drop, length-drop}
 use lib.Dec.{ltb, eqb}
 use borrow.Author.Tests.{eqb-true}
-use Rattle.json_tokens.specs.Bytes.{byteAt, blank, digit, hexDigit, escaped}
+use Rattle.text.specs.Text.{byteAt, isDigit}
+use Rattle.json_tokens.specs.Bytes.{blank, hexDigit, escaped}
 use Rattle.json_tokens.specs.Tokens.{End, At, Broken, endOf, andThen, run, blanks, digits, someDigits, closing, separator, chars, escape, hexes, stringRest, string, minus, sign, int, fraction, exponent, number, prefix, word, scalar}
 use Rattle.json_tokens.proofs.Laws.{in-digit, in-byte, digits-on}
 
@@ -99,7 +100,7 @@ module _ (s : List ℕ) where
 
   digits-in : (i : ℕ) → (i ≤ digits s i) × (digits s i ≤ i + (length s - i))
   unfolding digits
-  digits-in i = rw (length-drop i s) at (run-in digit (drop i s) i)
+  digits-in i = rw (length-drop i s) at (run-in isDigit (drop i s) i)
 
   -- an end past i that lies at most at the end of the text from i on, lies in the text
   inner : (i : ℕ) {x : End} → In (i + 1) (i + length (drop i s)) x → Within s i x
@@ -138,12 +139,12 @@ module _ (s : List ℕ) where
       within (blanks s (blanks s i + 1)) (omega arith) (omega arith)) none
 
   -- ---- numbers
-  digits-past : (i : ℕ) → digit (byteAt s i) ≡ true → i < digits s i
+  digits-past : (i : ℕ) → isDigit (byteAt s i) ≡ true → i < digits s i
   digits-past i h = omega (arith, digits-on s i h, digits-in (i + 1))
 
   some-in : (i : ℕ) → Within s i (someDigits s i)
   unfolding someDigits
-  some-in i = in-when (digit (byteAt s i)) (λ h.
+  some-in i = in-when (isDigit (byteAt s i)) (λ h.
       let l = in-digit s i h in
       let m = digits-in i in
       let k = digits-past i h in

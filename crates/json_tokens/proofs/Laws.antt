@@ -12,7 +12,8 @@ use lib.ListN.{length, getD, drop, drop-of-length-le, List·getD-eq-default}
 use lib.Seq.{drop-cons}
 use lib.Dec.{ltb, eqb}
 use borrow.Author.Tests.{eq-eqb, ne-eqb, lt-ltb, le-ltb}
-use Rattle.json_tokens.specs.Bytes.{byteAt, blank, digit, hexDigit, escaped}
+use Rattle.text.specs.Text.{byteAt, isDigit}
+use Rattle.json_tokens.specs.Bytes.{blank, hexDigit, escaped}
 use Rattle.json_tokens.specs.Tokens.{End, At, Broken, endOf, andThen, run, blanks, digits, someDigits, closing, separator, chars, escape, hexes, stringRest, string, fourHex, minus, sign, int, fraction, exponent, number, prefix, word, scalar}
 
 -- ---- an end as a number
@@ -66,12 +67,12 @@ module _ (s : List ℕ) (i : ℕ) where
   unfolding blank
   in-blank h = in-kind blank refl s i h
 
-  pub in-digit : digit (byteAt s i) ≡ true → i < length s
-  unfolding digit
-  in-digit h = in-kind digit refl s i h
+  pub in-digit : isDigit (byteAt s i) ≡ true → i < length s
+  unfolding isDigit
+  in-digit h = in-kind isDigit refl s i h
 
   pub in-hex : hexDigit (byteAt s i) ≡ true → i < length s
-  unfolding hexDigit digit
+  unfolding hexDigit isDigit
   in-hex h = in-kind hexDigit refl s i h
 
   pub in-escaped : escaped (byteAt s i) ≡ true → i < length s
@@ -100,19 +101,19 @@ module _ (s : List ℕ) (i : ℕ) where
   unfolding blanks blank
   blanks-stop h = run-stops blank refl s i h
 
-  pub digits-on : digit (byteAt s i) ≡ true → digits s i ≡ digits s (i + 1)
-  unfolding digits digit
-  digits-on h = run-on digit refl s i h
+  pub digits-on : isDigit (byteAt s i) ≡ true → digits s i ≡ digits s (i + 1)
+  unfolding digits isDigit
+  digits-on h = run-on isDigit refl s i h
 
-  pub digits-stop : digit (byteAt s i) ≡ false → digits s i ≡ i
-  unfolding digits digit
-  digits-stop h = run-stops digit refl s i h
+  pub digits-stop : isDigit (byteAt s i) ≡ false → digits s i ≡ i
+  unfolding digits isDigit
+  digits-stop h = run-stops isDigit refl s i h
 
-  pub some-yes : digit (byteAt s i) ≡ true → someDigits s i ≡ At (digits s i)
+  pub some-yes : isDigit (byteAt s i) ≡ true → someDigits s i ≡ At (digits s i)
   unfolding someDigits
   some-yes h = rw (h, someDigits)
 
-  pub some-no : digit (byteAt s i) ≡ false → someDigits s i ≡ Broken
+  pub some-no : isDigit (byteAt s i) ≡ false → someDigits s i ≡ Broken
   unfolding someDigits
   some-no h = rw (h, someDigits)
 
@@ -166,7 +167,7 @@ module _ (s : List ℕ) (i : ℕ) where
         | true ↦ elim n [ zero ↦ stringRest s (i + 1) | suc m ↦ hexesAt s m (i + 1) ]
         | false ↦ Broken
       ]
-  unfolding stringRest chars hexesAt hexDigit digit
+  unfolding stringRest chars hexesAt hexDigit isDigit
   hexes-at n = by-place s i (λ l. rw (here s i l)) (λ g. rw (drop-of-length-le s g, past s i g))
 
 -- a && b, by cases

@@ -8,7 +8,8 @@ use native.Mathlib.Omega.{arith}
 use lib.ListN.{drop}
 use lib.Seq.{drop-drop, getD-drop}
 use lib.Dec.{eqb, ltb}
-use Rattle.json_tokens.specs.Bytes.{byteAt, blank, digit, hexDigit, escaped}
+use Rattle.text.specs.Text.{byteAt, isDigit}
+use Rattle.json_tokens.specs.Bytes.{blank, hexDigit, escaped}
 use Rattle.json_tokens.specs.Tokens.{End, At, Broken, andThen, run, blanks, digits, someDigits, closing, separator, chars, escape, hexes, stringRest, string, minus, sign, int, fraction, exponent, number, prefix, word, scalar}
 
 -- an end, k bytes later
@@ -112,11 +113,11 @@ module _ (k : ℕ) (s : List ℕ) where
 
   digits-shift : (i : ℕ) → digits s (k + i) ≡ k + digits t i
   unfolding digits
-  digits-shift i = ap (λ (x : List ℕ). run digit x (k + i)) (from-shift i) ∙ run-shift k digit (drop i t) i
+  digits-shift i = ap (λ (x : List ℕ). run isDigit x (k + i)) (from-shift i) ∙ run-shift k isDigit (drop i t) i
 
   some-shift : (i : ℕ) → Shifts k (someDigits s (k + i)) (someDigits t i)
   unfolding someDigits
-  some-shift i = shifts-if k (test-shift digit i) (both (digits-shift i)) neither
+  some-shift i = shifts-if k (test-shift isDigit i) (both (digits-shift i)) neither
 
   -- ---- structural characters
   past-blanks : (i : ℕ) → blanks s (k + i) + 1 ≡ k + (blanks t i + 1)

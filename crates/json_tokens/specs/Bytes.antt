@@ -1,14 +1,10 @@
 -- The bytes that RFC 8259 names, and the kinds of bytes that its productions are made of.
--- A text is the list of its bytes. Past its end `byteAt` gives 0, a byte that no production takes, so no rule below asks where the text ends.
+-- Past the end of a text `byteAt` gives 0, a byte that no production takes, so no rule below asks where the text ends.
 -- Assumes nothing: these are definitions.
 use Prim.Native.Nat.{ℕ}
-use mathlib.Core.List.{List}
 use mathlib.Core.Bool.{Bool, _||_, _&&_, not}
-use lib.ListN.{getD}
 use lib.Dec.{leb, eqb}
-
-unfoldable pub byteAt : List ℕ → ℕ → ℕ
-byteAt s i = getD s i 0
+unfoldable pub use Rattle.text.specs.Text.{byteAt, isDigit as digit}
 
 abbrev pub quote : ℕ
 quote = 34
@@ -18,9 +14,6 @@ backslash = 92
 
 abbrev pub comma : ℕ
 comma = 44
-
-abbrev pub colon : ℕ
-colon = 58
 
 abbrev pub openArray : ℕ
 openArray = 91
@@ -38,11 +31,7 @@ closeObject = 125
 unfoldable pub blank : ℕ → Bool
 blank c = eqb c 32 || eqb c 9 || eqb c 10 || eqb c 13
 
--- DIGIT: 0 to 9
-unfoldable pub digit : ℕ → Bool
-digit c = leb 48 c && leb c 57
-
--- HEXDIG: 0 to 9, A to F, a to f
+-- DIGIT is `isDigit`; HEXDIG: 0 to 9, A to F, a to f
 unfoldable pub hexDigit : ℕ → Bool
 hexDigit c = digit c || (leb 65 c && leb c 70) || (leb 97 c && leb c 102)
 

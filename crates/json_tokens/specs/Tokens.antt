@@ -6,7 +6,8 @@ use mathlib.Core.List.{List, [], _∷_}
 use mathlib.Core.Bool.{Bool, true, false, _||_, _&&_}
 use lib.ListN.{drop, length}
 use lib.Dec.{ltb, eqb}
-use Rattle.json_tokens.specs.Bytes.{byteAt, quote, backslash, blank, digit, hexDigit, escaped}
+use Rattle.text.specs.Text.{byteAt, isDigit}
+use Rattle.json_tokens.specs.Bytes.{quote, backslash, blank, hexDigit, escaped}
 
 -- The position past what begins at a position, or that nothing of its kind begins there.
 pub data End : Type 0 where
@@ -34,11 +35,11 @@ blanks s i = run blank (drop i s) i
 
 -- *DIGIT
 unfoldable pub digits : List ℕ → ℕ → ℕ
-digits s i = run digit (drop i s) i
+digits s i = run isDigit (drop i s) i
 
 -- 1*DIGIT
 unfoldable pub someDigits : List ℕ → ℕ → End
-someDigits s i = elim (digit (byteAt s i)) [ true ↦ At (digits s i) | false ↦ Broken ]
+someDigits s i = elim (isDigit (byteAt s i)) [ true ↦ At (digits s i) | false ↦ Broken ]
 
 -- ---- structural characters. Blanks past a closing bracket belong to what follows, so that a value ends with its own last byte
 -- end-array, end-object: ws close

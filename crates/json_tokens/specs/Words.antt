@@ -5,7 +5,8 @@ use Prim.Native.Nat.{ℕ, _+_, _*_, _≤_, _<_}
 use mathlib.Core.List.{List}
 use lib.ListN.{length}
 use lib.Bits.{bitAnd, bitOr, bitXor}
-use Rattle.json_tokens.specs.Bytes.{byteAt, quote}
+use Rattle.text.specs.Text.{byteAt}
+use Rattle.json_tokens.specs.Bytes.{quote}
 use Rattle.json_tokens.specs.Tokens.{Broken, stringRest}
 
 -- two, four and eight bytes from i on as one number, the first the lowest

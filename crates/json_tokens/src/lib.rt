@@ -7,10 +7,14 @@
 //
 // Example: in the text `{"a":-1.5}` the string that begins at 1 ends at 4 (`string_end(s, 1) == 4`), the
 // colon past it at 5 (`colon_end(s, 4) == 5`), and the number there at 9 (`number_end(s, 5) == 9`).
+pub use text::byte_at;
+use text::is_digit;
+use text::wide;
 ghost use mathlib.Core.Path.{_≡_};
 ghost use Prim.Native.Nat.{_+_, _≤_, _<_};
 ghost use lib.ListN.{length};
-ghost use Rattle.json_tokens.specs.Bytes.{byteAt, comma, colon, closeArray, closeObject, blank, digit, hexDigit, escaped, unescaped};
+ghost use Rattle.text.specs.Text.{colon};
+ghost use Rattle.json_tokens.specs.Bytes.{comma, closeArray, closeObject, blank, hexDigit, escaped, unescaped};
 ghost use Rattle.json_tokens.specs.Tokens.{endOf, blanks, digits, someDigits, closing, separator, stringRest, string, fourHex, minus, sign, int, fraction, exponent, number, word, scalar, ended};
 ghost use Rattle.json_tokens.specs.Words.{twoAt, fourAt, wordAt, specialBytes, CharEnd};
 
@@ -30,13 +34,6 @@ pub const OPEN_OBJECT: u8 = 123;
 
 pub const CLOSE_OBJECT: u8 = 125;
 
-// The byte at i, and 0 past the end.
-pub fn byte_at(s: &[u8], i: usize) -> u8
-    ensures { λ r. ⌜ r ≡ byteAt (now (s .entry)) i ⌝ }
-{
-    if i < s.len() { s[i] } else { 0 }
-}
-
 fn is_blank(c: u8) -> bool
     ensures { λ r. ⌜ r ≡ blank c ⌝ }
 {
@@ -52,19 +49,6 @@ fn is_blank(c: u8) -> bool
         true
     } else {
         false
-    }
-}
-
-// Whether c is one of the digits 0 to 9.
-pub fn is_digit(c: u8) -> bool
-    ensures { λ r. ⌜ r ≡ digit c ⌝ }
-{
-    if c < 48 {
-        false
-    } else if 57 < c {
-        false
-    } else {
-        true
     }
 }
 
@@ -217,12 +201,6 @@ fn is_unescaped(c: u8) -> bool
     } else {
         true
     }
-}
-
-fn wide(x: u8) -> u64
-    ensures { λ r. ⌜ r ≡ x ⌝ }
-{
-    x as u64
 }
 
 // Two bytes from i on as one number, and then four and eight: together a single load.

@@ -1,20 +1,31 @@
-// Runs the table of texts on standard input, a case to a line, and writes what `json` answers.
+// Runs the table of texts on standard input, a case to a line, and writes what `json` and `json_tokens` answer.
 //
 //     + TEXT    is JSON by RFC 8259's grammar and the limit on nesting
 //     - TEXT    is not
 //     e TEXT    an array: its elements are written on a line of their own
-//     m TEXT    an object: its members are, and how often `as` is one of their names
+//     m TEXT    an object: its members are, and which of their names are `as`
 //
 // Other lines are headings. The answer stands in front of each `+` and `-`, so a wrong one shows as two signs that differ. After the
 // table come rows of 256 answers, one for each byte at one place of a text.
-use json::Element;
-use json::Found;
-use json::Kind;
-use json::Member;
+use json::MAX_DEPTH;
+use json::array_end;
+use json::object_end;
+use json::value_end;
+use json_tokens::OPEN_ARRAY;
+use json_tokens::OPEN_OBJECT;
+use json_tokens::array_close_end;
+use json_tokens::colon_end;
+use json_tokens::comma_end;
+use json_tokens::is_ended;
+use json_tokens::number_end;
+use json_tokens::object_close_end;
+use json_tokens::scalar_end;
+use json_tokens::skip_blanks;
+use json_tokens::string_end;
 use libc::STDOUT_FILENO;
 use lines::LINE_END;
 use lines::find;
-ghost use Prim.Native.Nat.{_≤_};
+ghost use Prim.Native.Nat.{_<_};
 ghost use lib.ListN.{length};
 
 fn main() {
@@ -69,68 +80,98 @@ fn line(s: &[u8]) {
 }
 
 fn sign(s: &[u8]) {
-    if json::is_json(s) {
+    if is_json(s) {
         write(b"+ ");
     } else {
         write(b"- ");
     }
 }
 
-// ---- the readers
+// Whether the whole of s is JSON.
+fn is_json(s: &[u8]) -> bool {
+    let e = value_end(s, skip_blanks(s, 0), MAX_DEPTH);
+    if e == 0 {
+        return false;
+    }
+    is_ended(s, e)
+}
+
+// ---- elements and members
+
+// How deep arrays and objects may nest in an item of the text, and in an item of that.
+const ITEM_DEPTH: usize = MAX_DEPTH - 1;
+
+const INNER_DEPTH: usize = MAX_DEPTH - 2;
 
 // No text of the table has more items.
 const MAX_ITEMS: usize = 32;
 
 fn elements(s: &[u8]) {
-    let mut cursor = json::start(1, json::MAX_DEPTH - 1);
+    let empty = array_close_end(s, 1);
+    if 0 < empty {
+        end(empty);
+        return;
+    }
+    let mut i = skip_blanks(s, 1);
     let mut turns = MAX_ITEMS;
     while turns > 0 {
         turns -= 1;
-        match json::next_element(s, cursor) {
-            Element::Value { from, to, next } => {
-                item(s, from, to);
-                cursor = next;
-            }
-            Element::End(e) => {
-                end(e);
-                return;
-            }
-            Element::Broken => {
-                write(b"  broken");
-                return;
-            }
+        let e = value_end(s, i, ITEM_DEPTH);
+        if e == 0 {
+            end(0);
+            return;
         }
+        item(s, i, e);
+        let j = comma_end(s, e);
+        if j == 0 {
+            end(array_close_end(s, e));
+            return;
+        }
+        i = j;
     }
 }
 
 fn members(s: &[u8]) {
-    count(s);
-    let mut cursor = json::start(1, json::MAX_DEPTH - 1);
+    let empty = object_close_end(s, 1);
+    if 0 < empty {
+        end(empty);
+        return;
+    }
+    let mut i = skip_blanks(s, 1);
     let mut turns = MAX_ITEMS;
     while turns > 0 {
         turns -= 1;
-        match json::next_member(s, cursor) {
-            Member::Named {
-                name_from,
-                name_to,
-                from,
-                to,
-                next,
-            } => {
-                name(s, name_from, name_to);
-                item(s, from, to);
-                cursor = next;
-            }
-            Member::End(e) => {
-                end(e);
-                return;
-            }
-            Member::Broken => {
-                write(b"  broken");
-                return;
-            }
+        let e = member(s, i);
+        if e == 0 {
+            end(0);
+            return;
         }
+        let j = comma_end(s, e);
+        if j == 0 {
+            end(object_close_end(s, e));
+            return;
+        }
+        i = j;
     }
+}
+
+// The member at i: past it, or 0 where none stands there.
+fn member(s: &[u8], i: usize) -> usize {
+    let k = string_end(s, i);
+    if k == 0 {
+        return 0;
+    }
+    let v = colon_end(s, k);
+    if v == 0 {
+        return 0;
+    }
+    let e = value_end(s, v, ITEM_DEPTH);
+    if e == 0 {
+        return 0;
+    }
+    name(s, i, k);
+    item(s, v, e);
+    e
 }
 
 // A name, with a `=` from each function that says it is `as` and a `\` where it has a backslash.
@@ -148,29 +189,33 @@ fn name(s: &[u8], from: usize, to: usize) {
     part(s, from, to);
 }
 
-// A value behind the letter of its kind.
+// A value behind its kind, which the function that passes over it tells.
 fn item(s: &[u8], from: usize, to: usize) {
-    match json::kind_of(s, from) {
-        Kind::String => {
-            write(b"  string ");
-        }
-        Kind::Number => {
-            write(b"  number ");
-        }
-        Kind::Array => {
-            write(b"  array ");
-        }
-        Kind::Object => {
-            write(b"  object ");
-        }
-        Kind::Literal => {
-            write(b"  literal ");
-        }
-        Kind::Nothing => {
-            write(b"  nothing ");
-        }
+    if string_end(s, from) == to {
+        write(b"  string ");
+    } else if number_end(s, from) == to {
+        write(b"  number ");
+    } else if scalar_end(s, from) == to {
+        write(b"  literal ");
+    } else if from < s.len() {
+        container(s, from, to);
     }
     part(s, from, to);
+}
+
+fn container(s: &[u8], from: usize, to: usize)
+    requires { ⌜ from < length (now s) ⌝ }
+{
+    let c = s[from];
+    if c == OPEN_ARRAY {
+        if array_end(s, from + 1, INNER_DEPTH) == to {
+            write(b"  array ");
+        }
+    } else if c == OPEN_OBJECT {
+        if object_end(s, from + 1, INNER_DEPTH) == to {
+            write(b"  object ");
+        }
+    }
 }
 
 fn part(s: &[u8], from: usize, to: usize) {
@@ -181,28 +226,14 @@ fn part(s: &[u8], from: usize, to: usize) {
     }
 }
 
+// Where the array or the object ends, 0 where it is not JSON.
 fn end(e: usize) {
+    if e == 0 {
+        write(b"  broken");
+        return;
+    }
     write(b"  end at ");
     io::print_decimal(STDOUT_FILENO, e as u64);
-}
-
-fn count(s: &[u8]) {
-    match json::find_member(s, 1, json::MAX_DEPTH - 1, b"as") {
-        Found::Absent => {
-            write(b"  absent:");
-        }
-        Found::Once(from, to) => {
-            write(b"  once at ");
-            part(s, from, to);
-            write(b":");
-        }
-        Found::Many => {
-            write(b"  many:");
-        }
-        Found::Broken => {
-            write(b"  broken:");
-        }
-    }
 }
 
 // ---- rows of bytes
@@ -260,7 +291,7 @@ fn outside(place: u8, b: u8) {
 }
 
 fn sign_of(s: &[u8]) {
-    if json::is_json(s) {
+    if is_json(s) {
         write(b"+");
     } else {
         write(b"-");

@@ -11,7 +11,7 @@ use Rattle.json.specs.Json.{Span, Pair}
 use Rattle.json.specs.Names.{part, means}
 use Rattle.json.proofs.Names.{means-part, snoc-is}
 use Rattle.entries.specs.Places.{valuesOf, only}
-use Rattle.layout.specs.Fold.{foldFrom}
+use Rattle.json.specs.Fold.{foldFrom}
 use Rattle.layout.specs.Marks.{few, fewMore, unmarked, more, marksOf, emptySlot, moreListed, slotsOf}
 use Rattle.layout.specs.declared.Listing.{Listing}
 use Rattle.layout.specs.declared.Mark.{Mark}

@@ -1,6 +1,5 @@
--- In reading order: what is read of a message; what one walk over it tells, in numbers; what is made of a list item by item; how often members
--- have one of our names.
+-- In reading order: how deep a message nests; what is read of it; what one walk over it tells, in numbers; how often members have one of our names.
+pub mod Depths
 pub mod Layout
 pub mod Told
-pub mod Fold
 pub mod Marks

@@ -1,10 +1,17 @@
 // What one walk over a message tells of it, in either dialect: everything that the checks need, so that the first refusal that
 // fits is chosen afterwards.
 use entries::Entries;
+use json::MAX_DEPTH;
+use text::either;
 ghost use mathlib.Core.Path.{_≡_};
-ghost use mathlib.Core.Bool.{_||_};
 ghost use Rattle.layout.specs.Marks.{fewMore, unmarked, more, emptySlot};
 ghost use Rattle.layout.specs.Told.{notListed, nothingListed, listingFrom, flagsOf, isListed, isBroken, hasZero, isBad, outlineFrom, noOutline, noFrame};
+
+// How deep arrays and objects may nest in an item of the message (an element in K, a member in M), and in an item of that, as a
+// side's array of entries is one.
+pub const ITEM_DEPTH: usize = MAX_DEPTH - 1;
+
+pub const SIDE_DEPTH: usize = ITEM_DEPTH - 1;
 
 // The entries of one side.
 pub struct Listing {
@@ -168,12 +175,6 @@ fn has_zero(flags: usize) -> bool
     ensures { λ r. ⌜ r ≡ hasZero flags ⌝ }
 {
     4 <= flags
-}
-
-fn either(a: bool, b: bool) -> bool
-    ensures { λ r. ⌜ r ≡ (a || b) ⌝ }
-{
-    if a { true } else { b }
 }
 
 // A layout that is broken.

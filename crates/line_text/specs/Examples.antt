@@ -4,8 +4,8 @@ use mathlib.Core.Path.{_≡_, refl}
 use mathlib.Core.Bool.{Bool, true, false}
 use mathlib.Core.List.{List, [], _∷_, _++_}
 use Rattle.lines.specs.Lines.{before}
-use Rattle.decimal.specs.Ascii.{ascii}
-use Rattle.decimal.specs.Digits.{isDigit, leading, valueFrom, significantIn, significant, written}
+use Rattle.text.specs.Text.{ascii, isDigit}
+use Rattle.decimal.specs.Digits.{leading, valueFrom, significantIn, significant, written}
 use Rattle.decimal.specs.Decimal.{isWhole}
 use Rattle.decimal.specs.Whole.{readWhole}
 use Rattle.settings.specs.Settings.{goodDepth, nameByte, nameBytes, goodName, good}

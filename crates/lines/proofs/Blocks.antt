@@ -7,7 +7,8 @@ use native.Mathlib.Omega.{arith}
 use borrow.Author.Tests.{lt-ltb, ltb-true, ltb-false}
 use lib.Dec.{eqb, ltb}
 use lib.ListN.{length, take}
-use Rattle.lines.specs.Lines.{before, lineEnd, hasEnd, inFront, complete, unfinished, lastLine, linesOf, joined, inBlocks}
+use Rattle.text.specs.Text.{joined}
+use Rattle.lines.specs.Lines.{before, lineEnd, hasEnd, inFront, complete, unfinished, lastLine, linesOf, inBlocks}
 use Rattle.lines.proofs.Split.{at-end, not-end, first-complete, none-complete, none-unfinished}
 
 -- A text with no line end.

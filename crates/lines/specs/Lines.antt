@@ -40,10 +40,6 @@ linesOf s = complete s ++ lastLine (unfinished s)
 
 -- ---- a text that comes in blocks
 
-unfoldable pub joined : List (List ℕ) → List ℕ
-joined [] = []
-joined (block ∷ blocks) = block ++ joined blocks
-
 -- The lines that end in each block, with what is held of the unfinished line before them: `most` bytes at the most.
 unfoldable pub inBlocks : ℕ → List ℕ → List (List ℕ) → List (List ℕ)
 inBlocks most held [] = lastLine held

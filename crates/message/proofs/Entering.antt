@@ -9,7 +9,7 @@ use borrow.Author.Tests.{eqb-true, ltb-false}
 use lib.Dec.{eqb, ltb, lit<}
 use lib.ListN.{length, drop}
 use Rattle.decimal.specs.Digits.{Reading, reads, refused}
-use Rattle.json_tokens.specs.Bytes.{byteAt}
+use Rattle.text.specs.Text.{byteAt}
 use Rattle.json_tokens.proofs.Laws.{in-byte}
 use Rattle.json.specs.Json.{Span, text}
 use Rattle.settings.specs.Settings.{Terms, isM, good, goodDepth}

@@ -6,7 +6,7 @@ use mathlib.Core.Bool.{Bool, true, false, true≢false, _&&_, not, cond}
 use Prim.Native.Nat.{ℕ, _≤_, _<_, _^_}
 use borrow.Author.Tests.{eqb-true, leb-true}
 use native.Mathlib.Omega.{arith}
-use Rattle.decimal.specs.Ascii.{ascii}
+use Rattle.text.specs.Text.{ascii}
 use Rattle.decimal.specs.Digits.{Reading, reads, refused, leading, valueOf}
 use Rattle.decimal.specs.Decimal.{isWhole}
 use Rattle.decimal.specs.Whole.{readWhole, atMost, readChecksum}

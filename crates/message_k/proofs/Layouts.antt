@@ -8,14 +8,14 @@ use native.Mathlib.Omega.{arith}
 use lib.Dec.{leb, ltb, eqb}
 use lib.ListN.{length, length-append}
 use borrow.Author.Tests.{eqb-true, leb-true}
-use Rattle.decimal.specs.Ascii.{ascii}
+use Rattle.text.specs.Text.{ascii}
 use Rattle.decimal.specs.Digits.{Reading, reads, refused}
 use Rattle.json.specs.Json.{Span, Pair}
 use Rattle.entries.specs.Places.{andThen, valuesOf, only, quotedChecksumAt}
 use Rattle.entries.specs.Summary.{anyBroken, anyZero}
 use Rattle.layout.specs.Layout.{printed, unprinted, laid}
 use Rattle.layout.specs.Told.{listingOf, isPrinted, sumOf, noOutline, outlineOf, outlineFrom}
-use Rattle.layout.specs.Fold.{foldFrom}
+use Rattle.json.specs.Fold.{foldFrom}
 use Rattle.layout.specs.Marks.{few, fewMore, moreListed, slotsOf}
 use Rattle.layout.specs.declared.Slot.{Slot}
 use Rattle.layout.proofs.Laws.{outline-of}

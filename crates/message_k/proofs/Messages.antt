@@ -8,14 +8,14 @@ use native.Mathlib.Omega.{arith}
 use lib.Dec.{eqb}
 use borrow.Author.Tests.{eq-eqb, ne-eqb}
 use Rattle.decimal.specs.Digits.{Reading, reads, refused}
-use Rattle.json_tokens.specs.Bytes.{byteAt}
+use Rattle.text.specs.Text.{byteAt}
 use Rattle.json_tokens.specs.Tokens.{End, At, Broken, endOf}
 use Rattle.json.specs.Json.{Span, Pair, Items, items, noItems, itemsEnd, elements, value}
 use Rattle.json.proofs.Laws.{value-array}
 use Rattle.entries.specs.Places.{andThen, all, contents, arrayAt, objectAt, wholeAt}
 use Rattle.layout.specs.Layout.{Heard}
 use Rattle.layout.specs.Told.{outlineOf, noFrame, toldOf, toldAt}
-use Rattle.layout.specs.Fold.{foldFrom, foldedIn}
+use Rattle.json.specs.Fold.{foldFrom, foldedIn}
 use Rattle.layout.specs.declared.Told.{Told}
 use Rattle.message_k.specs.LayoutK.{Frame, frameOf, escapedK, oursK, objectsLayout, layoutK, heardK}
 use Rattle.message_k.specs.MembersK.{isRead, withMember, noMembers, closedAt, membersOf}

@@ -9,7 +9,7 @@ use lib.ListN.{length, take, drop}
 use borrow.Author.Tests.{eq-eqb, ne-eqb}
 use Rattle.decimal.specs.Digits.{Reading}
 use Rattle.decimal.specs.Whole.{readWhole, readChecksum}
-use Rattle.json_tokens.specs.Bytes.{byteAt}
+use Rattle.text.specs.Text.{byteAt}
 use Rattle.json_tokens.specs.Tokens.{At, endOf}
 use Rattle.json_tokens.proofs.Bounds.{bounds, end-broken}
 use Rattle.json.specs.Json.{value}

@@ -5,12 +5,12 @@ use mathlib.Core.List.{List}
 use Prim.Native.Nat.{ℕ, _+_}
 use borrow.Author.Tests.{eq-eqb, ne-eqb}
 use Rattle.decimal.specs.Digits.{Reading, reads, refused}
-use Rattle.json_tokens.specs.Bytes.{byteAt}
+use Rattle.text.specs.Text.{byteAt}
 use Rattle.json_tokens.specs.Tokens.{End, At, Broken, endOf}
 use Rattle.json.specs.Json.{Pair, Items, items, noItems, itemsEnd, members, value}
 use Rattle.json.proofs.Laws.{value-object}
 use Rattle.entries.specs.Places.{contents, objectAt}
-use Rattle.layout.specs.Fold.{foldedIn}
+use Rattle.json.specs.Fold.{foldedIn}
 use Rattle.message_k.specs.MembersK.{withMember, noMembers, closedAt, membersOf, membersAt}
 use Rattle.message_k.specs.declared.Members.{Members}
 

@@ -4,11 +4,11 @@ use mathlib.Core.Path.{_≡_, refl, sym, ap, _∙_}
 use mathlib.Core.List.{List, [], _∷_, _++_}
 use mathlib.Core.Bool.{Bool, true, false, cond}
 use Prim.Native.Nat.{ℕ}
-use Rattle.decimal.specs.Ascii.{ascii}
+use Rattle.text.specs.Text.{ascii}
 use Rattle.json.specs.Json.{Span, Pair}
 use Rattle.json.specs.Names.{means}
 use Rattle.entries.specs.Places.{valuesOf}
-use Rattle.layout.specs.Fold.{foldFrom}
+use Rattle.json.specs.Fold.{foldFrom}
 use Rattle.layout.specs.Marks.{few, more, emptySlot, moreListed, slotsOf}
 use Rattle.layout.specs.declared.Slot.{Slot}
 use Rattle.layout.specs.declared.Mark.{Mark}

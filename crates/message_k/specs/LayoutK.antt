@@ -4,12 +4,13 @@ use mathlib.Core.Bool.{Bool, true, false, _&&_, _||_, cond}
 use mathlib.Core.List.{List, [], _∷_, _++_}
 use lib.Dec.{leb, eqb}
 use lib.ListN.{length}
-use Rattle.decimal.specs.Ascii.{ascii}
+use Rattle.text.specs.Text.{ascii}
 use Rattle.decimal.specs.Digits.{Reading, reads, refused, written}
 use Rattle.json.specs.Json.{Span, Pair, maxDepth}
 use Rattle.json.specs.Names.{means, hasBackslash}
 use Rattle.entries.specs.Places.{andThen, all, isString, arrayAt, objectAt, valuesOf, only, wholeAt, quotedChecksumAt}
 use Rattle.entries.specs.Rows.{entryK}
+use Rattle.layout.specs.Depths.{itemDepth}
 use Rattle.layout.specs.Layout.{printed, unprinted, Listed, Layout, Heard, unlisted, listedAt, laid}
 
 -- An array of four or five elements: whole number, one or two objects, channel, pair.
@@ -93,7 +94,7 @@ objectsLayout s objects =
     refused)
 
 unfoldable pub layoutK : List ℕ → Frame → Reading Layout
-layoutK s f = andThen (wholeAt s (f .first)) (λ n. andThen (all (objectAt 15 s) (f .objects)) (objectsLayout s))
+layoutK s f = andThen (wholeAt s (f .first)) (λ n. andThen (all (objectAt itemDepth s) (f .objects)) (objectsLayout s))
 
 -- ---- the message, to a book of that depth and name
 

@@ -4,16 +4,17 @@ use mathlib.Core.Path.{_≡_}
 use mathlib.Core.Bool.{Bool, true, false, _&&_, _||_, cond}
 use mathlib.Core.List.{List}
 use lib.Dec.{leb, ltb, eqb}
-use Rattle.decimal.specs.Ascii.{ascii}
+use Rattle.text.specs.Text.{ascii}
 use Rattle.decimal.specs.Digits.{Reading, reads, refused}
 use Rattle.json_tokens.specs.Tokens.{At, Broken, endOf}
 use Rattle.json.specs.Json.{Span, Pair, value}
 use Rattle.json.specs.Names.{means}
 use Rattle.entries.specs.Places.{objectAt, quotedChecksumAt}
 use Rattle.entries.specs.Rows.{entryK}
+use Rattle.layout.specs.Depths.{itemDepth, sideDepth}
 use Rattle.layout.specs.Layout.{listedAt}
 use Rattle.layout.specs.Told.{nothingListed, listingOf, outlineFrom, noOutline}
-use Rattle.layout.specs.Fold.{foldFrom}
+use Rattle.json.specs.Fold.{foldFrom}
 use Rattle.layout.specs.Marks.{unmarked, more, emptySlot, moreListed}
 use Rattle.layout.specs.declared.Listing.{Listing}
 use Rattle.layout.specs.declared.Outline.{Outline}
@@ -61,8 +62,8 @@ withMember s t m =
 
 -- r tells of the member whose name is `name` and whose value begins at `from`, with t told before.
 pub record MemberRead (s : List ℕ) (t : Members) (name : Span) (from : ℕ) (r : Members) : Type 0 where
-  pub ends : r .end ≡ endOf (value 14 s from)
-  pub told : (e : ℕ) → value 14 s from ≡ At e → r ≡ withMember s t (record { name = name; value = record { from = from; to = e } })
+  pub ends : r .end ≡ endOf (value sideDepth s from)
+  pub told : (e : ℕ) → value sideDepth s from ≡ At e → r ≡ withMember s t (record { name = name; value = record { from = from; to = e } })
 
 abbrev pub withSum : ℕ → Sum → Members → Members
 withSum e sum t =
@@ -78,8 +79,8 @@ withSum e sum t =
 
 -- r tells of one more member `c` whose value begins at `from`, with t told before.
 pub record SumRead (s : List ℕ) (t : Members) (from : ℕ) (r : Members) : Type 0 where
-  pub ends : r .end ≡ endOf (value 14 s from)
-  pub told : (e : ℕ) → value 14 s from ≡ At e → r ≡ withSum e (moreSummed s (t .checksum) (record { from = from; to = e })) t
+  pub ends : r .end ≡ endOf (value sideDepth s from)
+  pub told : (e : ℕ) → value sideDepth s from ≡ At e → r ≡ withSum e (moreSummed s (t .checksum) (record { from = from; to = e })) t
 
 -- ---- an object
 
@@ -107,7 +108,7 @@ membersOf s t e (reads ms) = closedAt e (foldFrom (withMember s) t ms)
 membersOf s t e refused = noMembers e
 
 unfoldable pub membersAt : List ℕ → Members → ℕ → Members
-membersAt s t at = elim (value 15 s at) [ At e ↦ membersOf s t e (objectAt 15 s (record { from = at; to = e })) | Broken ↦ noMembers 0 ]
+membersAt s t at = elim (value itemDepth s at) [ At e ↦ membersOf s t e (objectAt itemDepth s (record { from = at; to = e })) | Broken ↦ noMembers 0 ]
 
 -- ---- check 6, of what is told of all objects together
 

@@ -3,13 +3,14 @@ use Prim.Native.Nat.{ℕ, _+_}
 use mathlib.Core.Bool.{Bool, true, false, _&&_, _||_, cond}
 use mathlib.Core.List.{List, _++_}
 use lib.Dec.{leb, eqb}
-use Rattle.decimal.specs.Ascii.{ascii}
+use Rattle.text.specs.Text.{ascii}
 use Rattle.decimal.specs.Digits.{written}
 use Rattle.json.specs.Json.{Span, Items}
 use Rattle.json.specs.Names.{means, hasBackslash}
 use Rattle.entries.specs.Places.{isString, objectAt, wholeAt}
+use Rattle.layout.specs.Depths.{itemDepth}
 use Rattle.layout.specs.Told.{noOutline}
-use Rattle.layout.specs.Fold.{foldedIn}
+use Rattle.json.specs.Fold.{foldedIn}
 use Rattle.layout.specs.declared.Outline.{Outline}
 use Rattle.layout.specs.declared.Told.{Told}
 use Rattle.message_k.specs.MembersK.{isRead, noMembers, membersOf, hasMore, snapshotBy, updateBy, outlineBy}
@@ -46,8 +47,8 @@ withPart s t a =
     record {
       end = t .end;
       outer = withOuter s (t .outer) a;
-      one = cond (eqb (t .outer .count) 1) (membersOf s (noMembers 0) (a .to) (objectAt 15 s a)) (t .one);
-      two = cond (eqb (t .outer .count) 2) (membersOf s (t .one) (a .to) (objectAt 15 s a)) (t .two);
+      one = cond (eqb (t .outer .count) 1) (membersOf s (noMembers 0) (a .to) (objectAt itemDepth s a)) (t .one);
+      two = cond (eqb (t .outer .count) 2) (membersOf s (t .one) (a .to) (objectAt itemDepth s a)) (t .two);
     }
 
 abbrev pub endedAt : ℕ → Parts → Parts

@@ -20,15 +20,16 @@ use json_tokens::OPEN_ARRAY;
 use json_tokens::OPEN_OBJECT;
 use json_tokens::QUOTE;
 use json_tokens::array_close_end;
-use json_tokens::byte_at;
 use json_tokens::colon_end;
 use json_tokens::comma_end;
 use json_tokens::object_close_end;
 use json_tokens::skip_blanks;
 use json_tokens::string_end;
+use layout::ITEM_DEPTH;
 use layout::Listing;
 use layout::Mark;
 use layout::Outline;
+use layout::SIDE_DEPTH;
 use layout::Slot;
 use layout::Told;
 use layout::listing_at;
@@ -40,46 +41,44 @@ use layout::no_slot;
 use layout::outline_of;
 use layout::slotted;
 use layout::untold;
+use text::both;
+use text::byte_at;
 ghost use mathlib.Core.Path.{_≡_};
-ghost use mathlib.Core.Bool.{true, _&&_};
 ghost use mathlib.Core.List.{_++_};
 ghost use Prim.Native.Nat.{_≤_, _<_};
-ghost use Rattle.decimal.specs.Ascii.{ascii};
+ghost use Rattle.text.specs.Text.{ascii};
 ghost use Rattle.decimal.specs.Digits.{written};
 ghost use Rattle.json_tokens.specs.Tokens.{At};
 ghost use Rattle.json.specs.Json.{elements, value};
 ghost use Rattle.json.specs.Names.{means, spelled};
 ghost use Rattle.entries.specs.Places.{wholeAt};
+ghost use Rattle.layout.specs.Depths.{itemDepth, sideDepth};
 ghost use Rattle.layout.specs.Marks.{fewMore};
 ghost use Rattle.layout.specs.Told.{listingFrom, toldAt};
 ghost use Rattle.message_k.specs.LayoutK.{heardK};
 ghost use Rattle.message_k.specs.MembersK.{isRead, moreSummed, MemberRead, SumRead, noMembers, closedAt, membersAt, hasMore, snapshotBy, updateBy, sideOf, outlineBy};
 ghost use Rattle.message_k.specs.PartsK.{upToSix, noOuter, withOuter, noParts, partsIn, escapedAt, framedAs, oneObject, twoObjects};
 
-// How deep arrays and objects may nest in an element of the message, and in a member of an object.
-const ELEMENT_DEPTH: usize = 15;
+// Names as numbers, the first byte the lowest, as `json::is_short_name` takes them. `as` and `bs` hold a snapshot's asks and bids, `a` and
+// `b` an update's, `c` a checksum.
+const AS_NAME: u64 = 0x7361;
 
-const MEMBER_DEPTH: usize = 14;
+const BS_NAME: u64 = 0x7362;
 
-// The names of members as numbers: `as`, `bs`, `a`, `b` and `c`.
-const SNAPSHOT_ASKS: u64 = 29537;
+const A_NAME: u64 = 0x61;
 
-const SNAPSHOT_BIDS: u64 = 29538;
+const B_NAME: u64 = 0x62;
 
-const ASKS: u64 = 97;
+const C_NAME: u64 = 0x63;
 
-const BIDS: u64 = 98;
+// `book-`, and what the first and the second byte after it count; `book-100`.
+const BOOK_NAME: u64 = 0x2d6b6f6f62;
 
-const CHECKSUM: u64 = 99;
+const FIRST_DIGIT: u64 = 0x10000000000;
 
-// `book-`, and what a byte after it counts; `book-100`.
-const BOOK: u64 = 195075993442;
+const SECOND_DIGIT: u64 = 0x1000000000000;
 
-const FIRST_DIGIT: u64 = 1099511627776;
-
-const SECOND_DIGIT: u64 = 281474976710656;
-
-const BOOK_100: u64 = 3472329383848406882;
+const BOOK_100_NAME: u64 = 0x3030312d6b6f6f62;
 
 // The member `c`.
 struct Sum {
@@ -153,7 +152,7 @@ pub fn k_message(s: &[u8], at: usize, depth: usize, name: &[u8]) -> Told
 
 // The elements of the array whose bracket ends at `at`. The second and the third may be objects.
 fn k_parts(s: &[u8], at: usize) -> Parts
-    ensures { λ r. ⌜ r ≡ partsIn (now (s .entry)) (elements (value 15 (now (s .entry))) (now (s .entry)) at) ⌝ }
+    ensures { λ r. ⌜ r ≡ partsIn (now (s .entry)) (elements (value itemDepth (now (s .entry))) (now (s .entry)) at) ⌝ }
 {
     let none = array_close_end(s, at);
     if 0 < none {
@@ -170,7 +169,7 @@ fn k_parts(s: &[u8], at: usize) -> Parts
             parts.two = k_object(s, parts.one, i);
             parts.two.end
         } else {
-            value_end(s, i, ELEMENT_DEPTH)
+            value_end(s, i, ITEM_DEPTH)
         };
         if past == 0 {
             return no_parts(0);
@@ -190,7 +189,7 @@ fn k_parts(s: &[u8], at: usize) -> Parts
 
 // One more element, from `from` to `to`.
 fn pass(s: &[u8], outer: Outer, from: usize, to: usize) -> Outer
-    requires { ⌜ value 15 (now s) from ≡ At to ⌝ }
+    requires { ⌜ value itemDepth (now s) from ≡ At to ⌝ }
     ensures { λ r. ⌜ r ≡ withOuter (now (s .entry)) outer (record { from = from; to = to }) ⌝ }
 {
     let mut next = outer;
@@ -239,7 +238,7 @@ fn no_parts(end: usize) -> Parts
 
 // Whether the value from `from` to `to` is a whole number.
 fn is_whole(s: &[u8], from: usize, to: usize) -> bool
-    requires { ⌜ value 15 (now s) from ≡ At to ⌝ }
+    requires { ⌜ value itemDepth (now s) from ≡ At to ⌝ }
     ensures { λ r. ⌜ r ≡ isRead (wholeAt (now (s .entry)) (record { from = from; to = to })) ⌝ }
 {
     match parse_whole(&s[from..to]) {
@@ -253,7 +252,7 @@ fn k_object(s: &[u8], before: Members, at: usize) -> Members
     ensures { λ r. ⌜ r ≡ membersAt (now (s .entry)) before at ⌝ }
 {
     if byte_at(s, at) != OPEN_OBJECT {
-        return no_members(value_end(s, at, ELEMENT_DEPTH));
+        return no_members(value_end(s, at, ITEM_DEPTH));
     }
     let none = object_close_end(s, at + 1);
     if none != 0 {
@@ -294,34 +293,34 @@ fn k_member(s: &[u8], members: Members, name_from: usize, name_to: usize, from: 
 {
     let mut next = members;
     next.is_object = true;
-    if is_short_name(s, name_from, name_to, CHECKSUM, 1) {
+    if is_short_name(s, name_from, name_to, C_NAME, 1) {
         return with_checksum(s, next, from);
     }
-    if is_short_name(s, name_from, name_to, ASKS, 1) {
+    if is_short_name(s, name_from, name_to, A_NAME, 1) {
         let entries = entries_at(s, from, false);
         next.end = entries.end;
         next.asks = with_entries(next.asks, from, entries);
         return next;
     }
-    if is_short_name(s, name_from, name_to, BIDS, 1) {
+    if is_short_name(s, name_from, name_to, B_NAME, 1) {
         let entries = entries_at(s, from, false);
         next.end = entries.end;
         next.bids = with_entries(next.bids, from, entries);
         return next;
     }
-    if is_short_name(s, name_from, name_to, SNAPSHOT_ASKS, 2) {
+    if is_short_name(s, name_from, name_to, AS_NAME, 2) {
         let entries = entries_at(s, from, false);
         next.end = entries.end;
         next.snapshot_asks = with_entries(next.snapshot_asks, from, entries);
         return next;
     }
-    if is_short_name(s, name_from, name_to, SNAPSHOT_BIDS, 2) {
+    if is_short_name(s, name_from, name_to, BS_NAME, 2) {
         let entries = entries_at(s, from, false);
         next.end = entries.end;
         next.snapshot_bids = with_entries(next.snapshot_bids, from, entries);
         return next;
     }
-    next.end = value_end(s, from, MEMBER_DEPTH);
+    next.end = value_end(s, from, SIDE_DEPTH);
     next
 }
 
@@ -337,7 +336,7 @@ fn with_checksum(s: &[u8], members: Members, from: usize) -> Members
     ensures { λ r. ⌜ SumRead (now (s .entry)) members from r ⌝ }
 {
     let mut next = members;
-    let end = value_end(s, from, MEMBER_DEPTH);
+    let end = value_end(s, from, SIDE_DEPTH);
     next.end = end;
     if end == 0 {
         return next;
@@ -348,7 +347,7 @@ fn with_checksum(s: &[u8], members: Members, from: usize) -> Members
 
 // One more member `c`, whose value lies from `from` to `to`.
 fn summed(s: &[u8], sum: Sum, from: usize, to: usize) -> Sum
-    requires { ⌜ value 14 (now s) from ≡ At to ⌝ }
+    requires { ⌜ value sideDepth (now s) from ≡ At to ⌝ }
     ensures { λ r. ⌜ r ≡ moreSummed (now (s .entry)) sum (record { from = from; to = to }) ⌝ }
 {
     let before = sum.mark;
@@ -430,12 +429,6 @@ fn two_objects(whole: bool, one: Members, two: Members) -> Outline
         return k_outline(false, is_update(each, one, two), two);
     }
     no_outline()
-}
-
-fn both(a: bool, b: bool) -> bool
-    ensures { λ r. ⌜ r ≡ (a && b) ⌝ }
-{
-    if a { b } else { false }
 }
 
 // Whether an object has `a` or `b`, where `before` is told before it and `after` with it. Counts stop at two, so this says
@@ -575,7 +568,7 @@ fn is_channel(s: &[u8], from: usize, to: usize, depth: usize) -> bool
     if depth < 100 {
         is_short_name(s, from, to, two_digits(depth), 7)
     } else {
-        is_short_name(s, from, to, BOOK_100, 8)
+        is_short_name(s, from, to, BOOK_100_NAME, 8)
     }
 }
 
@@ -585,5 +578,5 @@ fn two_digits(depth: usize) -> u64
     ensures { λ r. ⌜ spelled 7 r ≡ ascii "book-" ++ written depth ⌝ }
 {
     let d = depth as u64;
-    BOOK + (48 + d / 10) * FIRST_DIGIT + (48 + d % 10) * SECOND_DIGIT
+    BOOK_NAME + (48 + d / 10) * FIRST_DIGIT + (48 + d % 10) * SECOND_DIGIT
 }

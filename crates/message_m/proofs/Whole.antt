@@ -8,15 +8,15 @@ use native.Mathlib.Omega.{arith}
 use borrow.Author.Tests.{eqb-true, eqb-false}
 use lib.Dec.{eqb}
 use lib.ListN.{length}
-use Rattle.decimal.specs.Ascii.{ascii}
+use Rattle.text.specs.Text.{ascii, byteAt}
 use Rattle.decimal.specs.Digits.{Reading, reads, refused}
-use Rattle.json_tokens.specs.Bytes.{byteAt}
 use Rattle.json_tokens.specs.Tokens.{End, At, Broken, endOf, blanks, closing}
 use Rattle.json.specs.Json.{Span, Pair, value}
 use Rattle.json.specs.Names.{means, hasBackslash}
+use Rattle.json.proofs.Fold.{Loop, Left, overMembers}
 use Rattle.entries.specs.Places.{andThen, objectAt, valuesOf, only, wholeAt, checksumAt}
 use Rattle.entries.specs.Rows.{entryM}
-use Rattle.layout.specs.Fold.{foldFrom}
+use Rattle.json.specs.Fold.{foldFrom}
 use Rattle.layout.specs.Layout.{printed, Listed, Layout, Heard, listedAt, laid}
 use Rattle.layout.specs.Marks.{few, fewMore, more, marksOf, moreListed, slotsOf}
 use Rattle.layout.specs.Told.{notListed, listingOf, noOutline, noFrame, outlineOf, outlineFrom, isPrinted, sumOf, toldOf, toldAt}
@@ -33,7 +33,7 @@ use Rattle.message_m.specs.declared.Data.{Data}
 use Rattle.message_m.specs.declared.Members.{Members}
 use Rattle.message_m.proofs.Steps.{hit-yes, hit-no, placed-more}
 use Rattle.message_m.proofs.Outlines.{once-yes, once-no, listed-no}
-use Rattle.message_m.proofs.Objects.{object-broken, made-other, made-empty, made-start, Loop, Rest}
+use Rattle.message_m.proofs.Objects.{object-broken, made-other, made-empty, made-start}
 
 -- a component that follows the members of one name
 on-fold : {S A : Type 0} (s name : List ℕ) (step : S → Pair → S) (get : S → A) (add : A → Span → A)
@@ -57,8 +57,8 @@ unfolding moreData
 data-ends s d m = refl
 
 -- the loop over them
-abbrev pub dataLoop : List ℕ → Loop Data Data
-dataLoop s = record { step = moreData s; close = dataEnd; bad = noData 0; end = λ (d : Data). d .end; ends = data-ends s }
+abbrev pub dataLoop : List ℕ → Loop Pair Data Data
+dataLoop s = overMembers 14 s (moreData s) dataEnd (noData 0)
 
 -- the value at a position, as that of a member `data`
 abbrev pub dataAt : List ℕ → ℕ → Data
@@ -74,7 +74,7 @@ module _ (s : List ℕ) (at : ℕ) where
     unfolding dataOf noData
     data-empty p = made-empty (dataFrom s) 14 s at opens (moreData s) dataEnd (noData 0) (data-folds s) e h p
 
-    pub data-start : e ≡ 0 → (k : ℕ) → k ≡ blanks s (at + 1) → Rest (dataLoop s) 14 s (noData 0) k (dataAt s at)
+    pub data-start : e ≡ 0 → (k : ℕ) → k ≡ blanks s (at + 1) → Left (dataLoop s) (noData 0) k (dataAt s at)
     unfolding dataOf dataFrom
     data-start z k b = made-start (dataFrom s) 14 s at opens (moreData s) dataEnd (noData 0) (data-folds s) e h z k b
 
@@ -365,8 +365,8 @@ unfolding moreMembers moreBody
 members-end name s met m = refl
 
 -- the loop over its members
-abbrev pub messageLoop : List ℕ → List ℕ → Loop Members Told
-messageLoop name s = record { step = moreMembers name s; close = toldIn s; bad = noFrame 0; end = λ (x : Members). x .body .end; ends = members-end name s }
+abbrev pub messageLoop : List ℕ → List ℕ → Loop Pair Members Told
+messageLoop name s = overMembers 15 s (moreMembers name s) (toldIn s) (noFrame 0)
 
 module _ (name s : List ℕ) (at : ℕ) where
   pub told-none : (byteAt s at ≡ 123 → ⊥) → {e : ℕ} → e ≡ endOf (value 16 s at) → noFrame e ≡ toldAt (heardM name) s at
@@ -377,7 +377,7 @@ module _ (name s : List ℕ) (at : ℕ) where
     pub told-empty : 0 < e → toldIn s e noMembers ≡ toldAt (heardM name) s at
     told-empty p = made-empty (toldFrom name s) 15 s at opens (moreMembers name s) (toldIn s) noMembers (told-folds name s) e h p ∙ told-is name s at
 
-    pub told-start : e ≡ 0 → (k : ℕ) → k ≡ blanks s (at + 1) → Rest (messageLoop name s) 15 s noMembers k (toldAt (heardM name) s at)
+    pub told-start : e ≡ 0 → (k : ℕ) → k ≡ blanks s (at + 1) → Left (messageLoop name s) noMembers k (toldAt (heardM name) s at)
     unfolding toldOf andThen
     told-start z k b =
         rw (told-is name s at) at (made-start (toldFrom name s) 15 s at opens (moreMembers name s) (toldIn s) noMembers (told-folds name s) e h z k b)

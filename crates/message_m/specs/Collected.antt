@@ -5,13 +5,14 @@ use mathlib.Core.Bool.{Bool, true, false, _&&_, _||_, cond}
 use mathlib.Core.List.{List}
 use lib.Dec.{eqb}
 use lib.ListN.{length}
-use Rattle.decimal.specs.Ascii.{ascii}
+use Rattle.text.specs.Text.{ascii}
 use Rattle.decimal.specs.Digits.{Reading, reads, refused}
 use Rattle.json_tokens.specs.Tokens.{endOf}
 use Rattle.json.specs.Json.{Span, Pair, value}
 use Rattle.json.specs.Names.{means, hasBackslash}
 use Rattle.entries.specs.Places.{andThen, isString, objectAt, valuesOf, wholeAt, checksumAt}
 use Rattle.entries.specs.Rows.{entryM}
+use Rattle.layout.specs.Depths.{itemDepth}
 use Rattle.layout.specs.Layout.{listedAt}
 use Rattle.layout.specs.Marks.{unmarked, more, emptySlot, moreListed, slotsOf}
 use Rattle.layout.specs.Told.{notListed, listingOf, noOutline, outlineFrom}
@@ -68,19 +69,41 @@ dataFrom s end (reads ms) =
 dataFrom s end refused = noData end
 
 unfoldable pub dataOf : List ℕ → Span → Data
-dataOf s a = dataFrom s (a .to) (objectAt 15 s a)
+dataOf s a = dataFrom s (a .to) (objectAt itemDepth s a)
 
 -- ---- the members of the message
 
--- Which of our names a string means: 0 is none.
+-- Our names, each as a number.
+abbrev pub otherKey : ℕ
+otherKey = 0
+
+abbrev pub channelKey : ℕ
+channelKey = 1
+
+abbrev pub productKey : ℕ
+productKey = 2
+
+abbrev pub typeKey : ℕ
+typeKey = 3
+
+abbrev pub dataKey : ℕ
+dataKey = 4
+
+abbrev pub checksumKey : ℕ
+checksumKey = 5
+
+abbrev pub gsnKey : ℕ
+gsnKey = 6
+
+-- Which of our names a string means.
 unfoldable pub keyOf : List ℕ → Span → ℕ
 keyOf s a =
-    cond (means s a (ascii "channel")) 1
-    (cond (means s a (ascii "product")) 2
-    (cond (means s a (ascii "type")) 3
-    (cond (means s a (ascii "data")) 4
-    (cond (means s a (ascii "checksum")) 5
-    (cond (means s a (ascii "gsn")) 6 0)))))
+    cond (means s a (ascii "channel")) channelKey
+    (cond (means s a (ascii "product")) productKey
+    (cond (means s a (ascii "type")) typeKey
+    (cond (means s a (ascii "data")) dataKey
+    (cond (means s a (ascii "checksum")) checksumKey
+    (cond (means s a (ascii "gsn")) gsnKey otherKey)))))
 
 abbrev pub isEscaped : List ℕ → Span → Bool
 isEscaped s a = isString s a && hasBackslash s a

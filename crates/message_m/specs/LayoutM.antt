@@ -2,12 +2,13 @@
 use Prim.Native.Nat.{ℕ}
 use mathlib.Core.Bool.{Bool, true, false, _&&_, _||_, cond}
 use mathlib.Core.List.{List, [], _∷_}
-use Rattle.decimal.specs.Ascii.{ascii}
+use Rattle.text.specs.Text.{ascii}
 use Rattle.decimal.specs.Digits.{Reading, reads, refused}
 use Rattle.json.specs.Json.{Span, Pair, maxDepth}
 use Rattle.json.specs.Names.{means, hasBackslash}
 use Rattle.entries.specs.Places.{andThen, isString, objectAt, valuesOf, only, wholeAt, checksumAt}
 use Rattle.entries.specs.Rows.{entryM}
+use Rattle.layout.specs.Depths.{itemDepth}
 use Rattle.layout.specs.Layout.{printed, Listed, Layout, Heard, listedAt, laid}
 
 -- Check 4: a backslash in a top-level key or in a `channel` or `product` string.
@@ -45,7 +46,7 @@ layoutM s ms =
     andThen (only (valuesOf s (ascii "type") ms)) (λ t.
     andThen (isSnapshotAt s t) (λ snapshot.
     andThen (only (valuesOf s (ascii "data") ms)) (λ d.
-    andThen (objectAt 15 s d) (λ ds.
+    andThen (objectAt itemDepth s d) (λ ds.
     andThen (only (valuesOf s (ascii "checksum") ms)) (λ k.
     andThen (checksumAt s k) (λ sum.
     andThen (only (valuesOf s (ascii "gsn") ms)) (λ g.

@@ -7,21 +7,23 @@ use decimal::ParsedWhole;
 use decimal::parse_checksum;
 use decimal::parse_whole;
 use entries::entries_at;
+use json::MAX_DEPTH;
 use json::has_backslash;
 use json::is_name;
 use json::is_short_name;
 use json::value_end;
 use json_tokens::OPEN_OBJECT;
 use json_tokens::QUOTE;
-use json_tokens::byte_at;
 use json_tokens::colon_end;
 use json_tokens::comma_end;
 use json_tokens::object_close_end;
 use json_tokens::skip_blanks;
 use json_tokens::string_end;
+use layout::ITEM_DEPTH;
 use layout::Listing;
 use layout::Mark;
 use layout::Outline;
+use layout::SIDE_DEPTH;
 use layout::Slot;
 use layout::Told;
 use layout::listing_at;
@@ -32,28 +34,25 @@ use layout::no_slot;
 use layout::outline_of;
 use layout::slotted;
 use layout::untold;
+use text::both;
+use text::byte_at;
+use text::either;
 ghost use mathlib.Core.Path.{_≡_};
 ghost use mathlib.Core.Bool.{_&&_, _||_};
 ghost use lib.Dec.{eqb};
-ghost use Rattle.decimal.specs.Ascii.{ascii};
+ghost use Rattle.text.specs.Text.{ascii};
 ghost use Rattle.decimal.specs.Reads.{parsedChecksum, parsedWhole};
 ghost use Rattle.json_tokens.specs.Tokens.{endOf};
 ghost use Rattle.json.specs.Json.{value};
 ghost use Rattle.json.specs.Names.{means, hasBackslash};
 ghost use Rattle.entries.specs.Places.{andThen, wholeAt, checksumAt};
+ghost use Rattle.layout.specs.Depths.{itemDepth, sideDepth};
 ghost use Rattle.layout.specs.Marks.{more};
 ghost use Rattle.layout.specs.Told.{toldAt};
 ghost use Rattle.message_m.specs.LayoutM.{heardM};
-ghost use Rattle.message_m.specs.Collected.{onHit, memberAt, noData, dataEnd, moreData, dataOf, keyOf, isEscaped, moreBody, noMembers, moreMembers, onceAt, onceListed, numbersIn, bodyIn, outlineIn, toldIn, Placed};
+ghost use Rattle.message_m.specs.Collected.{onHit, memberAt, noData, dataEnd, moreData, dataOf, channelKey, productKey, dataKey, keyOf, isEscaped, moreBody, noMembers, moreMembers, onceAt, onceListed, numbersIn, bodyIn, outlineIn, toldIn, Placed};
 
-// How deep arrays and objects may nest in a message, in a member of it, and in a member of its `data`.
-const MESSAGE_DEPTH: usize = 16;
-
-const MEMBER_DEPTH: usize = 15;
-
-const SIDE_DEPTH: usize = 14;
-
-// Our names as numbers, the first byte the lowest, as `json::is_short_name` takes them.
+// Names as numbers, the first byte the lowest, as `json::is_short_name` takes them.
 const CHANNEL_NAME: u64 = 0x6c656e6e616863;
 
 const PRODUCT_NAME: u64 = 0x746375646f7270;
@@ -70,11 +69,11 @@ const BIDS_NAME: u64 = 0x73646962;
 
 const ASKS_NAME: u64 = 0x736b7361;
 
-const BOOK: u64 = 0x6b6f6f62;
+const BOOK_NAME: u64 = 0x6b6f6f62;
 
-const SNAPSHOT: u64 = 0x746f687370616e73;
+const SNAPSHOT_NAME: u64 = 0x746f687370616e73;
 
-const UPDATE: u64 = 0x657461647075;
+const UPDATE_NAME: u64 = 0x657461647075;
 
 // Which of our names a member of the message has.
 const OTHER: usize = 0;
@@ -130,7 +129,7 @@ pub fn m_message(s: &[u8], at: usize, name: &[u8]) -> Told
     ensures { λ r. ⌜ r ≡ toldAt (heardM (now (name .entry))) (now (s .entry)) at ⌝ }
 {
     if byte_at(s, at) != OPEN_OBJECT {
-        return untold(value_end(s, at, MESSAGE_DEPTH));
+        return untold(value_end(s, at, MAX_DEPTH));
     }
     let none = object_close_end(s, at + 1);
     if 0 < none {
@@ -197,7 +196,7 @@ fn more_members(
     from: usize,
     name: &[u8],
 ) -> Members
-    ensures { λ r. ⌜ r ≡ moreMembers (now (name .entry)) (now (s .entry)) met (memberAt 15 (now (s .entry)) first past from) ⌝ }
+    ensures { λ r. ⌜ r ≡ moreMembers (now (name .entry)) (now (s .entry)) met (memberAt itemDepth (now (s .entry)) first past from) ⌝ }
 {
     let key = key_of(s, first, past);
     let body = more_body(s, met.body, key, from);
@@ -253,7 +252,7 @@ fn more_marked(mark: Mark, key: usize, name: usize, from: usize, to: usize) -> M
 // Whether a backslash stands in a member's name, or in its value, if that is a string and is compared. Our own names have none.
 fn is_escaped(s: &[u8], key: usize, first: usize, past: usize, from: usize, to: usize) -> bool
     requires { ⌜ key ≡ keyOf (now s) (record { from = first; to = past }) ⌝ }
-    ensures { λ r. ⌜ r ≡ (hasBackslash (now (s .entry)) (record { from = first; to = past }) || ((eqb key 1 || eqb key 2) && isEscaped (now (s .entry)) (record { from = from; to = to }))) ⌝ }
+    ensures { λ r. ⌜ r ≡ (hasBackslash (now (s .entry)) (record { from = first; to = past }) || ((eqb key channelKey || eqb key productKey) && isEscaped (now (s .entry)) (record { from = from; to = to }))) ⌝ }
 {
     if key == CHANNEL {
         return string_escaped(s, from, to);
@@ -279,17 +278,17 @@ fn string_escaped(s: &[u8], from: usize, to: usize) -> bool
 
 // Whether the member is a `channel` that is `book`.
 fn is_book(s: &[u8], key: usize, from: usize, to: usize) -> bool
-    ensures { λ r. ⌜ r ≡ (eqb key 1 && means (now (s .entry)) (record { from = from; to = to }) (ascii "book")) ⌝ }
+    ensures { λ r. ⌜ r ≡ (eqb key channelKey && means (now (s .entry)) (record { from = from; to = to }) (ascii "book")) ⌝ }
 {
     if key == CHANNEL {
-        return is_short_name(s, from, to, BOOK, 4);
+        return is_short_name(s, from, to, BOOK_NAME, 4);
     }
     false
 }
 
 // Whether the member is a `product` that is the book's name.
 fn is_product(s: &[u8], key: usize, from: usize, to: usize, name: &[u8]) -> bool
-    ensures { λ r. ⌜ r ≡ (eqb key 2 && means (now (s .entry)) (record { from = from; to = to }) (now (name .entry))) ⌝ }
+    ensures { λ r. ⌜ r ≡ (eqb key productKey && means (now (s .entry)) (record { from = from; to = to }) (now (name .entry))) ⌝ }
 {
     if key == PRODUCT {
         return is_name(s, from, to, name);
@@ -297,21 +296,9 @@ fn is_product(s: &[u8], key: usize, from: usize, to: usize, name: &[u8]) -> bool
     false
 }
 
-fn either(a: bool, b: bool) -> bool
-    ensures { λ r. ⌜ r ≡ (a || b) ⌝ }
-{
-    if a { true } else { b }
-}
-
-fn both(a: bool, b: bool) -> bool
-    ensures { λ r. ⌜ r ≡ (a && b) ⌝ }
-{
-    if a { b } else { false }
-}
-
 // The members `data`, and one member more, whose value is read here, whatever its name.
 fn more_body(s: &[u8], body: Body, key: usize, from: usize) -> Body
-    ensures { λ r. ⌜ r ≡ moreBody (now (s .entry)) (eqb key 4) body (record { from = from; to = endOf (value 15 (now (s .entry)) from) }) ⌝ }
+    ensures { λ r. ⌜ r ≡ moreBody (now (s .entry)) (eqb key dataKey) body (record { from = from; to = endOf (value itemDepth (now (s .entry)) from) }) ⌝ }
 {
     if key == DATA {
         let data = m_data(s, from);
@@ -324,7 +311,7 @@ fn more_body(s: &[u8], body: Body, key: usize, from: usize) -> Body
     let mark = body.mark;
     let last = body.last;
     Body {
-        end: value_end(s, from, MEMBER_DEPTH),
+        end: value_end(s, from, ITEM_DEPTH),
         mark,
         last,
     }
@@ -332,10 +319,10 @@ fn more_body(s: &[u8], body: Body, key: usize, from: usize) -> Body
 
 // The value at `at`, as that of a member `data`.
 fn m_data(s: &[u8], at: usize) -> Data
-    ensures { λ r. ⌜ r ≡ dataOf (now (s .entry)) (record { from = at; to = endOf (value 15 (now (s .entry)) at) }) ⌝ }
+    ensures { λ r. ⌜ r ≡ dataOf (now (s .entry)) (record { from = at; to = endOf (value itemDepth (now (s .entry)) at) }) ⌝ }
 {
     if byte_at(s, at) != OPEN_OBJECT {
-        return no_data(value_end(s, at, MEMBER_DEPTH));
+        return no_data(value_end(s, at, ITEM_DEPTH));
     }
     let none = object_close_end(s, at + 1);
     if 0 < none {
@@ -372,7 +359,7 @@ fn m_data(s: &[u8], at: usize) -> Data
 
 // One member more of `data`.
 fn more_data(s: &[u8], met: Data, first: usize, past: usize, from: usize) -> Data
-    ensures { λ r. ⌜ r ≡ moreData (now (s .entry)) met (memberAt 14 (now (s .entry)) first past from) ⌝ }
+    ensures { λ r. ⌜ r ≡ moreData (now (s .entry)) met (memberAt sideDepth (now (s .entry)) first past from) ⌝ }
 {
     let bids = met.bids;
     let asks = met.asks;
@@ -450,10 +437,10 @@ fn m_outline(s: &[u8], met: Members) -> Outline
     if kind.times != 1 {
         return no_outline();
     }
-    if is_short_name(s, kind.from, kind.to, SNAPSHOT, 8) {
+    if is_short_name(s, kind.from, kind.to, SNAPSHOT_NAME, 8) {
         return body_outline(s, true, met);
     }
-    if is_short_name(s, kind.from, kind.to, UPDATE, 6) {
+    if is_short_name(s, kind.from, kind.to, UPDATE_NAME, 6) {
         return body_outline(s, false, met);
     }
     no_outline()

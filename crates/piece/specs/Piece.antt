@@ -4,14 +4,12 @@ use mathlib.Core.Path.{_≡_}
 use mathlib.Core.List.{List, [], _∷_, _++_}
 use lib.Bits.{bitXor}
 use lib.ListN.{length}
+use Rattle.text.specs.Text.{colon}
 use Rattle.decimal.specs.Decimal.{Number, text, stripped}
 use Rattle.decimal.specs.Tail.{remaining}
 use Rattle.decimal.specs.declared.Tail.{Tail}
 use Rattle.crc32_spec.specs.Crc.{bits, run}
 use Rattle.piece.specs.declared.Piece.{Piece}
-
-abbrev pub colon : ℕ
-colon = 58
 
 -- K: price then size, each with the point removed, then leading zeros.
 unfoldable pub kPiece : Number → Number → List ℕ

@@ -5,15 +5,16 @@
 //
 //     piece::k_piece(price, size)    // `5000304` for 0.05000 and 0.00000304
 //     piece::m_piece(price, size)    // `:9:2` for 9 and 2: a colon before each part, so that pieces are joined as they are
-ghost use mathlib.Core.Path.{_≡_};
 ghost use Prim.Native.Nat.{_+_, _<_, _^_};
 ghost use lib.ListN.{length};
 ghost use Rattle.decimal.specs.Decimal.{number, Within};
 ghost use Rattle.decimal.specs.Tail.{remaining};
-ghost use Rattle.piece.specs.Piece.{colon, kPiece, mPiece, SumsTo, Fed, Fronted};
+ghost use Rattle.text.specs.Text.{colon};
+ghost use Rattle.piece.specs.Piece.{kPiece, mPiece, SumsTo, Fed, Fronted};
 use decimal::Decimal;
 use decimal::Step;
 use decimal::Tail;
+use text::wide;
 
 const COLON: u8 = 58;
 
@@ -73,12 +74,6 @@ fn feed(tail: Tail, piece: Piece) -> Piece
             }
         }
     }
-}
-
-fn wide(b: u8) -> u64
-    ensures { λ r. ⌜ (r ≡ b) × (r < 256) ⌝ }
-{
-    b as u64
 }
 
 // The piece with a colon in front of it.

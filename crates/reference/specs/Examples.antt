@@ -3,7 +3,7 @@ use Prim.Native.Nat.{ℕ}
 use Prim.Native.String.{String}
 use mathlib.Core.Path.{_≡_, refl}
 use mathlib.Core.List.{List, [], _∷_, map}
-use Rattle.decimal.specs.Ascii.{ascii}
+use Rattle.text.specs.Text.{ascii}
 use Rattle.settings.specs.declared.Dialect.the-variants.{K, M}
 use Rattle.settings.specs.Settings.{Terms}
 use Rattle.level.specs.Ranked.{All}

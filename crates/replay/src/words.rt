@@ -1,4 +1,5 @@
 // The words of a script and of its replies: eight bytes each, the lowest first.
+use text::wide;
 ghost use mathlib.Core.Path.{_≡_};
 ghost use mathlib.Core.Bool.{true};
 ghost use Prim.Native.Nat.{_+_, _-_, _≤_, _<_};
@@ -25,12 +26,6 @@ const LAST_OPCODE: u64 = 5;
 
 // A reply begins with five words.
 pub const REPLY_WORDS: usize = 40;
-
-fn wide(b: u8) -> u64
-    ensures { λ r. ⌜ (r ≡ b) × (r < 256) ⌝ }
-{
-    b as u64
-}
 
 // The word at a position.
 pub fn word_at(s: &[u8], at: usize) -> u64

@@ -8,7 +8,8 @@ use borrow.Author.Tests.{ne-eqb, eqb-false}
 use lib.Dec.{eqb}
 use lib.ListN.{length, getD, take, drop, List·getD-append}
 use lib.Seq.{drop-drop, getD-drop, drop-append-seam, take-append-seam}
-use Rattle.json_tokens.specs.Bytes.{byteAt, blank, digit}
+use Rattle.text.specs.Text.{byteAt, isDigit}
+use Rattle.json_tokens.specs.Bytes.{blank}
 use Rattle.json_tokens.specs.Tokens.{blanks}
 use Rattle.json_tokens.proofs.Laws.{blanks-stop, in-some}
 use Rattle.json.specs.Json.{Span}
@@ -57,32 +58,32 @@ module _ {t : List ℕ} (h : Starts t) where
 
 -- ---- what follows a number: nothing that a number goes on with
 unfoldable pub goesOn : ℕ → Bool
-goesOn c = digit c || (eqb c 46 || (eqb c 101 || eqb c 69))
+goesOn c = isDigit c || (eqb c 46 || (eqb c 101 || eqb c 69))
 
 unfoldable pub Stops : List ℕ → Type 0
 Stops u = goesOn (getD u 0 0) ≡ false
 
 pub comma-stops : (u : List ℕ) → Stops (44 ∷ u)
-unfolding Stops goesOn digit
+unfolding Stops goesOn isDigit
 comma-stops u = refl
 
 pub array-stops : (u : List ℕ) → Stops (93 ∷ u)
-unfolding Stops goesOn digit
+unfolding Stops goesOn isDigit
 array-stops u = refl
 
 pub object-stops : (u : List ℕ) → Stops (125 ∷ u)
-unfolding Stops goesOn digit
+unfolding Stops goesOn isDigit
 object-stops u = refl
 
 pub nothing-stops : Stops []
-unfolding Stops goesOn digit
+unfolding Stops goesOn isDigit
 nothing-stops = refl
 
 by-or : (a b : Bool) → (a || b) ≡ false → (a ≡ false) × (b ≡ false)
 by-or true b h = absurd (true≢false h)
 by-or false b h = (refl, h)
 
-pub stops-is : (u : List ℕ) → Stops u → (digit (getD u 0 0) ≡ false) × (getD u 0 0 ≡ 46 → ⊥) × (getD u 0 0 ≡ 101 → ⊥) × (getD u 0 0 ≡ 69 → ⊥)
+pub stops-is : (u : List ℕ) → Stops u → (isDigit (getD u 0 0) ≡ false) × (getD u 0 0 ≡ 46 → ⊥) × (getD u 0 0 ≡ 101 → ⊥) × (getD u 0 0 ≡ 69 → ⊥)
 unfolding Stops goesOn
 stops-is u h =
     let a = by-or _ _ h in

@@ -5,7 +5,7 @@ use mathlib.Core.Bool.{Bool, true, false, _&&_}
 use mathlib.Core.List.{List, [], _∷_, _++_, map}
 use native.Mathlib.Omega.{arith}
 use borrow.Author.Tests.{ne-eqb, le-leb}
-use Rattle.decimal.specs.Ascii.{ascii}
+use Rattle.text.specs.Text.{ascii}
 use Rattle.decimal.specs.Digits.{Reading, reads, written}
 use Rattle.decimal.specs.Decimal.{Number, read, text, afterPoint}
 use Rattle.decimal.proofs.Digits.{Digits, none, one, digit-in, written-digits, fixed-digits}

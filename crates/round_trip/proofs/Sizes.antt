@@ -4,7 +4,7 @@ use mathlib.Core.Path.{_≡_, refl}
 use mathlib.Core.List.{List, [], _∷_, _++_, map}
 use native.Mathlib.Omega.{arith}
 use lib.ListN.{length, length-append}
-use Rattle.decimal.specs.Ascii.{ascii}
+use Rattle.text.specs.Text.{ascii}
 use Rattle.decimal.specs.Decimal.{Number, text}
 use Rattle.decimal.proofs.Text.{length-text}
 use Rattle.level.specs.Level.{PriceLevel}

@@ -5,8 +5,8 @@ use mathlib.Core.Bool.{true, false}
 use mathlib.Core.List.{List, [], _∷_, _++_, map, append-nil, append-assoc}
 use native.Mathlib.Omega.{arith}
 use lib.ListN.{length, length-append}
-use Rattle.decimal.specs.Ascii.{ascii}
-use Rattle.decimal.specs.Digits.{reads, isDigit, leading, valueFrom, written}
+use Rattle.text.specs.Text.{ascii, isDigit}
+use Rattle.decimal.specs.Digits.{reads, leading, valueFrom, written}
 use Rattle.decimal.specs.Decimal.{isWhole}
 use Rattle.decimal.specs.Whole.{readWhole}
 use Rattle.decimal.proofs.Digits.{written-digits}

@@ -8,9 +8,10 @@ use native.Mathlib.Omega.{arith}
 use lib.Dec.{eqb}
 use borrow.Author.Tests.{ne-eqb, le-ltb, leb-true, eqb-true, eqb-false, not-true}
 use lib.ListN.{length, getD, drop, length-append}
-use Rattle.decimal.specs.Digits.{isDigit, written, significant}
+use Rattle.text.specs.Text.{isDigit, byteAt}
+use Rattle.decimal.specs.Digits.{written, significant}
 use Rattle.decimal.proofs.Digits.{Digits, none, one, digit-in, written-digits, written-positive, significant-zero, first-significant}
-use Rattle.json_tokens.specs.Bytes.{byteAt, digit, unescaped}
+use Rattle.json_tokens.specs.Bytes.{unescaped}
 use Rattle.json_tokens.specs.Tokens.{At, Broken, run, digits, blanks, closing, separator, chars, stringRest, string, int, number}
 use Rattle.json_tokens.proofs.Laws.{closing-yes, closing-no, separator-yes, separator-no, string-yes, minus-no, int-zero, int-more, some-yes, fraction-none, exponent-none, number-is}
 use Rattle.writer.specs.Snapshot.{quoted}
@@ -78,8 +79,8 @@ string-here s i t u p h =
     ∙ ap At n
 
 -- ---- whole numbers
-run-digits : {w : List ℕ} → Digits w → (u : List ℕ) (i : ℕ) → digit (getD u 0 0) ≡ false → run digit (w ++ u) i ≡ i + length w
-unfolding run digit isDigit
+run-digits : {w : List ℕ} → Digits w → (u : List ℕ) (i : ℕ) → isDigit (getD u 0 0) ≡ false → run isDigit (w ++ u) i ≡ i + length w
+unfolding run isDigit
 run-digits none [] i h = omega arith
 run-digits none (c ∷ u) i h = rw (h, run) (omega arith)
 run-digits (one {c} {s = w} e d) u i h = rw (e, run) (run-digits d u (i + 1) h ∙ omega arith)
@@ -102,7 +103,7 @@ module _ (s : List ℕ) (i c : ℕ) (w u : List ℕ) (h : drop i s ≡ (c ∷ w)
   after = byte-here s ends-at u (past s i (c ∷ w) u h)
 
   the-int : int s i ≡ At ends-at
-  unfolding ends-at digit isDigit digits
+  unfolding ends-at isDigit digits
   the-int = at (eqb c 48) refl
     where
       at : (b : Bool) → eqb c 48 ≡ b → int s i ≡ At ends-at
@@ -112,8 +113,8 @@ module _ (s : List ℕ) (i c : ℕ) (w u : List ℕ) (h : drop i s ≡ (c ∷ w)
           int-zero s i (the-first ∙ q) ∙ ap At (omega arith)
       at false e =
           int-more s i (λ q. eqb-false c 48 e (sym the-first ∙ q))
-          ∙ some-yes s i (ap digit the-first ∙ first-digit d)
-          ∙ ap At (ap (λ (l : List ℕ). run digit l i) h ∙ run-digits d u i (stops-is u stop .0))
+          ∙ some-yes s i (ap isDigit the-first ∙ first-digit d)
+          ∙ ap At (ap (λ (l : List ℕ). run isDigit l i) h ∙ run-digits d u i (stops-is u stop .0))
 
   pub number-here : number s i ≡ At (i + length (c ∷ w))
   unfolding ends-at

@@ -6,9 +6,9 @@ use mathlib.Core.Bool.{true}
 use mathlib.Core.List.{List, [], _∷_, _++_, map, append-assoc}
 use native.Mathlib.Omega.{arith}
 use lib.ListN.{length, getD, drop, length-append}
-use Rattle.decimal.specs.Digits.{isDigit, written}
+use Rattle.text.specs.Text.{isDigit, byteAt}
+use Rattle.decimal.specs.Digits.{written}
 use Rattle.decimal.proofs.Digits.{Digits, none, one, digit-in}
-use Rattle.json_tokens.specs.Bytes.{byteAt}
 use Rattle.json_tokens.specs.Tokens.{At}
 use Rattle.json_tokens.proofs.Laws.{scalar-number}
 use Rattle.json.specs.Json.{Span, Pair, Next, item, items, listOf, itemsEnd, element, member, elements, members, value}

@@ -2,7 +2,7 @@
 use mathlib.Core.Path.{_≡_, refl}
 use mathlib.Core.List.{[], _∷_}
 use Prim.Native.Nat.{ℕ}
-use Rattle.decimal.specs.Ascii.{ascii}
+use Rattle.text.specs.Text.{ascii}
 use Rattle.decimal.specs.Digits.{fixed, significantIn, significant, written}
 use Rattle.decimal.specs.Decimal.{Number, text, afterPoint}
 use Rattle.writer.specs.Snapshot.{quoted, commaJoined, array, kEntry, kSnapshot, mEntry, mSnapshot}

@@ -6,7 +6,7 @@ use denote.Ref.{now}
 use mathlib.Core.Path.{_∙_, ap, sym}
 use native.Mathlib.Omega.{arith}
 use Rattle.json_tokens.proofs.Laws.{closing-no, closing-yes, end-is, end-none, in-byte}
-use Rattle.json_tokens.specs.Bytes.{byteAt}
+use Rattle.text.specs.Text.{byteAt}
 use Rattle.json_tokens.proofs.closing_end.Statement.{statement}
 use Rattle.json_tokens.proofs.closing_end.Tie as tie
 

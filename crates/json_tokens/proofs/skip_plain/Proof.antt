@@ -9,7 +9,7 @@ use mathlib.Core.List.{List}
 use mathlib.Core.Path.{_∙_, _≡_, ap, refl}
 use native.Mathlib.Omega.{arith}
 use Rattle.json_tokens.proofs.Words.{rest-special}
-use Rattle.json_tokens.specs.Bytes.{byteAt}
+use Rattle.text.specs.Text.{byteAt}
 use Rattle.json_tokens.specs.Tokens.{stringRest}
 use Rattle.json_tokens.specs.Words.{specialBytes, wordAt}
 use Rattle.json_tokens.proofs.skip_plain.Statement.{statement}

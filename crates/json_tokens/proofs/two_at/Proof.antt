@@ -4,7 +4,7 @@ use Prim.Native.Nat.{_+_}
 use borrow.Author.Needs.{needs}
 use denote.Ref.{now}
 use native.Mathlib.Omega.{arith}
-use Rattle.json_tokens.specs.Bytes.{byteAt}
+use Rattle.text.specs.Text.{byteAt}
 use Rattle.json_tokens.specs.Words.{twoAt}
 use Rattle.json_tokens.proofs.two_at.Statement.{statement}
 use Rattle.json_tokens.proofs.two_at.Tie as tie

@@ -3,7 +3,7 @@ use Prim.Native.Nat.{ℕ}
 use mathlib.Core.Path.{_≡_, refl, ap}
 use mathlib.Core.Bool.{Bool, true, false, cond}
 use mathlib.Core.List.{List, _++_}
-use Rattle.decimal.specs.Ascii.{ascii}
+use Rattle.text.specs.Text.{ascii}
 use Rattle.decimal.specs.Digits.{written}
 use Rattle.answer.specs.Answers.{number}
 use Rattle.writer.proofs.Owed.{Whole, owed-as, owed-rest-as, room-first-as, room-all, put-last}

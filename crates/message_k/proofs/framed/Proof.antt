@@ -5,7 +5,7 @@ use mathlib.Core.Bool.{_&&_, _||_}
 use mathlib.Core.List.{_++_}
 use mathlib.Core.Logic.{⊎-elim}
 use denote.Ref.{now}
-use Rattle.decimal.specs.Ascii.{ascii}
+use Rattle.text.specs.Text.{ascii}
 use Rattle.decimal.specs.Digits.{written}
 use Rattle.json.specs.Json.{Span}
 use Rattle.json.specs.Names.{means}

@@ -1,24 +1,62 @@
 -- `k_object` meets its contract: wherever the loop stands, what was told with what the members left will add is the answer.
 -- Assumes nothing.
-use mathlib.Core.Path.{sym, ap, _∙_}
-use Prim.Native.Nat.{_+_, _-_}
+use mathlib.Core.Path.{_≡_, sym, ap, _∙_}
+use mathlib.Core.List.{List}
+use Prim.Native.Nat.{ℕ, _+_, _-_}
 use borrow.Author.Needs.{needs}
 use denote.Ref.{now}
 use native.Mathlib.Omega.{arith}
 use lib.ListN.{length}
 use Rattle.json_tokens.proofs.Laws.{end-at, in-byte}
-use Rattle.json.specs.Json.{value}
-use Rattle.layout.proofs.Members.{Left, fold-empty, fold-start, fold-no-name, fold-no-colon, fold-no-value, member-places, fold-on, fold-last, fold-broken}
+use Rattle.json_tokens.specs.Tokens.{endOf}
+use Rattle.json.specs.Json.{Pair, wrong, member, members, value}
+use Rattle.json.proofs.Fold.{Loop, Left, Stands, pairAt, overMembers, no-name, no-colon, no-value, member-stands, fold-empty, fold-start, fold-wrong, fold-further, fold-on, fold-last, fold-broken}
 use Rattle.message_k.specs.MembersK.{withMember, noMembers, closedAt, membersAt}
+use Rattle.message_k.specs.declared.Members.{Members}
 use Rattle.message_k.proofs.Objects.{no-object, object-fold}
 use Rattle.message_k.proofs.k_object.Statement.{statement}
 use Rattle.message_k.proofs.k_object.Tie as tie
 
+abbrev over : List ℕ → Loop Pair Members Members
+over s = overMembers 14 s (withMember s) closedAt (noMembers 0)
+
 abbrev Inv-loop : tie.InvT-loop
-Inv-loop s at none i₀ members₀ i members = Left (withMember s) closedAt (noMembers 0) 14 s members i (membersAt s members₀ at)
+Inv-loop s at none i₀ members₀ i members = Left (over s) members i (membersAt s members₀ at)
 
 abbrev μ-loop : tie.MeasureT-loop
 μ-loop s at none i₀ members₀ i members = length s - i
+
+-- where a member is to begin
+abbrev At : Type 0
+At = tie.At-loop Inv-loop μ-loop
+
+abbrev text : At → List ℕ
+text c = now (c .before .before .before .before .before .before .before .args .s)
+
+-- the member there was read
+module _ (c : tie.After-k-member Inv-loop μ-loop) where
+  abbrev at : At
+  at = c .before .before .before .before .before
+
+  abbrev next : Members
+  next = c .k-member .result
+
+  abbrev here : Pair
+  here = pairAt (at .loop .i) (c .before .before .before .before .string-end .result) (c .before .before .colon-end .result) (next .end)
+
+  ends : next .end ≡ endOf (value 14 (text at) (c .before .before .colon-end .result))
+  ends = c .k-member .ensures .ends
+
+  none : next .end ≡ 0 → member (value 14 (text at)) (text at) (at .loop .i) ≡ wrong
+  none =
+      no-value 14 (text at) (at .loop .i) (c .before .before .before .before .string-end .result) (c .before .before .before .before .string-end .ensures) (c .before .before .before .if3 .left) (c .before .before .colon-end .result) (c .before .before .colon-end .ensures) (c .before .if4 .left) (next .end) ends
+
+  stands : (next .end ≡ 0 → ⊥) → Stands (member (value 14 (text at)) (text at)) (text at) (at .loop .i) here (next .end)
+  stands =
+      member-stands 14 (text at) (at .loop .i) (c .before .before .before .before .string-end .result) (c .before .before .before .before .string-end .ensures) (c .before .before .before .if3 .left) (c .before .before .colon-end .result) (c .before .before .colon-end .ensures) (c .before .if4 .left) (next .end) ends
+
+  steps : (next .end ≡ 0 → ⊥) → next ≡ withMember (text at) (at .loop .members) here
+  steps n = c .k-member .ensures .told (next .end) (end-at (value 14 (text at) (c .before .before .colon-end .result)) (next .end) ends n)
 
 byte-at-requires : tie.Need-byte-at-requires Inv-loop μ-loop
 byte-at-requires c κs = search needs
@@ -48,10 +86,11 @@ closed-requires : tie.Need-closed-requires Inv-loop μ-loop
 closed-requires c κs = search needs
 
 returns-2 : tie.Need-returns-2 Inv-loop μ-loop
+unfolding members
 returns-2 c =
     let a = c .before .before .before .before .before .before .args in
     let s = now (a .s) in
-    c .closed .ensures ∙ fold-empty (withMember s) closedAt (noMembers 0) 14 s (a .before) (a .at + 1) (c .before .before .object-close-end .result) (c .before .before .object-close-end .ensures) (c .before .if2 .taken) ∙ object-fold s (a .before) (a .at) (sym (c .before .before .before .before .byte-at .ensures) ∙ c .before .before .before .if1 .left)
+    c .closed .ensures ∙ fold-empty (over s) (a .before) (a .at + 1) (c .before .before .object-close-end .result) (c .before .before .object-close-end .ensures) (c .before .if2 .taken) ∙ object-fold s (a .before) (a .at) (sym (c .before .before .before .before .byte-at .ensures) ∙ c .before .before .before .if1 .left)
 
 add-skip-blanks : tie.Need-add-skip-blanks Inv-loop μ-loop
 add-skip-blanks c =
@@ -63,10 +102,11 @@ skip-blanks-requires : tie.Need-skip-blanks-requires Inv-loop μ-loop
 skip-blanks-requires c κs = search needs
 
 loop-holds : tie.Need-loop-holds Inv-loop μ-loop
+unfolding members
 loop-holds c =
     let a = c .before .before .before .before .before .before .args in
     let s = now (a .s) in
-    rw (object-fold s (a .before) (a .at) (sym (c .before .before .before .before .byte-at .ensures) ∙ c .before .before .before .if1 .left)) at (fold-start (withMember s) closedAt (noMembers 0) 14 s (a .before) (a .at + 1) (c .before .before .object-close-end .result) (c .before .before .object-close-end .ensures) (c .before .if2 .left) (c .skip-blanks .result) (c .skip-blanks .ensures))
+    rw (object-fold s (a .before) (a .at) (sym (c .before .before .before .before .byte-at .ensures) ∙ c .before .before .before .if1 .left)) at (fold-start (over s) (a .before) (a .at + 1) (c .before .before .object-close-end .result) (c .before .before .object-close-end .ensures) (c .before .if2 .left) (c .skip-blanks .result) (c .skip-blanks .ensures))
 
 string-end-requires : tie.Need-string-end-requires Inv-loop μ-loop
 string-end-requires c κs = search needs
@@ -76,13 +116,8 @@ no-members-requires-2 c κs = search needs
 
 returns-3 : tie.Need-returns-3 Inv-loop μ-loop
 returns-3 c =
-    let a = c .before .before .before .before .before .before .before .before .before .before .args in
-    let s = now (a .s) in
-    let w = c .before .before .before .loop .inv in
-    let t = c .before .before .before .loop .members in
-    let k = c .before .before .string-end .result in
-    let p = c .before .before .string-end .ensures in
-    c .no-members2 .ensures ∙ fold-no-name (withMember s) closedAt (noMembers 0) 14 s t w k p (c .before .if3 .taken)
+    let a = c .before .before .before in
+    c .no-members2 .ensures ∙ fold-wrong (over (text a)) (a .loop .members) (a .loop .inv) (no-name 14 (text a) (a .loop .i) (c .before .before .string-end .result) (c .before .before .string-end .ensures) (c .before .if3 .taken))
 
 colon-end-requires : tie.Need-colon-end-requires Inv-loop μ-loop
 colon-end-requires c κs = search needs
@@ -92,15 +127,8 @@ no-members-requires-3 c κs = search needs
 
 returns-4 : tie.Need-returns-4 Inv-loop μ-loop
 returns-4 c =
-    let a = c .before .before .before .before .before .before .before .before .before .before .before .before .args in
-    let s = now (a .s) in
-    let w = c .before .before .before .before .before .loop .inv in
-    let t = c .before .before .before .before .before .loop .members in
-    let k = c .before .before .before .before .string-end .result in
-    let p = c .before .before .before .before .string-end .ensures in
-    let j = c .before .before .colon-end .result in
-    let q = c .before .before .colon-end .ensures in
-    c .no-members3 .ensures ∙ fold-no-colon (withMember s) closedAt (noMembers 0) 14 s t w k p (c .before .before .before .if3 .left) j q (c .before .if4 .taken)
+    let a = c .before .before .before .before .before in
+    c .no-members3 .ensures ∙ fold-wrong (over (text a)) (a .loop .members) (a .loop .inv) (no-colon 14 (text a) (a .loop .i) (c .before .before .before .before .string-end .result) (c .before .before .before .before .string-end .ensures) (c .before .before .before .if3 .left) (c .before .before .colon-end .result) (c .before .before .colon-end .ensures) (c .before .if4 .taken))
 
 k-member-requires : tie.Need-k-member-requires Inv-loop μ-loop
 k-member-requires c κs = search needs
@@ -110,17 +138,8 @@ no-members-requires-4 c κs = search needs
 
 returns-5 : tie.Need-returns-5 Inv-loop μ-loop
 returns-5 c =
-    let a = c .before .before .before .before .before .before .before .before .before .before .before .before .before .before .args in
-    let s = now (a .s) in
-    let w = c .before .before .before .before .before .before .before .loop .inv in
-    let t = c .before .before .before .before .before .before .before .loop .members in
-    let k = c .before .before .before .before .before .before .string-end .result in
-    let p = c .before .before .before .before .before .before .string-end .ensures in
-    let j = c .before .before .before .before .colon-end .result in
-    let q = c .before .before .before .before .colon-end .ensures in
-    let m = c .before .before .k-member .result in
-    let r = c .before .before .k-member .ensures in
-    c .no-members4 .ensures ∙ fold-no-value (withMember s) closedAt (noMembers 0) 14 s t w k p (c .before .before .before .before .before .if3 .left) j q (c .before .before .before .if4 .left) (m .end) (r .ends) (c .before .if5 .taken)
+    let m = c .before .before in
+    c .no-members4 .ensures ∙ fold-wrong (over (text (at m))) (at m .loop .members) (at m .loop .inv) (none m (c .before .if5 .taken))
 
 comma-end-requires : tie.Need-comma-end-requires Inv-loop μ-loop
 comma-end-requires c κs = search needs
@@ -133,64 +152,27 @@ no-members-requires-5 c κs = search needs
 
 returns-6 : tie.Need-returns-6 Inv-loop μ-loop
 returns-6 c =
-    let a = c .before .before .before .before .before .before .before .before .before .before .before .before .before .before .before .before .before .before .args in
-    let s = now (a .s) in
-    let w = c .before .before .before .before .before .before .before .before .before .before .before .loop .inv in
-    let t = c .before .before .before .before .before .before .before .before .before .before .before .loop .members in
-    let k = c .before .before .before .before .before .before .before .before .before .before .string-end .result in
-    let p = c .before .before .before .before .before .before .before .before .before .before .string-end .ensures in
-    let j = c .before .before .before .before .before .before .before .before .colon-end .result in
-    let q = c .before .before .before .before .before .before .before .before .colon-end .ensures in
-    let m = c .before .before .before .before .before .before .k-member .result in
-    let r = c .before .before .before .before .before .before .k-member .ensures in
-    c .no-members5 .ensures ∙ fold-broken (withMember s) closedAt (noMembers 0) 14 s t w k p (c .before .before .before .before .before .before .before .before .before .if3 .left) j q (c .before .before .before .before .before .before .before .if4 .left) (m .end) (r .ends) (c .before .before .before .before .before .if5 .left) (c .before .before .before .before .comma-end .result) (c .before .before .before .before .comma-end .ensures) (c .before .before .before .if6 .taken) (c .before .before .object-close-end2 .result) (c .before .before .object-close-end2 .ensures) (c .before .if7 .taken)
+    let m = c .before .before .before .before .before .before in
+    c .no-members5 .ensures ∙ fold-broken (over (text (at m))) (at m .loop .members) (at m .loop .inv) (stands m (c .before .before .before .before .before .if5 .left)) (c .before .before .before .before .comma-end .result) (c .before .before .before .before .comma-end .ensures) (c .before .before .before .if6 .taken) (c .before .before .object-close-end2 .result) (c .before .before .object-close-end2 .ensures) (c .before .if7 .taken)
 
 closed-requires-2 : tie.Need-closed-requires-2 Inv-loop μ-loop
 closed-requires-2 c κs = search needs
 
 returns-7 : tie.Need-returns-7 Inv-loop μ-loop
 returns-7 c =
-    let a = c .before .before .before .before .before .before .before .before .before .before .before .before .before .before .before .before .before .before .args in
-    let s = now (a .s) in
-    let w = c .before .before .before .before .before .before .before .before .before .before .before .loop .inv in
-    let t = c .before .before .before .before .before .before .before .before .before .before .before .loop .members in
-    let k = c .before .before .before .before .before .before .before .before .before .before .string-end .result in
-    let p = c .before .before .before .before .before .before .before .before .before .before .string-end .ensures in
-    let j = c .before .before .before .before .before .before .before .before .colon-end .result in
-    let q = c .before .before .before .before .before .before .before .before .colon-end .ensures in
-    let m = c .before .before .before .before .before .before .k-member .result in
-    let r = c .before .before .before .before .before .before .k-member .ensures in
-    c .closed2 .ensures ∙ fold-last (withMember s) closedAt (noMembers 0) 14 s t w k p (c .before .before .before .before .before .before .before .before .before .if3 .left) j q (c .before .before .before .before .before .before .before .if4 .left) (m .end) (r .ends) (c .before .before .before .before .before .if5 .left) (c .before .before .before .before .comma-end .result) (c .before .before .before .before .comma-end .ensures) (c .before .before .before .if6 .taken) (c .before .before .object-close-end2 .result) (c .before .before .object-close-end2 .ensures) (c .before .if7 .left) m (r .told (m .end) (end-at (value 14 s j) (m .end) (r .ends) (c .before .before .before .before .before .if5 .left)))
+    let m = c .before .before .before .before .before .before in
+    c .closed2 .ensures ∙ fold-last (over (text (at m))) (at m .loop .members) (at m .loop .inv) (stands m (c .before .before .before .before .before .if5 .left)) (c .before .before .before .before .comma-end .result) (c .before .before .before .before .comma-end .ensures) (c .before .before .before .if6 .taken) (c .before .before .object-close-end2 .result) (c .before .before .object-close-end2 .ensures) (c .before .if7 .left) (steps m (c .before .before .before .before .before .if5 .left))
 
 loop-less : tie.Need-loop-less Inv-loop μ-loop
 loop-less c =
-    let a = c .before .before .before .before .before .before .before .before .before .before .before .before .before .before .before .args in
-    let s = now (a .s) in
-    let w = c .before .before .before .before .before .before .before .before .loop .inv in
-    let t = c .before .before .before .before .before .before .before .before .loop .members in
-    let k = c .before .before .before .before .before .before .before .string-end .result in
-    let p = c .before .before .before .before .before .before .before .string-end .ensures in
-    let j = c .before .before .before .before .before .colon-end .result in
-    let q = c .before .before .before .before .before .colon-end .ensures in
-    let m = c .before .before .before .k-member .result in
-    let r = c .before .before .before .k-member .ensures in
-    let x = member-places (withMember s) closedAt (noMembers 0) 14 s t w k p (c .before .before .before .before .before .before .if3 .left) j q (c .before .before .before .before .if4 .left) (m .end) (r .ends) (c .before .before .if5 .left) in
-    let y = fold-on (withMember s) closedAt (noMembers 0) 14 s t w k p (c .before .before .before .before .before .before .if3 .left) j q (c .before .before .before .before .if4 .left) (m .end) (r .ends) (c .before .before .if5 .left) (c .before .comma-end .result) (c .before .comma-end .ensures) (c .if6 .left) m (r .told (m .end) (end-at (value 14 s j) (m .end) (r .ends) (c .before .before .if5 .left))) in
+    let m = c .before .before .before in
+    let f = fold-further (over (text (at m))) (at m .loop .members) (at m .loop .inv) (stands m (c .before .before .if5 .left)) (c .before .comma-end .result) (c .before .comma-end .ensures) (c .if6 .left) in
     omega arith
 
 loop-again : tie.Need-loop-again Inv-loop μ-loop
 loop-again c =
-    let a = c .before .before .before .before .before .before .before .before .before .before .before .before .before .before .before .args in
-    let s = now (a .s) in
-    let w = c .before .before .before .before .before .before .before .before .loop .inv in
-    let t = c .before .before .before .before .before .before .before .before .loop .members in
-    let k = c .before .before .before .before .before .before .before .string-end .result in
-    let p = c .before .before .before .before .before .before .before .string-end .ensures in
-    let j = c .before .before .before .before .before .colon-end .result in
-    let q = c .before .before .before .before .before .colon-end .ensures in
-    let m = c .before .before .before .k-member .result in
-    let r = c .before .before .before .k-member .ensures in
-    fold-on (withMember s) closedAt (noMembers 0) 14 s t w k p (c .before .before .before .before .before .before .if3 .left) j q (c .before .before .before .before .if4 .left) (m .end) (r .ends) (c .before .before .if5 .left) (c .before .comma-end .result) (c .before .comma-end .ensures) (c .if6 .left) m (r .told (m .end) (end-at (value 14 s j) (m .end) (r .ends) (c .before .before .if5 .left))) .1
+    let m = c .before .before .before in
+    fold-on (over (text (at m))) (at m .loop .members) (at m .loop .inv) (stands m (c .before .before .if5 .left)) (c .before .comma-end .result) (c .before .comma-end .ensures) (c .if6 .left) (steps m (c .before .before .if5 .left))
 
 pub k-object-spec : {M : Type 1} → statement M
 k-object-spec =

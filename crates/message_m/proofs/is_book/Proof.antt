@@ -2,7 +2,7 @@
 -- Assumes nothing.
 use denote.Ref.{now}
 use mathlib.Core.Path.{_∙_, ap}
-use Rattle.decimal.specs.Ascii.{ascii}
+use Rattle.text.specs.Text.{ascii}
 use Rattle.json.specs.Json.{Span}
 use Rattle.json.specs.Names.{means}
 use Rattle.message_m.proofs.Steps.{book-name, and-yes, and-no}

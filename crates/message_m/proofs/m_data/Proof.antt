@@ -1,22 +1,60 @@
 -- `message_m::m_data` meets its contract: wherever the loop stands, the sides that were met with those of the members left are the answer.
 -- Assumes nothing.
 use borrow.Author.Needs.{needs}
-use Prim.Native.Nat.{_-_}
+use Prim.Native.Nat.{ℕ, _-_}
 use denote.Ref.{now}
 use lib.ListN.{length}
 use native.Mathlib.Omega.{arith}
 use Rattle.json_tokens.proofs.Laws.{in-byte}
-use mathlib.Core.Path.{_∙_, sym}
-use Rattle.message_m.proofs.Objects.{Rest, no-name, no-colon, no-value, value-places, next-member, last-member, no-brace}
-use Rattle.message_m.proofs.Whole.{dataLoop, dataAt, data-none, data-empty, data-start}
+use mathlib.Core.Path.{_≡_, _∙_, sym}
+use mathlib.Core.List.{List}
+use Rattle.json_tokens.specs.Tokens.{endOf}
+use Rattle.json.specs.Json.{Pair, wrong, member, value}
+use Rattle.json.proofs.Fold.{Left, Stands, pairAt, no-name, no-colon, no-value, member-stands, fold-wrong, fold-further, fold-on, fold-last, fold-broken}
+use Rattle.message_m.specs.Collected.{moreData}
+use Rattle.message_m.specs.declared.Data.{Data}
+use Rattle.message_m.proofs.Objects.{value-ends, next-is}
+use Rattle.message_m.proofs.Whole.{dataLoop, dataAt, data-ends, data-none, data-empty, data-start}
 use Rattle.message_m.proofs.m_data.Statement.{statement}
 use Rattle.message_m.proofs.m_data.Tie as tie
 
 abbrev Inv-loop : tie.InvT-loop
-Inv-loop s at none i₀ met₀ i met = Rest (dataLoop s) 14 s met i (dataAt s at)
+Inv-loop s at none i₀ met₀ i met = Left (dataLoop s) met i (dataAt s at)
 
 abbrev μ-loop : tie.MeasureT-loop
 μ-loop s at none i₀ met₀ i met = length s - i
+
+-- where a member is to begin
+abbrev At : Type 0
+At = tie.At-loop Inv-loop μ-loop
+
+abbrev text : At → List ℕ
+text c = now (c .before .before .before .before .before .before .before .before .args .s)
+
+-- the member there was read
+module _ (c : tie.After-more-data Inv-loop μ-loop) where
+  abbrev at : At
+  at = c .before .before .before .before .before
+
+  abbrev next : Data
+  next = c .more-data .result
+
+  abbrev here : Pair
+  here = pairAt (at .loop .i) (c .before .before .before .before .string-end .result) (c .before .before .colon-end .result) (next .end)
+
+  ends : next .end ≡ endOf (value 14 (text at) (c .before .before .colon-end .result))
+  ends = value-ends (moreData (text at)) (λ (d : Data). d .end) (data-ends (text at)) 14 (text at) (at .loop .met) (at .loop .i) (c .before .before .before .before .string-end .result) (c .before .before .colon-end .result) next (c .more-data .ensures)
+
+  none : next .end ≡ 0 → member (value 14 (text at)) (text at) (at .loop .i) ≡ wrong
+  none =
+      no-value 14 (text at) (at .loop .i) (c .before .before .before .before .string-end .result) (c .before .before .before .before .string-end .ensures) (c .before .before .before .if3 .left) (c .before .before .colon-end .result) (c .before .before .colon-end .ensures) (c .before .if4 .left) (next .end) ends
+
+  stands : (next .end ≡ 0 → ⊥) → Stands (member (value 14 (text at)) (text at)) (text at) (at .loop .i) here (next .end)
+  stands =
+      member-stands 14 (text at) (at .loop .i) (c .before .before .before .before .string-end .result) (c .before .before .before .before .string-end .ensures) (c .before .before .before .if3 .left) (c .before .before .colon-end .result) (c .before .before .colon-end .ensures) (c .before .if4 .left) (next .end) ends
+
+  steps : next ≡ moreData (text at) (at .loop .met) here
+  steps = next-is (moreData (text at)) (λ (d : Data). d .end) (data-ends (text at)) 14 (text at) (at .loop .met) (at .loop .i) (c .before .before .before .before .string-end .result) (c .before .before .colon-end .result) next (c .more-data .ensures)
 
 byte-at-requires : tie.Need-byte-at-requires Inv-loop μ-loop
 byte-at-requires c κs = search needs
@@ -82,13 +120,8 @@ no-data-requires-4 c κs = search needs
 
 returns-3 : tie.Need-returns-3 Inv-loop μ-loop
 returns-3 c =
-    let a = c .before .before .before .before .before .before .before .before .before .before .before .args in
-    let s = now (a .s) in
-    let met = c .before .before .before .loop .met in
-    let w = c .before .before .before .loop .inv in
-    let k = c .before .before .string-end .result in
-    let p = c .before .before .string-end .ensures in
-    c .no-data4 .ensures ∙ no-name (dataLoop s) 14 s met w k p (c .before .if3 .taken)
+    let a = c .before .before .before in
+    c .no-data4 .ensures ∙ fold-wrong (dataLoop (text a)) (a .loop .met) (a .loop .inv) (no-name 14 (text a) (a .loop .i) (c .before .before .string-end .result) (c .before .before .string-end .ensures) (c .before .if3 .taken))
 
 colon-end-requires : tie.Need-colon-end-requires Inv-loop μ-loop
 colon-end-requires c κs = search needs
@@ -98,16 +131,8 @@ no-data-requires-5 c κs = search needs
 
 returns-4 : tie.Need-returns-4 Inv-loop μ-loop
 returns-4 c =
-    let a = c .before .before .before .before .before .before .before .before .before .before .before .before .before .args in
-    let s = now (a .s) in
-    let met = c .before .before .before .before .before .loop .met in
-    let w = c .before .before .before .before .before .loop .inv in
-    let k = c .before .before .before .before .string-end .result in
-    let p = c .before .before .before .before .string-end .ensures in
-    let k≢0 = c .before .before .before .if3 .left in
-    let j = c .before .before .colon-end .result in
-    let q = c .before .before .colon-end .ensures in
-    c .no-data5 .ensures ∙ no-colon (dataLoop s) 14 s met w k p k≢0 j q (c .before .if4 .taken)
+    let a = c .before .before .before .before .before in
+    c .no-data5 .ensures ∙ fold-wrong (dataLoop (text a)) (a .loop .met) (a .loop .inv) (no-colon 14 (text a) (a .loop .i) (c .before .before .before .before .string-end .result) (c .before .before .before .before .string-end .ensures) (c .before .before .before .if3 .left) (c .before .before .colon-end .result) (c .before .before .colon-end .ensures) (c .before .if4 .taken))
 
 more-data-requires : tie.Need-more-data-requires Inv-loop μ-loop
 more-data-requires c κs = search needs
@@ -117,19 +142,8 @@ no-data-requires-6 c κs = search needs
 
 returns-5 : tie.Need-returns-5 Inv-loop μ-loop
 returns-5 c =
-    let a = c .before .before .before .before .before .before .before .before .before .before .before .before .before .before .before .args in
-    let s = now (a .s) in
-    let met = c .before .before .before .before .before .before .before .loop .met in
-    let w = c .before .before .before .before .before .before .before .loop .inv in
-    let k = c .before .before .before .before .before .before .string-end .result in
-    let p = c .before .before .before .before .before .before .string-end .ensures in
-    let k≢0 = c .before .before .before .before .before .if3 .left in
-    let j = c .before .before .before .before .colon-end .result in
-    let q = c .before .before .before .before .colon-end .ensures in
-    let j≢0 = c .before .before .before .if4 .left in
-    let next = c .before .before .more-data .result in
-    let g = c .before .before .more-data .ensures in
-    c .no-data6 .ensures ∙ no-value (dataLoop s) 14 s met w k p k≢0 j q j≢0 next g (c .before .if5 .taken)
+    let m = c .before .before in
+    c .no-data6 .ensures ∙ fold-wrong (dataLoop (text (at m))) (at m .loop .met) (at m .loop .inv) (none m (c .before .if5 .taken))
 
 comma-end-requires : tie.Need-comma-end-requires Inv-loop μ-loop
 comma-end-requires c κs = search needs
@@ -142,95 +156,27 @@ no-data-requires-7 c κs = search needs
 
 returns-6 : tie.Need-returns-6 Inv-loop μ-loop
 returns-6 c =
-    let a = c .before .before .before .before .before .before .before .before .before .before .before .before .before .before .before .before .before .before .before .args in
-    let s = now (a .s) in
-    let met = c .before .before .before .before .before .before .before .before .before .before .before .loop .met in
-    let w = c .before .before .before .before .before .before .before .before .before .before .before .loop .inv in
-    let k = c .before .before .before .before .before .before .before .before .before .before .string-end .result in
-    let p = c .before .before .before .before .before .before .before .before .before .before .string-end .ensures in
-    let k≢0 = c .before .before .before .before .before .before .before .before .before .if3 .left in
-    let j = c .before .before .before .before .before .before .before .before .colon-end .result in
-    let q = c .before .before .before .before .before .before .before .before .colon-end .ensures in
-    let j≢0 = c .before .before .before .before .before .before .before .if4 .left in
-    let next = c .before .before .before .before .before .before .more-data .result in
-    let g = c .before .before .before .before .before .before .more-data .ensures in
-    let n = c .before .before .before .before .before .if5 .left in
-    let l = c .before .before .before .before .comma-end .result in
-    let comma = c .before .before .before .before .comma-end .ensures in
-    let z = c .before .before .before .if6 .taken in
-    let u = c .before .before .object-close-end2 .result in
-    let x = c .before .before .object-close-end2 .ensures in
-    c .no-data7 .ensures ∙ no-brace (dataLoop s) 14 s met w k p k≢0 j q j≢0 next g n l comma z u x (c .before .if7 .taken)
+    let m = c .before .before .before .before .before .before in
+    c .no-data7 .ensures ∙ fold-broken (dataLoop (text (at m))) (at m .loop .met) (at m .loop .inv) (stands m (c .before .before .before .before .before .if5 .left)) (c .before .before .before .before .comma-end .result) (c .before .before .before .before .comma-end .ensures) (c .before .before .before .if6 .taken) (c .before .before .object-close-end2 .result) (c .before .before .object-close-end2 .ensures) (c .before .if7 .taken)
 
 data-end-requires : tie.Need-data-end-requires Inv-loop μ-loop
 data-end-requires c κs = search needs
 
 returns-7 : tie.Need-returns-7 Inv-loop μ-loop
 returns-7 c =
-    let a = c .before .before .before .before .before .before .before .before .before .before .before .before .before .before .before .before .before .before .before .args in
-    let s = now (a .s) in
-    let met = c .before .before .before .before .before .before .before .before .before .before .before .loop .met in
-    let w = c .before .before .before .before .before .before .before .before .before .before .before .loop .inv in
-    let k = c .before .before .before .before .before .before .before .before .before .before .string-end .result in
-    let p = c .before .before .before .before .before .before .before .before .before .before .string-end .ensures in
-    let k≢0 = c .before .before .before .before .before .before .before .before .before .if3 .left in
-    let j = c .before .before .before .before .before .before .before .before .colon-end .result in
-    let q = c .before .before .before .before .before .before .before .before .colon-end .ensures in
-    let j≢0 = c .before .before .before .before .before .before .before .if4 .left in
-    let next = c .before .before .before .before .before .before .more-data .result in
-    let g = c .before .before .before .before .before .before .more-data .ensures in
-    let n = c .before .before .before .before .before .if5 .left in
-    let l = c .before .before .before .before .comma-end .result in
-    let comma = c .before .before .before .before .comma-end .ensures in
-    let z = c .before .before .before .if6 .taken in
-    let u = c .before .before .object-close-end2 .result in
-    let x = c .before .before .object-close-end2 .ensures in
-    c .data-end .ensures ∙ last-member (dataLoop s) 14 s met w k p k≢0 j q j≢0 next g n l comma z u x (c .before .if7 .left)
+    let m = c .before .before .before .before .before .before in
+    c .data-end .ensures ∙ fold-last (dataLoop (text (at m))) (at m .loop .met) (at m .loop .inv) (stands m (c .before .before .before .before .before .if5 .left)) (c .before .before .before .before .comma-end .result) (c .before .before .before .before .comma-end .ensures) (c .before .before .before .if6 .taken) (c .before .before .object-close-end2 .result) (c .before .before .object-close-end2 .ensures) (c .before .if7 .left) (steps m)
 
 loop-less : tie.Need-loop-less Inv-loop μ-loop
 loop-less c =
-    let a = c .before .before .before .before .before .before .before .before .before .before .before .before .before .before .before .before .args in
-    let s = now (a .s) in
-    let met = c .before .before .before .before .before .before .before .before .loop .met in
-    let w = c .before .before .before .before .before .before .before .before .loop .inv in
-    let k = c .before .before .before .before .before .before .before .string-end .result in
-    let p = c .before .before .before .before .before .before .before .string-end .ensures in
-    let k≢0 = c .before .before .before .before .before .before .if3 .left in
-    let j = c .before .before .before .before .before .colon-end .result in
-    let q = c .before .before .before .before .before .colon-end .ensures in
-    let j≢0 = c .before .before .before .before .if4 .left in
-    let next = c .before .before .before .more-data .result in
-    let g = c .before .before .before .more-data .ensures in
-    let n = c .before .before .if5 .left in
-    let l = c .before .comma-end .result in
-    let comma = c .before .comma-end .ensures in
-    let y = next-member (dataLoop s) 14 s met w k p k≢0 j q j≢0 next g n l comma (c .if6 .left) in
-    let b = value-places (dataLoop s) 14 s met w k p k≢0 j q j≢0 next g n in
-    let b0 = b .0 in
-    let b1 = b .1 in
-    let b2 = b .2 in
-    let y0 = y .0 in
+    let m = c .before .before .before in
+    let f = fold-further (dataLoop (text (at m))) (at m .loop .met) (at m .loop .inv) (stands m (c .before .before .if5 .left)) (c .before .comma-end .result) (c .before .comma-end .ensures) (c .if6 .left) in
     omega arith
 
 loop-again : tie.Need-loop-again Inv-loop μ-loop
 loop-again c =
-    let a = c .before .before .before .before .before .before .before .before .before .before .before .before .before .before .before .before .args in
-    let s = now (a .s) in
-    let met = c .before .before .before .before .before .before .before .before .loop .met in
-    let w = c .before .before .before .before .before .before .before .before .loop .inv in
-    let k = c .before .before .before .before .before .before .before .string-end .result in
-    let p = c .before .before .before .before .before .before .before .string-end .ensures in
-    let k≢0 = c .before .before .before .before .before .before .if3 .left in
-    let j = c .before .before .before .before .before .colon-end .result in
-    let q = c .before .before .before .before .before .colon-end .ensures in
-    let j≢0 = c .before .before .before .before .if4 .left in
-    let next = c .before .before .before .more-data .result in
-    let g = c .before .before .before .more-data .ensures in
-    let n = c .before .before .if5 .left in
-    let l = c .before .comma-end .result in
-    let comma = c .before .comma-end .ensures in
-    let y = next-member (dataLoop s) 14 s met w k p k≢0 j q j≢0 next g n l comma (c .if6 .left) in
-    y .1
+    let m = c .before .before .before in
+    fold-on (dataLoop (text (at m))) (at m .loop .met) (at m .loop .inv) (stands m (c .before .before .if5 .left)) (c .before .comma-end .result) (c .before .comma-end .ensures) (c .if6 .left) (steps m)
 
 pub m-data-spec : {M : Type 1} → statement M
 m-data-spec =

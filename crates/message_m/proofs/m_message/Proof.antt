@@ -1,26 +1,72 @@
 -- `message_m::m_message` meets its contract: wherever the loop stands, the members that were met with those left make the answer.
 -- Assumes nothing.
 use borrow.Author.Needs.{needs}
-use Prim.Native.Nat.{_-_}
+use Prim.Native.Nat.{ℕ, _-_, _≤_}
 use denote.Ref.{now}
 use lib.ListN.{length}
 use native.Mathlib.Omega.{arith}
 use Rattle.json_tokens.proofs.Laws.{in-byte}
-use Prim.Native.Nat.{_≤_}
-use mathlib.Core.Path.{_∙_, ap, refl, sym}
+use mathlib.Core.Path.{_≡_, _∙_, ap, refl, sym}
+use mathlib.Core.List.{List}
+use Rattle.json_tokens.specs.Tokens.{endOf}
+use Rattle.json.specs.Json.{Pair, wrong, member, value}
+use Rattle.json.proofs.Fold.{Left, Stands, pairAt, no-name, no-colon, no-value, member-places, member-stands, fold-wrong, fold-further, fold-on, fold-last, fold-broken}
 use Rattle.layout.specs.Told.{toldAt}
 use Rattle.message_m.specs.LayoutM.{heardM}
-use Rattle.message_m.specs.Collected.{toldIn}
-use Rattle.message_m.proofs.Objects.{Rest, no-name, no-colon, no-value, value-places, next-member, last-member, no-brace}
-use Rattle.message_m.proofs.Whole.{messageLoop, Marked, marked-more, unmarked-placed, told-none, told-empty, told-start}
+use Rattle.message_m.specs.Collected.{moreMembers, toldIn}
+use Rattle.message_m.specs.declared.Members.{Members}
+use Rattle.message_m.proofs.Objects.{value-ends, next-is}
+use Rattle.message_m.proofs.Whole.{messageLoop, members-end, Marked, marked-more, unmarked-placed, told-none, told-empty, told-start}
 use Rattle.message_m.proofs.m_message.Statement.{statement}
 use Rattle.message_m.proofs.m_message.Tie as tie
 
 abbrev Inv-loop : tie.InvT-loop
-Inv-loop s at name none i₀ met₀ i met = Rest (messageLoop name s) 15 s met i (toldAt (heardM name) s at) × Marked s met
+Inv-loop s at name none i₀ met₀ i met = Left (messageLoop name s) met i (toldAt (heardM name) s at) × Marked s met
 
 abbrev μ-loop : tie.MeasureT-loop
 μ-loop s at name none i₀ met₀ i met = length s - i
+
+-- where a member is to begin
+abbrev At : Type 0
+At = tie.At-loop Inv-loop μ-loop
+
+abbrev text : At → List ℕ
+text c = now (c .before .before .before .before .before .before .before .before .before .args .s)
+
+abbrev product : At → List ℕ
+product c = now (c .before .before .before .before .before .before .before .before .before .args .name)
+
+-- the member there was read
+module _ (c : tie.After-more-members Inv-loop μ-loop) where
+  abbrev at : At
+  at = c .before .before .before .before .before
+
+  abbrev next : Members
+  next = c .more-members .result
+
+  abbrev here : Pair
+  here = pairAt (at .loop .i) (c .before .before .before .before .string-end .result) (c .before .before .colon-end .result) (next .body .end)
+
+  ends : next .body .end ≡ endOf (value 15 (text at) (c .before .before .colon-end .result))
+  ends = value-ends (moreMembers (product at) (text at)) (λ (x : Members). x .body .end) (members-end (product at) (text at)) 15 (text at) (at .loop .met) (at .loop .i) (c .before .before .before .before .string-end .result) (c .before .before .colon-end .result) next (c .more-members .ensures)
+
+  none : next .body .end ≡ 0 → member (value 15 (text at)) (text at) (at .loop .i) ≡ wrong
+  none =
+      no-value 15 (text at) (at .loop .i) (c .before .before .before .before .string-end .result) (c .before .before .before .before .string-end .ensures) (c .before .before .before .if3 .left) (c .before .before .colon-end .result) (c .before .before .colon-end .ensures) (c .before .if4 .left) (next .body .end) ends
+
+  stands : (next .body .end ≡ 0 → ⊥) → Stands (member (value 15 (text at)) (text at)) (text at) (at .loop .i) here (next .body .end)
+  stands =
+      member-stands 15 (text at) (at .loop .i) (c .before .before .before .before .string-end .result) (c .before .before .before .before .string-end .ensures) (c .before .before .before .if3 .left) (c .before .before .colon-end .result) (c .before .before .colon-end .ensures) (c .before .if4 .left) (next .body .end) ends
+
+  steps : next ≡ moreMembers (product at) (text at) (at .loop .met) here
+  steps = next-is (moreMembers (product at) (text at)) (λ (x : Members). x .body .end) (members-end (product at) (text at)) 15 (text at) (at .loop .met) (at .loop .i) (c .before .before .before .before .string-end .result) (c .before .before .colon-end .result) next (c .more-members .ensures)
+
+  -- the marks of the two numbers are places of the text
+  places : (next .body .end ≡ 0 → ⊥) → Marked (text at) next
+  places n =
+      let b = member-places 15 (text at) (at .loop .i) (c .before .before .before .before .string-end .result) (c .before .before .before .before .string-end .ensures) (c .before .before .before .if3 .left) (c .before .before .colon-end .result) (c .before .before .colon-end .ensures) (c .before .if4 .left) (next .body .end) ends n in
+      let l : c .before .before .colon-end .result ≤ next .body .end = let x = b .2 in omega arith in
+      marked-more (product at) (text at) (at .loop .met) (here .name) 15 (c .before .before .colon-end .result) (next .body .end) next (c .more-members .ensures) refl l (b .3) (at .loop .inv .1)
 
 byte-at-requires : tie.Need-byte-at-requires Inv-loop μ-loop
 byte-at-requires c κs = search needs
@@ -92,13 +138,8 @@ untold-requires-2 c κs = search needs
 
 returns-3 : tie.Need-returns-3 Inv-loop μ-loop
 returns-3 c =
-    let a = c .before .before .before .before .before .before .before .before .before .before .before .before .args in
-    let s = now (a .s) in
-    let met = c .before .before .before .loop .met in
-    let w = c .before .before .before .loop .inv .0 in
-    let k = c .before .before .string-end .result in
-    let p = c .before .before .string-end .ensures in
-    c .untold2 .ensures ∙ no-name (messageLoop (now (a .name)) s) 15 s met w k p (c .before .if3 .taken)
+    let a = c .before .before .before in
+    c .untold2 .ensures ∙ fold-wrong (messageLoop (product a) (text a)) (a .loop .met) (a .loop .inv .0) (no-name 15 (text a) (a .loop .i) (c .before .before .string-end .result) (c .before .before .string-end .ensures) (c .before .if3 .taken))
 
 colon-end-requires : tie.Need-colon-end-requires Inv-loop μ-loop
 colon-end-requires c κs = search needs
@@ -108,16 +149,8 @@ untold-requires-3 c κs = search needs
 
 returns-4 : tie.Need-returns-4 Inv-loop μ-loop
 returns-4 c =
-    let a = c .before .before .before .before .before .before .before .before .before .before .before .before .before .before .args in
-    let s = now (a .s) in
-    let met = c .before .before .before .before .before .loop .met in
-    let w = c .before .before .before .before .before .loop .inv .0 in
-    let k = c .before .before .before .before .string-end .result in
-    let p = c .before .before .before .before .string-end .ensures in
-    let k≢0 = c .before .before .before .if3 .left in
-    let j = c .before .before .colon-end .result in
-    let q = c .before .before .colon-end .ensures in
-    c .untold3 .ensures ∙ no-colon (messageLoop (now (a .name)) s) 15 s met w k p k≢0 j q (c .before .if4 .taken)
+    let a = c .before .before .before .before .before in
+    c .untold3 .ensures ∙ fold-wrong (messageLoop (product a) (text a)) (a .loop .met) (a .loop .inv .0) (no-colon 15 (text a) (a .loop .i) (c .before .before .before .before .string-end .result) (c .before .before .before .before .string-end .ensures) (c .before .before .before .if3 .left) (c .before .before .colon-end .result) (c .before .before .colon-end .ensures) (c .before .if4 .taken))
 
 more-members-requires : tie.Need-more-members-requires Inv-loop μ-loop
 more-members-requires c κs = search needs
@@ -127,19 +160,8 @@ untold-requires-4 c κs = search needs
 
 returns-5 : tie.Need-returns-5 Inv-loop μ-loop
 returns-5 c =
-    let a = c .before .before .before .before .before .before .before .before .before .before .before .before .before .before .before .before .args in
-    let s = now (a .s) in
-    let met = c .before .before .before .before .before .before .before .loop .met in
-    let w = c .before .before .before .before .before .before .before .loop .inv .0 in
-    let k = c .before .before .before .before .before .before .string-end .result in
-    let p = c .before .before .before .before .before .before .string-end .ensures in
-    let k≢0 = c .before .before .before .before .before .if3 .left in
-    let j = c .before .before .before .before .colon-end .result in
-    let q = c .before .before .before .before .colon-end .ensures in
-    let j≢0 = c .before .before .before .if4 .left in
-    let next = c .before .before .more-members .result in
-    let g = c .before .before .more-members .ensures in
-    c .untold4 .ensures ∙ no-value (messageLoop (now (a .name)) s) 15 s met w k p k≢0 j q j≢0 next g (c .before .if5 .taken)
+    let m = c .before .before in
+    c .untold4 .ensures ∙ fold-wrong (messageLoop (product (at m)) (text (at m))) (at m .loop .met) (at m .loop .inv .0) (none m (c .before .if5 .taken))
 
 comma-end-requires : tie.Need-comma-end-requires Inv-loop μ-loop
 comma-end-requires c κs = search needs
@@ -152,115 +174,28 @@ untold-requires-5 c κs = search needs
 
 returns-6 : tie.Need-returns-6 Inv-loop μ-loop
 returns-6 c =
-    let a = c .before .before .before .before .before .before .before .before .before .before .before .before .before .before .before .before .before .before .before .before .args in
-    let s = now (a .s) in
-    let met = c .before .before .before .before .before .before .before .before .before .before .before .loop .met in
-    let w = c .before .before .before .before .before .before .before .before .before .before .before .loop .inv .0 in
-    let k = c .before .before .before .before .before .before .before .before .before .before .string-end .result in
-    let p = c .before .before .before .before .before .before .before .before .before .before .string-end .ensures in
-    let k≢0 = c .before .before .before .before .before .before .before .before .before .if3 .left in
-    let j = c .before .before .before .before .before .before .before .before .colon-end .result in
-    let q = c .before .before .before .before .before .before .before .before .colon-end .ensures in
-    let j≢0 = c .before .before .before .before .before .before .before .if4 .left in
-    let next = c .before .before .before .before .before .before .more-members .result in
-    let g = c .before .before .before .before .before .before .more-members .ensures in
-    let n = c .before .before .before .before .before .if5 .left in
-    let l = c .before .before .before .before .comma-end .result in
-    let comma = c .before .before .before .before .comma-end .ensures in
-    let z = c .before .before .before .if6 .taken in
-    let u = c .before .before .object-close-end2 .result in
-    let x = c .before .before .object-close-end2 .ensures in
-    c .untold5 .ensures ∙ no-brace (messageLoop (now (a .name)) s) 15 s met w k p k≢0 j q j≢0 next g n l comma z u x (c .before .if7 .taken)
+    let m = c .before .before .before .before .before .before in
+    c .untold5 .ensures ∙ fold-broken (messageLoop (product (at m)) (text (at m))) (at m .loop .met) (at m .loop .inv .0) (stands m (c .before .before .before .before .before .if5 .left)) (c .before .before .before .before .comma-end .result) (c .before .before .before .before .comma-end .ensures) (c .before .before .before .if6 .taken) (c .before .before .object-close-end2 .result) (c .before .before .object-close-end2 .ensures) (c .before .if7 .taken)
 
 told-requires-2 : tie.Need-told-requires-2 Inv-loop μ-loop
 told-requires-2 c κs =
-    let a = c .before .before .before .before .before .before .before .before .before .before .before .before .before .before .before .before .before .before .before .args in
-    let s = now (a .s) in
-    let met = c .before .before .before .before .before .before .before .before .before .before .loop .met in
-    let w = c .before .before .before .before .before .before .before .before .before .before .loop .inv .0 in
-    let k = c .before .before .before .before .before .before .before .before .before .string-end .result in
-    let p = c .before .before .before .before .before .before .before .before .before .string-end .ensures in
-    let k≢0 = c .before .before .before .before .before .before .before .before .if3 .left in
-    let j = c .before .before .before .before .before .before .before .colon-end .result in
-    let q = c .before .before .before .before .before .before .before .colon-end .ensures in
-    let j≢0 = c .before .before .before .before .before .before .if4 .left in
-    let next = c .before .before .before .before .before .more-members .result in
-    let g = c .before .before .before .before .before .more-members .ensures in
-    let n = c .before .before .before .before .if5 .left in
-    let b = value-places (messageLoop (now (a .name)) s) 15 s met w k p k≢0 j q j≢0 next g n in
-    let b1 = b .1 in
-    let t : j ≤ next .body .end = omega arith in
-    marked-more (now (a .name)) s met (record { from = c .before .before .before .before .before .before .before .before .before .before .loop .i; to = k }) 15 j (next .body .end) next g refl t (b .2) (c .before .before .before .before .before .before .before .before .before .before .loop .inv .1)
+    places (c .before .before .before .before .before) (c .before .before .before .before .if5 .left)
 
 returns-7 : tie.Need-returns-7 Inv-loop μ-loop
 returns-7 c =
-    let a = c .before .before .before .before .before .before .before .before .before .before .before .before .before .before .before .before .before .before .before .before .args in
-    let s = now (a .s) in
-    let met = c .before .before .before .before .before .before .before .before .before .before .before .loop .met in
-    let w = c .before .before .before .before .before .before .before .before .before .before .before .loop .inv .0 in
-    let k = c .before .before .before .before .before .before .before .before .before .before .string-end .result in
-    let p = c .before .before .before .before .before .before .before .before .before .before .string-end .ensures in
-    let k≢0 = c .before .before .before .before .before .before .before .before .before .if3 .left in
-    let j = c .before .before .before .before .before .before .before .before .colon-end .result in
-    let q = c .before .before .before .before .before .before .before .before .colon-end .ensures in
-    let j≢0 = c .before .before .before .before .before .before .before .if4 .left in
-    let next = c .before .before .before .before .before .before .more-members .result in
-    let g = c .before .before .before .before .before .before .more-members .ensures in
-    let n = c .before .before .before .before .before .if5 .left in
-    let l = c .before .before .before .before .comma-end .result in
-    let comma = c .before .before .before .before .comma-end .ensures in
-    let z = c .before .before .before .if6 .taken in
-    let u = c .before .before .object-close-end2 .result in
-    let x = c .before .before .object-close-end2 .ensures in
-    c .told2 .ensures ∙ last-member (messageLoop (now (a .name)) s) 15 s met w k p k≢0 j q j≢0 next g n l comma z u x (c .before .if7 .left)
+    let m = c .before .before .before .before .before .before in
+    c .told2 .ensures ∙ fold-last (messageLoop (product (at m)) (text (at m))) (at m .loop .met) (at m .loop .inv .0) (stands m (c .before .before .before .before .before .if5 .left)) (c .before .before .before .before .comma-end .result) (c .before .before .before .before .comma-end .ensures) (c .before .before .before .if6 .taken) (c .before .before .object-close-end2 .result) (c .before .before .object-close-end2 .ensures) (c .before .if7 .left) (steps m)
 
 loop-less : tie.Need-loop-less Inv-loop μ-loop
 loop-less c =
-    let a = c .before .before .before .before .before .before .before .before .before .before .before .before .before .before .before .before .before .args in
-    let s = now (a .s) in
-    let met = c .before .before .before .before .before .before .before .before .loop .met in
-    let w = c .before .before .before .before .before .before .before .before .loop .inv .0 in
-    let k = c .before .before .before .before .before .before .before .string-end .result in
-    let p = c .before .before .before .before .before .before .before .string-end .ensures in
-    let k≢0 = c .before .before .before .before .before .before .if3 .left in
-    let j = c .before .before .before .before .before .colon-end .result in
-    let q = c .before .before .before .before .before .colon-end .ensures in
-    let j≢0 = c .before .before .before .before .if4 .left in
-    let next = c .before .before .before .more-members .result in
-    let g = c .before .before .before .more-members .ensures in
-    let n = c .before .before .if5 .left in
-    let l = c .before .comma-end .result in
-    let comma = c .before .comma-end .ensures in
-    let y = next-member (messageLoop (now (a .name)) s) 15 s met w k p k≢0 j q j≢0 next g n l comma (c .if6 .left) in
-    let b = value-places (messageLoop (now (a .name)) s) 15 s met w k p k≢0 j q j≢0 next g n in
-    let b0 = b .0 in
-    let b1 = b .1 in
-    let b2 = b .2 in
-    let y0 = y .0 in
+    let m = c .before .before .before in
+    let f = fold-further (messageLoop (product (at m)) (text (at m))) (at m .loop .met) (at m .loop .inv .0) (stands m (c .before .before .if5 .left)) (c .before .comma-end .result) (c .before .comma-end .ensures) (c .if6 .left) in
     omega arith
 
 loop-again : tie.Need-loop-again Inv-loop μ-loop
 loop-again c =
-    let a = c .before .before .before .before .before .before .before .before .before .before .before .before .before .before .before .before .before .args in
-    let s = now (a .s) in
-    let met = c .before .before .before .before .before .before .before .before .loop .met in
-    let w = c .before .before .before .before .before .before .before .before .loop .inv .0 in
-    let k = c .before .before .before .before .before .before .before .string-end .result in
-    let p = c .before .before .before .before .before .before .before .string-end .ensures in
-    let k≢0 = c .before .before .before .before .before .before .if3 .left in
-    let j = c .before .before .before .before .before .colon-end .result in
-    let q = c .before .before .before .before .before .colon-end .ensures in
-    let j≢0 = c .before .before .before .before .if4 .left in
-    let next = c .before .before .before .more-members .result in
-    let g = c .before .before .before .more-members .ensures in
-    let n = c .before .before .if5 .left in
-    let l = c .before .comma-end .result in
-    let comma = c .before .comma-end .ensures in
-    let y = next-member (messageLoop (now (a .name)) s) 15 s met w k p k≢0 j q j≢0 next g n l comma (c .if6 .left) in
-    let b = value-places (messageLoop (now (a .name)) s) 15 s met w k p k≢0 j q j≢0 next g n in
-    let b1 = b .1 in
-    let t : j ≤ next .body .end = omega arith in
-    (y .1, marked-more (now (a .name)) s met (record { from = c .before .before .before .before .before .before .before .before .loop .i; to = k }) 15 j (next .body .end) next g refl t (b .2) (c .before .before .before .before .before .before .before .before .loop .inv .1))
+    let m = c .before .before .before in
+    (fold-on (messageLoop (product (at m)) (text (at m))) (at m .loop .met) (at m .loop .inv .0) (stands m (c .before .before .if5 .left)) (c .before .comma-end .result) (c .before .comma-end .ensures) (c .if6 .left) (steps m), places m (c .before .before .if5 .left))
 
 pub m-message-spec : {M : Type 1} → statement M
 m-message-spec =

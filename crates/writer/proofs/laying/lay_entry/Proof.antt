@@ -3,7 +3,7 @@ use Prim.Native.Nat.{ℕ}
 use mathlib.Core.Path.{ap}
 use mathlib.Core.List.{List, _++_}
 use borrow.Author.Needs.{needs}
-use Rattle.decimal.specs.Ascii.{ascii}
+use Rattle.text.specs.Text.{ascii}
 use Rattle.decimal.specs.Decimal.{text}
 use Rattle.level.specs.Words.{levelPrice, levelSize}
 use Rattle.writer.specs.Parts.{entry}

@@ -3,7 +3,7 @@ use Prim.Native.Nat.{ℕ}
 use mathlib.Core.Path.{refl}
 use mathlib.Core.List.{List, _++_}
 use borrow.Author.Needs.{needs}
-use Rattle.decimal.specs.Ascii.{ascii}
+use Rattle.text.specs.Text.{ascii}
 use Rattle.writer.specs.Parts.{entry, nextEntry}
 use Rattle.writer.proofs.Owed.{Whole, owed-all, owed-rest, room-first, put-last}
 use Rattle.writer.proofs.laying.lay_next.Statement.{statement}

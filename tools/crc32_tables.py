@@ -1,19 +1,16 @@
-"""Writes the crates of the CRC-32's tables, code and proofs:  python3 tools/crc32_tables.py
+"""Writes the crate of the CRC-32's tables, code and proofs:  python3 tools/crc32_tables.py
 
 An entry is two states in one number: four bits in the highest byte of a state, in its upper half and in its lower, moved by k bytes.
-Table t has the rows k = 16 * t to 16 * t + 31, and eight look-ups in its first 19 move a state by 16 * t to 16 * t + 15 bytes. The other
-rows are there so that no four bits and no length below 16 make a key past the last, whatever their sum: the look-up then tests none.
+Table t has the rows k = 28 * t to 28 * t + 31, and eight look-ups in its first 31 move a state by 28 * t to 28 * t + 27 bytes. The last
+row is there because a `match` ends with an arm for any other key: as no length below 28 has that arm, the look-up tests none.
 """
 import os
 
 POLYNOMIAL = 0xEDB88320
 ROWS = 32
-LENGTHS = 16
-# crate -> its tables
-CRATES = {
-    "crc32_tables": range(0, 2),
-    "crc32_tables_far": range(2, 4),
-}
+LENGTHS = 28
+CRATE = "crc32_tables"
+TABLES = range(0, 2)
 
 
 def bits(n, s):
@@ -33,7 +30,7 @@ def source(tables):
 // and its lower half are the four bits that are moved. An entry is two states in one number, for the upper half of a byte and the lower.
 // A `match` becomes a table in constant memory, where a `const` array would be built anew at each use;
 // and a table that is called at one place only, in a loop, is inlined there. The remainder of a length is the length:
-// it says that no key is past the last, so that the look-up tests none.
+// it says that no key has the last arm, which stands for any other key, so that the look-up tests none.
 ghost use mathlib.Core.Path.{{_≡_}};
 ghost use Prim.Native.Nat.{{_+_, _*_, _<_}};
 ghost use Rattle.crc32_spec.specs.Crc.{{bits}};
@@ -165,8 +162,7 @@ def write(path, text):
         f.write(text)
 
 
-for crate, tables in CRATES.items():
-    write(f"crates/{crate}/src/lib.rt", source(tables))
-    for t in tables:
-        write(f"crates/{crate}/proofs/rows{t}/Proof.antt", table_proof(crate, t))
-        write(f"crates/{crate}/proofs/moved{t}/Proof.antt", move_proof(crate, t))
+write(f"crates/{CRATE}/src/lib.rt", source(TABLES))
+for t in TABLES:
+    write(f"crates/{CRATE}/proofs/rows{t}/Proof.antt", table_proof(CRATE, t))
+    write(f"crates/{CRATE}/proofs/moved{t}/Proof.antt", move_proof(CRATE, t))

@@ -33,6 +33,8 @@ use settings::Dialect;
 use settings::is_m;
 use side::Applied;
 use sides::apply_entries;
+use text::both;
+use text::either;
 
 const MAX_LEVELS: usize = 100;
 
@@ -305,16 +307,4 @@ fn checksum_of<'a>(
         Dialect::M => checksum::m_checksum(bids, bid_count, asks, ask_count, table),
         Dialect::Unknown => 0,
     }
-}
-
-fn either(a: bool, b: bool) -> bool
-    ensures { λ r. ⌜ r ≡ (a || b) ⌝ }
-{
-    if a { true } else { b }
-}
-
-fn both(a: bool, b: bool) -> bool
-    ensures { λ r. ⌜ r ≡ (a && b) ⌝ }
-{
-    if a { b } else { false }
 }

@@ -26,6 +26,16 @@ shifted j n s h =
     let z : 8 * j + 8 * (n - j) ≡ 8 * n = omega arith in
     sym (bits-add (8 * j) (8 * (n - j)) s) ∙ bits-at s z
 
+-- one step by the second table, of what is left to move
+pub step-moved : (step left state r t : ℕ) → 28 ≤ step → step ≤ left → r ≡ bits (8 * (28 + (step - 28))) state → bits (8 * left) state ≡ t → bits (8 * (left - step)) r ≡ t
+step-moved step left state r t l h e i =
+    ap (bits (8 * (left - step))) (in-table 28 (step - 28) step state r (omega arith) e) ∙ shifted step left state h ∙ i
+
+-- nothing is left to move
+pub all-moved : (left r t : ℕ) → left ≡ 0 → bits (8 * left) r ≡ t → r ≡ t
+unfolding bits
+all-moved left r t e h = sym (bits-at r (ap (λ (k : ℕ). 8 * k) e)) ∙ h
+
 -- moving by k bytes and then by n
 pub moved-on : (n k s : ℕ) → bits (8 * n) (bits (8 * k) s) ≡ bits (8 * (n + k)) s
 moved-on n k s =

@@ -5,7 +5,7 @@
 // becomes the checksum by `^ crc32::START`. Each contract is equality with the definition in `crc32_spec`. No public function has
 // a `requires` but `combine_with`, which wants a table that `fill_table` filled.
 //
-// `slices` reads slices, `words` takes pieces that are numbers, `pieces` puts pieces together, `lookup` is what these stand on;
+// `slices` reads slices, `words` takes pieces that are numbers, `pieces` puts pieces together, `lookup` moves a state, which these stand on;
 // `table` puts pieces together by way of a table that the caller lends.
 mod lookup;
 mod pieces;
@@ -13,10 +13,10 @@ mod slices;
 mod table;
 mod words;
 
+pub use lookup::shift;
 pub use pieces::combine;
 pub use pieces::front;
 pub use pieces::front_word;
-pub use pieces::shift;
 pub use slices::crc;
 pub use slices::run;
 pub use table::SHIFT_TABLE;

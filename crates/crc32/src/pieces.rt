@@ -3,35 +3,12 @@ ghost use mathlib.Core.Path.{_≡_};
 ghost use Prim.Native.Nat.{_+_, _*_, _%_, _^_, _<_, _≤_};
 ghost use lib.Bits.{bitXor};
 ghost use Rattle.crc32_spec.specs.Crc.{bits};
-use crate::lookup::moved;
+use crate::lookup::shift;
 use crate::words::absorb;
 use crate::words::low_bytes;
 use crate::words::lower_half;
 use crate::words::step;
 use crate::words::upper_half;
-
-// The state moved by n bytes: after n bytes that are 0. Below 64 it is eight look-ups.
-pub fn shift(s: u32, n: u64) -> u32
-    ensures { λ r. ⌜ r ≡ bits (8 * n) s ⌝ }
-{
-    if n < 64 {
-        return moved(s, n);
-    }
-    shift_many(s, n)
-}
-
-// Fifty bytes at a time.
-fn shift_many(s: u32, n: u64) -> u32
-    ensures { λ r. ⌜ r ≡ bits (8 * n) s ⌝ }
-{
-    let mut state = s;
-    let mut left = n;
-    while 64 <= left {
-        state = moved(state, 50);
-        left -= 50;
-    }
-    moved(state, left)
-}
 
 // The state after a joined text: a is the state after its first part, b its second part's own, from 0, and n the second part's length.
 pub fn combine(a: u32, b: u32, n: u64) -> u32
@@ -44,8 +21,8 @@ pub fn combine(a: u32, b: u32, n: u64) -> u32
 pub fn front(b: u8, s: u32, n: u64) -> u32
     ensures { λ r. ⌜ r ≡ bitXor (bits (8 * (n + 1)) b) s ⌝ }
 {
-    if n < 63 {
-        return moved(b as u32, n + 1) ^ s;
+    if n < 55 {
+        return shift(b as u32, n + 1) ^ s;
     }
     shift(step(0, b), n) ^ s
 }
@@ -55,22 +32,22 @@ pub fn front_word(w: u64, k: u64, s: u32, n: u64) -> u32
     ensures { λ r. ⌜ r ≡ bitXor (bits (8 * (n + k)) (w % 2 ^ (8 * k))) s ⌝ }
 {
     if k <= 8 {
-        if n < 56 {
+        if n < 48 {
             return front_near(w, k, s, n);
         }
     }
     combine(absorb(0, w, k), s, n)
 }
 
-// The same within reach of the tables: each half of the word is moved at once.
+// The same within one step of the tables: each half of the word is moved at once.
 fn front_near(w: u64, k: u64, s: u32, n: u64) -> u32
-    requires { ⌜ (k ≤ 8) × (n < 56) ⌝ }
+    requires { ⌜ (k ≤ 8) × (n < 48) ⌝ }
     ensures { λ r. ⌜ r ≡ bitXor (bits (8 * (n + k)) (w % 2 ^ (8 * k))) s ⌝ }
 {
     let front = low_bytes(w, k);
-    let first = moved(lower_half(front), n + k) ^ s;
+    let first = shift(lower_half(front), n + k) ^ s;
     if k < 5 {
         return first;
     }
-    moved(upper_half(front), n + k - 4) ^ first
+    shift(upper_half(front), n + k - 4) ^ first
 }

@@ -7,7 +7,7 @@ ghost use Prim.Native.Nat.{_*_, _/_, _%_, _^_, _<_};
 ghost use lib.Bits.{bitXor};
 ghost use Rattle.crc32_spec.specs.Crc.{bits};
 ghost use Rattle.crc32.specs.Table.{ShiftTable};
-use crate::pieces::shift;
+use crate::lookup::shift;
 
 // The entries of a row, one for each byte.
 const ROW: usize = 256;

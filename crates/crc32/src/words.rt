@@ -3,14 +3,13 @@ ghost use mathlib.Core.Path.{_≡_};
 ghost use Prim.Native.Nat.{_*_, _/_, _%_, _^_, _≤_};
 ghost use lib.Bits.{bitXor};
 ghost use Rattle.crc32_spec.specs.Crc.{bits, step};
-use crate::lookup::moved;
-use crate::pieces::shift;
+use crate::lookup::shift;
 
 // The state after one more byte.
 pub fn step(s: u32, b: u8) -> u32
     ensures { λ r. ⌜ r ≡ step s b ⌝ }
 {
-    moved(s ^ (b as u32), 1)
+    shift(s ^ (b as u32), 1)
 }
 
 pub(crate) fn lower_half(w: u64) -> u32
@@ -29,7 +28,7 @@ pub(crate) fn upper_half(w: u64) -> u32
 pub fn absorb8(s: u32, w: u64) -> u32
     ensures { λ r. ⌜ r ≡ bits 64 (bitXor s w) ⌝ }
 {
-    moved(upper_half(w), 4) ^ moved(s ^ lower_half(w), 8)
+    shift(upper_half(w), 4) ^ shift(s ^ lower_half(w), 8)
 }
 
 // The lowest n bytes of w.
@@ -52,9 +51,9 @@ pub fn absorb(s: u32, w: u64, n: u64) -> u32
         return shift(absorb8(s, w), n - 8);
     }
     let piece = low_bytes(w, n);
-    let first = moved(s ^ lower_half(piece), n);
+    let first = shift(s ^ lower_half(piece), n);
     if n < 4 {
         return first;
     }
-    moved(upper_half(piece), n - 4) ^ first
+    shift(upper_half(piece), n - 4) ^ first
 }

@@ -241,14 +241,14 @@ module _ (n s j : ℕ) where
       ∙ ap (λ (x : ℕ). bitXor x (bits (8 * n) (s / 2 ^ (4 * j) % 16 * 2 ^ (4 * j)))) (sym left-next)
 
 -- one look-up more
-pub looked-up : (first m s j sum v e r : ℕ) → m < 16 → j < 8 → v ≡ s / 2 ^ (4 * j) % 16 →
-    e ≡ entry-at first ((m % 16 + 3 - j / 2) * 16 + v) → r ≡ e / 2 ^ (32 * (j % 2)) % 2 ^ 32 →
+pub looked-up : (first m s j sum v e r : ℕ) → m < 28 → j < 8 → v ≡ s / 2 ^ (4 * j) % 16 →
+    e ≡ entry-at first ((m % 28 + 3 - j / 2) * 16 + v) → r ≡ e / 2 ^ (32 * (j % 2)) % 2 ^ 32 →
     bitXor (bitXor sum r) (left (first + m) s (j + 1)) ≡ bitXor sum (left (first + m) s j)
 looked-up first m s j sum v e r g h ev ee er =
     let l : s / 2 ^ (4 * j) % 16 < 16 = mod-lt (s / 2 ^ (4 * j)) (lit< tt) in
-    let k : m % 16 ≡ m = mod-eq-of-lt g in
-    let p : first + ((m % 16 + 3 - j / 2) * 16 + v) / 16 ≡ first + m + 3 - j / 2 = omega arith in
-    let q : ((m % 16 + 3 - j / 2) * 16 + v) % 16 ≡ s / 2 ^ (4 * j) % 16 = omega arith in
+    let k : m % 28 ≡ m = mod-eq-of-lt g in
+    let p : first + ((m % 28 + 3 - j / 2) * 16 + v) / 16 ≡ first + m + 3 - j / 2 = omega arith in
+    let q : ((m % 28 + 3 - j / 2) * 16 + v) % 16 ≡ s / 2 ^ (4 * j) % 16 = omega arith in
     let o : j % 2 < 2 = omega arith in
     xor-assoc sum r (left (first + m) s (j + 1))
     ∙ ap (bitXor sum)

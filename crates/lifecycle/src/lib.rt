@@ -6,6 +6,8 @@ use layout::Outline;
 use message::Verdict;
 use reference::Scope;
 use settings::Dialect;
+use text::both;
+use text::either;
 ghost use mathlib.Core.Path.{_≡_};
 ghost use mathlib.Core.Bool.{_&&_, _||_, not, cond};
 ghost use lib.Dec.{leb};
@@ -133,18 +135,6 @@ pub fn updates_after(snapshot: bool, updates: u64) -> u64
     ensures { λ r. ⌜ r ≡ cond snapshot 0 (oneMore updates) ⌝ }
 {
     if snapshot { 0 } else { one_more(updates) }
-}
-
-fn either(a: bool, b: bool) -> bool
-    ensures { λ r. ⌜ r ≡ (a || b) ⌝ }
-{
-    if a { true } else { b }
-}
-
-fn both(a: bool, b: bool) -> bool
-    ensures { λ r. ⌜ r ≡ (a && b) ⌝ }
-{
-    if a { b } else { false }
 }
 
 fn is_old(m: bool, number: u64, last: u64) -> bool

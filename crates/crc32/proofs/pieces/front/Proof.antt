@@ -10,13 +10,13 @@ use Rattle.crc32.proofs.pieces.front.Statement.{statement}
 use Rattle.crc32.proofs.pieces.front.Tie as tie
 
 returns : tie.Need-returns
-returns c = ap (λ (x : ℕ). bitXor x (c .before .before .args .s)) (c .moved .ensures)
+returns c = ap (λ (x : ℕ). bitXor x (c .before .before .args .s)) (c .shift .ensures)
 
 returns-2 : tie.Need-returns-2
 unfolding step
 returns-2 c =
     ap (λ (x : ℕ). bitXor x (c .before .before .before .args .s))
-    (c .shift .ensures ∙ ap (bits (8 * c .before .before .before .args .n)) (c .before .step .ensures) ∙ moved-on (c .before .before .before .args .n) 1 (c .before .before .before .args .b))
+    (c .shift2 .ensures ∙ ap (bits (8 * c .before .before .before .args .n)) (c .before .step .ensures) ∙ moved-on (c .before .before .before .args .n) 1 (c .before .before .before .args .b))
 
 pub front-spec : {M : Type 1} → statement M
 front-spec =

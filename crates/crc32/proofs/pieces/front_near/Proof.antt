@@ -10,12 +10,12 @@ use Rattle.crc32.proofs.pieces.front_near.Tie as tie
 returns : tie.Need-returns
 returns c =
     short-front (8 * (c .before .before .before .before .args .n + c .before .before .before .before .args .k)) (c .before .before .before .before .args .k) (c .before .before .before .before .args .s) (c .before .before .before .before .args .w) _ _ _ (omega arith)
-    (c .before .before .before .low-bytes .ensures) (c .before .before .lower-half .ensures) (c .before .moved .ensures)
+    (c .before .before .before .low-bytes .ensures) (c .before .before .lower-half .ensures) (c .before .shift .ensures)
 
 returns-2 : tie.Need-returns-2
 returns-2 c =
     two-halves-front (c .before .before .before .before .before .before .args .n + c .before .before .before .before .before .before .args .k) (c .before .before .before .before .before .before .args .s) _ _ _ _ _ _ (omega arith)
-    (c .before .before .before .before .before .low-bytes .ensures) (c .before .before .before .before .lower-half .ensures) (c .before .upper-half .ensures) (c .moved2 .ensures) (c .before .before .before .moved .ensures)
+    (c .before .before .before .before .before .low-bytes .ensures) (c .before .before .before .before .lower-half .ensures) (c .before .upper-half .ensures) (c .shift2 .ensures) (c .before .before .before .shift .ensures)
 
 pub front-near-spec : {M : Type 1} → statement M
 front-near-spec =

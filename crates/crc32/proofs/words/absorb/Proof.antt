@@ -17,12 +17,12 @@ returns c =
 
 returns-2 : tie.Need-returns-2
 returns-2 c =
-    short-word (c .before .before .before .before .before .args .n) (c .before .before .before .before .before .args .s) (c .before .before .before .before .before .args .w) _ _ _ (c .if2 .taken) (c .before .before .before .low-bytes .ensures) (c .before .before .lower-half .ensures) (c .before .moved .ensures)
+    short-word (c .before .before .before .before .before .args .n) (c .before .before .before .before .before .args .s) (c .before .before .before .before .before .args .w) _ _ _ (c .if2 .taken) (c .before .before .before .low-bytes .ensures) (c .before .before .lower-half .ensures) (c .before .shift2 .ensures)
 
 returns-3 : tie.Need-returns-3
 returns-3 c =
     two-halves (c .before .before .before .before .before .before .before .args .n) (c .before .before .before .before .before .before .before .args .s) (c .before .before .before .before .before .low-bytes .result) _ _ _ _ (omega arith) (c .before .before .before .before .before .before .before .fits .s .fits)
-    (c .before .before .before .before .lower-half .ensures) (c .before .upper-half .ensures) (c .moved2 .ensures) (c .before .before .before .moved .ensures)
+    (c .before .before .before .before .lower-half .ensures) (c .before .upper-half .ensures) (c .shift3 .ensures) (c .before .before .before .shift2 .ensures)
     ∙ ap (λ x. bits (8 * c .before .before .before .before .before .before .before .args .n) (bitXor (c .before .before .before .before .before .before .before .args .s) x)) (c .before .before .before .before .before .low-bytes .ensures)
 
 pub absorb-spec : {M : Type 1} → statement M

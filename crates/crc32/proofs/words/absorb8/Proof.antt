@@ -9,7 +9,7 @@ use Rattle.crc32.proofs.words.absorb8.Tie as tie
 returns : tie.Need-returns
 returns c =
     two-halves 8 (c .before .before .before .before .args .s) (c .before .before .before .before .args .w) _ _ _ _ (omega arith) (c .before .before .before .before .fits .s .fits)
-    (c .before .lower-half .ensures) (c .before .before .before .upper-half .ensures) (c .before .before .moved .ensures) (c .moved2 .ensures)
+    (c .before .lower-half .ensures) (c .before .before .before .upper-half .ensures) (c .before .before .shift .ensures) (c .shift2 .ensures)
 
 pub absorb8-spec : {M : Type 1} → statement M
 absorb8-spec =

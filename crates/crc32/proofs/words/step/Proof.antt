@@ -7,7 +7,7 @@ use Rattle.crc32.proofs.words.step.Tie as tie
 
 returns : tie.Need-returns
 unfolding step
-returns c = c .moved .ensures
+returns c = c .shift .ensures
 
 pub step-spec : {M : Type 1} → statement M
 step-spec =

@@ -24,7 +24,7 @@ use Rattle.entries.specs.Places.{inner}
 use Rattle.entries.specs.Rows.{Row, entryFor, numberAt}
 use Rattle.entries.specs.Summary.{foundOf, priceSpan, sizeSpan, foundAt}
 use Rattle.entries.specs.Front.{EntryEnd}
-use Rattle.entries.specs.Decimals.{QuotedAt, DecimalsAt, NumberOf, EntryAt}
+use Rattle.entries.specs.Decimals.{QuotedAt, TwoDecimals, NumberOf, EntryAt}
 use Rattle.entries.specs.Counting.{withNumbers, counted}
 use Rattle.entries.specs.declared.Found.{Found}
 use Rattle.entries.specs.declared.Entries.{Entries}
@@ -139,41 +139,53 @@ module _ (s : List ℕ) (at e : ℕ) (d : Decimal) (h : reads (record { number =
   pub decimal-quoted : QuotedAt s at (record { decimal = d; end = e + 1 })
   decimal-quoted = record { ends = ends s at e d h opens closes; text = ap read (inner-is s at e d h opens closes) ∙ between-reads s at e d h opens closes }
 
--- ---- two of them at the front of an array, from k on, with a comma between: the entry that they begin ends at e
+-- ---- two of them at the front of an array, from k on, with a comma between
 
-module _ (entry : List ℕ → Span → Reading Row) (s : List ℕ) (at : ℕ) (opens : byteAt s at ≡ 91) (k : ℕ) (begins : k ≡ blanks s (at + 1)) (p : QuotedDecimal)
-    (first : QuotedAt s k p) (j : ℕ) (comma : separator 44 s (p .end) ≡ At j) (z : QuotedDecimal) (second : QuotedAt s j z) (e : ℕ)
-    (fits : EntryEnd entry s (z .end) e) (more : e ≡ 0 → ⊥) where
-  abbrev front : Found
-  front = record { end = z .end; fair = true; «price_from» = k; «price_to» = p .end; «size_from» = j; «size_to» = z .end }
-
-  found : foundAt entry s at ≡ foundOf e (reads (record { price = priceSpan front; size = sizeSpan front }))
-  found =
-      fits .some more at front (record { opens = opens; begins = begins; price = first .ends; comma = comma; size = second .ends; ends = refl }) refl
-
-  pub decimals-at : DecimalsAt entry s at (record { price = p .decimal; size = z .decimal; end = e })
-  unfolding foundOf
-  decimals-at =
+module _ (s : List ℕ) (at : ℕ) (opens : byteAt s at ≡ 91) (k : ℕ) (begins : k ≡ blanks s (at + 1)) (p : QuotedDecimal) (first : QuotedAt s k p) (j : ℕ)
+    (comma : separator 44 s (p .end) ≡ At j) (z : QuotedDecimal) (second : QuotedAt s j z) where
+  pub two-decimals : TwoDecimals s at (record { price = p .decimal; size = z .decimal; end = z .end })
+  two-decimals =
       record {
-        ends = ap (λ (x : Found). x .end) found;
-        fair = ap (λ (x : Found). x .fair) found;
-        price = ap (λ (x : Found). read (inner s (priceSpan x))) found ∙ first .text;
-        size = ap (λ (x : Found). read (inner s (sizeSpan x))) found ∙ second .text;
+        found = record { end = z .end; fair = true; «price_from» = k; «price_to» = p .end; «size_from» = j; «size_to» = z .end };
+        two = record { opens = opens; begins = begins; price = first .ends; comma = comma; size = second .ends; ends = refl };
+        ends = refl;
+        price = first .text;
+        size = second .text;
       }
 
--- ---- an entry whose texts are decimals
+-- ---- the entry that they begin, which ends at e
 
-module _ (entry : List ℕ → Span → Reading Row) (s : List ℕ) (at : ℕ) (r : Amounts) (d : DecimalsAt entry s at r) where
-  pub decimals-past : (r .end ≡ 0 → ⊥) → at < r .end
-  decimals-past n =
-      let e = d .ends in
-      let p = found-past entry s at (foundAt entry s at) refl (λ z. n (sym e ∙ z)) in
+module _ (entry : List ℕ → Span → Reading Row) (s : List ℕ) (at : ℕ) (a : Amounts) (d : TwoDecimals s at a) (e : ℕ) (fits : EntryEnd entry s (a .end) e)
+    (more : e ≡ 0 → ⊥) where
+  abbrev found : Found
+  found = foundAt entry s at
+
+  found-is : found ≡ foundOf e (reads (record { price = priceSpan (d .found); size = sizeSpan (d .found) }))
+  found-is = fits .some more at (d .found) (d .two) (d .ends)
+
+  ends-at : found .end ≡ e
+  unfolding foundOf
+  ends-at = ap (λ (x : Found). x .end) found-is
+
+  price-reads : read (inner s (priceSpan found)) ≡ reads (number (a .price))
+  unfolding foundOf
+  price-reads = ap (λ (x : Found). read (inner s (priceSpan x))) found-is ∙ d .price
+
+  size-reads : read (inner s (sizeSpan found)) ≡ reads (number (a .size))
+  unfolding foundOf
+  size-reads = ap (λ (x : Found). read (inner s (sizeSpan x))) found-is ∙ d .size
+
+  pub decimals-past : at < e
+  decimals-past =
+      let n = ends-at in
+      let p = found-past entry s at found refl (λ z. more (sym n ∙ z)) in
       omega arith
 
-  pub decimals-counted : (sum : Entries) → withNumbers sum (r .end) (number (r .price)) (number (r .size)) ≡ counted s sum (foundAt entry s at)
+  pub decimals-counted : (sum : Entries) → withNumbers sum e (number (a .price)) (number (a .size)) ≡ counted s sum found
+  unfolding foundOf
   decimals-counted sum =
-      ap (λ (e : ℕ). withNumbers sum e (number (r .price)) (number (r .size))) (sym (d .ends))
-      ∙ counted-numbers s sum (foundAt entry s at) (d .fair) (number (r .price)) (number (r .size)) (d .price) (d .size)
+      ap (λ (n : ℕ). withNumbers sum n (number (a .price)) (number (a .size))) (sym ends-at)
+      ∙ counted-numbers s sum found (ap (λ (x : Found). x .fair) found-is) (number (a .price)) (number (a .size)) price-reads size-reads
 
 -- ---- the number of a text, and the numbers of an entry
 
@@ -186,7 +198,12 @@ module _ (s : List ℕ) (a : Span) where
   unfolding numberAt number
   number-none h = record { is = rw (h, numberAt); within = record { few = omega arith; low = lit< tt } }
 
-pub entry-numbers : (m : Bool) (s : List ℕ) (at : ℕ) (r : Amounts) → DecimalsAt (entryFor m) s at r → EntryAt m s at r
-entry-numbers m s at r d =
+pub entry-numbers : (m : Bool) (s : List ℕ) (at : ℕ) (a : Amounts) (d : TwoDecimals s at a) (e : ℕ) (fits : EntryEnd (entryFor m) s (a .end) e) (more : e ≡ 0 → ⊥)
+    → EntryAt m s at (record { price = a .price; size = a .size; end = e })
+entry-numbers m s at a d e fits more =
     let f = foundAt (entryFor m) s at in
-    record { end = sym (d .ends); price = number-read s (priceSpan f) (r .price) (d .price); size = number-read s (sizeSpan f) (r .size) (d .size) }
+    record {
+      end = sym (ends-at (entryFor m) s at a d e fits more);
+      price = number-read s (priceSpan f) (a .price) (price-reads (entryFor m) s at a d e fits more);
+      size = number-read s (sizeSpan f) (a .size) (size-reads (entryFor m) s at a d e fits more);
+    }

@@ -5,8 +5,8 @@ use mathlib.Core.List.{List, [], _∷_}
 use mathlib.Core.Bool.{Bool, true, false, true≢false, _&&_}
 use Prim.Native.Nat.{ℕ, zero, suc, _+_, _≤_, _<_}
 use native.Mathlib.Omega.{arith}
-use borrow.Author.Tests.{eq-eqb, ne-eqb}
-use Rattle.text.specs.Text.{byteAt}
+use borrow.Author.Tests.{eq-eqb, ne-eqb, eqb-true, eqb-false}
+use lib.Dec.{eqb}
 use Rattle.decimal.specs.Digits.{Reading, refused}
 use Rattle.json_tokens.specs.Tokens.{End, At, Broken, endOf, blanks, closing, separator, string}
 use Rattle.json_tokens.proofs.Laws.{end-at}
@@ -19,7 +19,7 @@ use Rattle.json.proofs.Walk.{Walk, walk, walk-ends, walk-wrong, walk-is, walk-i
 use Rattle.entries.specs.Places.{andThen, isString, contents, arrayAt}
 use Rattle.entries.specs.Rows.{Row, entryDepth, elementDepth, rowK, entryK, rowM, entryM, entryFor}
 use Rattle.entries.specs.Summary.{foundOf, priceSpan, sizeSpan, foundAt}
-use Rattle.entries.specs.Front.{Two, Front, RestEnd, endIn, EntryEnd}
+use Rattle.entries.specs.Front.{Two, Front, RestEnd, endIn, EntryEnd, EndedAt}
 use Rattle.entries.specs.declared.Found.{Found}
 use Rattle.entries.proofs.Stops.{broken-at, one, string-is, close-no-comma, Stops, stops-first, stops-comma, stops-string, Halts, halt, past-string, past-first}
 
@@ -291,12 +291,6 @@ module _ (s : List ℕ) (i : ℕ) (r : End) (w : Walk (one s) 93 s itemsEnd i (n
           let u = walk-item (one s) 93 s itemsEnd w a e (later-item (one s) 93 s i j q ∙ element-is (value elementDepth s) j e v) (c .0) (c .1) in
           record { left = u .left; enough = u .enough; makes = sym (before-end a _) ∙ u .makes }
 
--- what is fair, with another end
-pub told-is : (f : Found) (e : ℕ) → f .fair ≡ true
-    → _≡_ {A = Found} (record { end = e; fair = f .fair; «price_from» = f .«price_from»; «price_to» = f .«price_to»; «size_from» = f .«size_from»; «size_to» = f .«size_to» })
-    (record { end = e; fair = true; «price_from» = f .«price_from»; «price_to» = f .«price_to»; «size_from» = f .«size_from»; «size_to» = f .«size_to» })
-told-is f e h = rw h
-
 -- an entry of dialect M ends with the bracket past its two strings
 pub m-end : (s : List ℕ) (at r : ℕ) → r ≡ endOf (closing 93 s at) → EntryEnd entryM s at r
 unfolding foundOf
@@ -305,3 +299,12 @@ m-end s at r h =
       some = λ n from f two ends. sym (m-is s from f two r (ap (closing 93 s) ends ∙ end-at (closing 93 s at) r h n));
       none = λ z from f two ends. m-none s from f two (ap (closing 93 s) ends ∙ end-broken r (omega arith) (closing-in s 93 at (omega arith)) h z);
     }
+
+-- an entry by its front and its end
+pub found-ended : (entry : List ℕ → Span → Reading Row) (s : List ℕ) (at : ℕ) (f : Found) → Two s at f → (e : ℕ) → EntryEnd entry s (f .end) e
+    → (r : Found) → EndedAt s at f e r → r ≡ foundAt entry s at
+found-ended entry s at f two e fits r h = go (eqb e 0) refl
+  where
+    go : (b : Bool) → eqb e 0 ≡ b → r ≡ foundAt entry s at
+    go true q = let z = eqb-true e 0 q in h .none z ∙ found-none entry s at (fits .none z at f two refl)
+    go false q = let n = eqb-false e 0 q in h .some n ∙ sym (fits .some n at f two refl)

@@ -1,17 +1,19 @@
 -- Decimals in quotes, read where they lie, and the numbers of an entry.
 -- Assumes nothing: these are definitions.
 use Prim.Native.Nat.{ℕ}
-use mathlib.Core.Bool.{Bool, true}
+use mathlib.Core.Bool.{Bool}
 use mathlib.Core.List.{List}
 use mathlib.Core.Path.{_≡_}
-use Rattle.decimal.specs.Digits.{Reading, reads}
+use Rattle.decimal.specs.Digits.{reads}
 use Rattle.decimal.specs.Decimal.{number, read, Within}
 use Rattle.decimal.specs.declared.Decimal.{Decimal}
 use Rattle.json_tokens.specs.Tokens.{At, string}
 use Rattle.json.specs.Json.{Span}
 use Rattle.entries.specs.Places.{inner}
-use Rattle.entries.specs.Rows.{Row, entryFor, numberAt}
+use Rattle.entries.specs.Rows.{entryFor, numberAt}
 use Rattle.entries.specs.Summary.{priceSpan, sizeSpan, foundAt}
+use Rattle.entries.specs.Front.{Two}
+use Rattle.entries.specs.declared.Found.{Found}
 use Rattle.entries.specs.declared.Amounts.{Amounts}
 use Rattle.entries.specs.declared.QuotedDecimal.{QuotedDecimal}
 
@@ -22,12 +24,13 @@ pub record QuotedAt (s : List ℕ) (at : ℕ) (r : QuotedDecimal) : Type 0 where
   pub ends : string s at ≡ At (r .end)
   pub text : read (inner s (record { from = at; to = r .end })) ≡ reads (number (r .decimal))
 
--- There is an entry at a position, its texts are the decimals that r has, and it ends where r says.
-pub record DecimalsAt (entry : List ℕ → Span → Reading Row) (s : List ℕ) (at : ℕ) (r : Amounts) : Type 0 where
-  pub ends : foundAt entry s at .end ≡ r .end
-  pub fair : foundAt entry s at .fair ≡ true
-  pub price : read (inner s (priceSpan (foundAt entry s at))) ≡ reads (number (r .price))
-  pub size : read (inner s (sizeSpan (foundAt entry s at))) ≡ reads (number (r .size))
+-- The array at a position begins with two strings, which are the decimals that r has; the second ends where r says.
+pub record TwoDecimals (s : List ℕ) (at : ℕ) (r : Amounts) : Type 0 where
+  pub found : Found
+  pub two : Two s at found
+  pub ends : found .end ≡ r .end
+  pub price : read (inner s (priceSpan found)) ≡ reads (number (r .price))
+  pub size : read (inner s (sizeSpan found)) ≡ reads (number (r .size))
 
 -- ---- the numbers of an entry
 

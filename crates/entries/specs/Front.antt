@@ -8,9 +8,9 @@ use lib.ListN.{length}
 use Rattle.text.specs.Text.{byteAt}
 use Rattle.decimal.specs.Digits.{Reading, reads, refused}
 use Rattle.json_tokens.specs.Bytes.{openArray, comma, closeArray}
-use Rattle.json_tokens.specs.Tokens.{End, At, Broken, blanks, separator, string}
+use Rattle.json_tokens.specs.Tokens.{End, At, Broken, endOf, blanks, separator, string}
 use Rattle.json.specs.Json.{Span, list, itemsEnd, element, value}
-use Rattle.entries.specs.Rows.{Row, elementDepth, entryFor}
+use Rattle.entries.specs.Rows.{Row, entryDepth, elementDepth, entryFor}
 use Rattle.entries.specs.Summary.{foundOf, priceSpan, sizeSpan, foundAt}
 use Rattle.entries.specs.declared.Found.{Found}
 
@@ -41,3 +41,8 @@ RestEnd s at r = (n : ℕ) → length s ≤ n + at → itemsEnd (list (element (
 pub record EntryEnd (entry : List ℕ → Span → Reading Row) (s : List ℕ) (at r : ℕ) : Type 0 where
   pub some : (r ≡ 0 → ⊥) → (from : ℕ) (f : Found) → Two s from f → f .end ≡ at → foundAt entry s from ≡ foundOf r (reads (record { price = priceSpan f; size = sizeSpan f }))
   pub none : r ≡ 0 → (from : ℕ) (f : Found) → Two s from f → f .end ≡ at → (to : ℕ) → entry s (record { from = from; to = to }) ≡ refused
+
+-- The entry at `at` whose front is f, if it ends at e; an e of 0 says that it is none.
+pub record EndedAt (s : List ℕ) (at : ℕ) (f : Found) (e : ℕ) (r : Found) : Type 0 where
+  pub some : (e ≡ 0 → ⊥) → r ≡ foundOf e (reads (record { price = priceSpan f; size = sizeSpan f }))
+  pub none : e ≡ 0 → r ≡ foundOf (endOf (value entryDepth s at)) refused

@@ -41,8 +41,8 @@ ghost use Rattle.entries.specs.Rows.{entryDepth, entryK, entryFor, isBad
 ghost use Rattle.entries.specs.Summary.{foundOf, foundAt, isZeroSize, noEntries, summaryAt};
 ghost use Rattle.entries.specs.Arrays.{firstAt};
 ghost use Rattle.entries.specs.Counting.{Quoted, Placed, Laid, withNumbers, counted};
-ghost use Rattle.entries.specs.Front.{Front, RestEnd, EntryEnd};
-ghost use Rattle.entries.specs.Decimals.{QuotedAt, DecimalsAt, NumberOf, EntryAt};
+ghost use Rattle.entries.specs.Front.{Front, RestEnd, EntryEnd, EndedAt};
+ghost use Rattle.entries.specs.Decimals.{QuotedAt, TwoDecimals, NumberOf, EntryAt};
 
 // The most entries of a side in one message.
 pub const MAX_ENTRIES: usize = 100;
@@ -80,7 +80,7 @@ pub struct Entries {
     pub zero: bool,
 }
 
-// The price and the size of an entry, and the position past it. An end of 0 says that none was read.
+// The price and the size of an entry, and the position past it, or past the size alone. An end of 0 says that they were not read.
 pub struct Amounts {
     pub price: Decimal,
     pub size: Decimal,
@@ -131,11 +131,10 @@ pub fn entry_at(s: &[u8], at: usize, m: bool) -> Found
 {
     let front = two_strings(s, at);
     if front.fair {
-        let end = entry_end(s, front.end, m);
-        if end == 0 {
-            return passed_over(s, at);
+        if m {
+            return ended_at(s, at, front, array_close_end(s, front.end));
         }
-        return at_end(front, end);
+        return ended_at(s, at, front, k_rest_end(s, front.end));
     }
     passed_over(s, at)
 }
@@ -155,9 +154,14 @@ pub fn read_entry(s: &[u8], at: usize, m: bool) -> Amounts
     requires { ⌜ Placed (now s) (foundAt (entryFor m) (now s) at) ⌝ }
     ensures { λ r. ⌜ EntryAt m (now (s .entry)) at r ⌝ }
 {
-    let amounts = two_amounts(s, at, m);
-    if 0 < amounts.end {
-        return amounts;
+    let front = two_amounts(s, at);
+    if 0 < front.end {
+        let end = entry_end(s, front.end, m);
+        if 0 < end {
+            let price = front.price;
+            let size = front.size;
+            return Amounts { price, size, end };
+        }
     }
     any_entry(s, at, m)
 }
@@ -205,9 +209,12 @@ fn next_entry(s: &[u8], at: usize, m: bool, sum: Entries) -> Entries
     requires { ⌜ sum .count ≤ at ⌝ }
     ensures { λ r. ⌜ r ≡ counted (now (s .entry)) sum (foundAt (entryFor m) (now (s .entry)) at) ⌝ }
 {
-    let amounts = two_amounts(s, at, m);
-    if 0 < amounts.end {
-        return with_amounts(sum, amounts);
+    let front = two_amounts(s, at);
+    if 0 < front.end {
+        let end = entry_end(s, front.end, m);
+        if 0 < end {
+            return with_amounts(sum, front, end);
+        }
     }
     let found = entry_at(s, at, m);
     if found.end == 0 {
@@ -241,14 +248,13 @@ fn counted(s: &[u8], sum: Entries, found: Found) -> Entries
 }
 
 // What was counted, and one entry more: its two decimals, and its end.
-fn with_amounts(sum: Entries, amounts: Amounts) -> Entries
-    requires { ⌜ sum .count + 1 ≤ amounts .end ⌝ }
-    ensures { λ r. ⌜ r ≡ withNumbers sum (amounts .end) (number (amounts .price)) (number (amounts .size)) ⌝ }
+fn with_amounts(sum: Entries, front: Amounts, end: usize) -> Entries
+    requires { ⌜ sum .count + 1 ≤ end ⌝ }
+    ensures { λ r. ⌜ r ≡ withNumbers sum end (number (front .price)) (number (front .size)) ⌝ }
 {
-    let end = amounts.end;
     if sum.fair {
-        let price = amounts.price;
-        let size = amounts.size;
+        let price = front.price;
+        let size = front.size;
         return Entries {
             end,
             fair: true,
@@ -341,7 +347,8 @@ fn two_strings(s: &[u8], at: usize) -> Found
     }
 }
 
-// Past the entry whose second string ends at `at`, or 0 where what follows does not fit.
+// Past the entry whose second string ends at `at`, or 0 where what follows does not fit. It goes into the loops that ask it, where `k_rest_end`
+// is a call: that one is asked at two places, and so is not put inside.
 fn entry_end(s: &[u8], at: usize, m: bool) -> usize
     ensures { λ r. ⌜ EntryEnd (entryFor m) (now (s .entry)) at r ⌝ }
 {
@@ -391,17 +398,20 @@ fn passed_over(s: &[u8], at: usize) -> Found
     no_entry(value_end(s, at, ENTRY_DEPTH))
 }
 
-// What was found, with another end.
-fn at_end(found: Found, end: usize) -> Found
-    ensures { λ r. ⌜ r ≡ record { end = end; fair = found .fair; «price_from» = found .«price_from»; «price_to» = found .«price_to»; «size_from» = found .«size_from»; «size_to» = found .«size_to» } ⌝ }
+// The entry at `at` that has this front and ends at `end`; an end of 0 says that it is none, and the value is passed over.
+fn ended_at(s: &[u8], at: usize, front: Found, end: usize) -> Found
+    ensures { λ r. ⌜ EndedAt (now (s .entry)) at front end r ⌝ }
 {
+    if end == 0 {
+        return passed_over(s, at);
+    }
     Found {
         end,
-        fair: found.fair,
-        price_from: found.price_from,
-        price_to: found.price_to,
-        size_from: found.size_from,
-        size_to: found.size_to,
+        fair: true,
+        price_from: front.price_from,
+        price_to: front.price_to,
+        size_from: front.size_from,
+        size_to: front.size_to,
     }
 }
 
@@ -450,9 +460,9 @@ fn number_at(s: &[u8], from: usize, to: usize) -> Decimal
     }
 }
 
-// The entry at `at`, if its two strings are decimals; else the end is 0.
-fn two_amounts(s: &[u8], at: usize, m: bool) -> Amounts
-    ensures { λ r. ⌜ ((r .end ≡ 0 → ⊥) → DecimalsAt (entryFor m) (now (s .entry)) at r) ⌝ }
+// The two decimals in quotes that the array at `at` begins with, and the position past the second; an end of 0 where they are not there.
+fn two_amounts(s: &[u8], at: usize) -> Amounts
+    ensures { λ r. ⌜ ((r .end ≡ 0 → ⊥) → TwoDecimals (now (s .entry)) at r) ⌝ }
 {
     if byte_at(s, at) != OPEN_ARRAY {
         return no_amounts();
@@ -466,15 +476,12 @@ fn two_amounts(s: &[u8], at: usize, m: bool) -> Amounts
         return no_amounts();
     }
     let second = quoted_decimal(s, next);
-    if second.end == 0 {
-        return no_amounts();
-    }
     let price = first.decimal;
     let size = second.decimal;
     Amounts {
         price,
         size,
-        end: entry_end(s, second.end, m),
+        end: second.end,
     }
 }
 
@@ -499,7 +506,7 @@ fn quoted_decimal(s: &[u8], at: usize) -> QuotedDecimal
     }
 }
 
-// No entry of two decimals.
+// No two decimals in quotes.
 fn no_amounts() -> Amounts
     ensures { λ r. ⌜ r .end ≡ 0 ⌝ }
 {

@@ -1,53 +1,56 @@
 -- `entries::entry_at` meets its contract: past two strings the array ends as the dialect has it, or the value is no entry.
 -- Assumes nothing.
 use borrow.Author.Needs.{needs}
-use denote.Ref.{now}
-use mathlib.Core.Path.{_∙_, refl, sym}
-use Rattle.entries.proofs.Entry.{found-none, told-is}
-use Rattle.entries.specs.Rows.{entryFor}
-use Rattle.entries.specs.Summary.{foundOf}
+use mathlib.Core.Bool.{Bool}
+use mathlib.Core.Path.{_≡_, _∙_, subst, sym}
+use Rattle.entries.specs.Rows.{entryK, entryM, entryFor}
+use Rattle.entries.specs.Summary.{foundAt}
+use Rattle.entries.proofs.Entry.{found-ended, found-none, m-end}
 use Rattle.entries.proofs.entry_at.Statement.{statement}
 use Rattle.entries.proofs.entry_at.Tie as tie
 
 two-strings-requires : tie.Need-two-strings-requires
 two-strings-requires c κs = search needs
 
-entry-end-requires : tie.Need-entry-end-requires
-entry-end-requires c κs = search needs
+array-close-end-requires : tie.Need-array-close-end-requires
+array-close-end-requires c κs = search needs
 
-passed-over-requires : tie.Need-passed-over-requires
-passed-over-requires c κs = search needs
+ended-at-requires : tie.Need-ended-at-requires
+ended-at-requires c κs = search needs
 
 returns : tie.Need-returns
 returns c =
     let a = c .before .before .before .before .before .before .args in
-    let s = now (a .s) in
-    let f = c .before .before .before .before .two-strings .result in
-    let t = c .before .before .before .before .two-strings .ensures .two (c .before .before .before .if1 .taken) in
-    c .passed-over .ensures ∙ found-none (entryFor (a .m)) s (a .at) (c .before .before .entry-end .ensures .none (c .before .if2 .taken) (a .at) f t refl)
+    let s = a .s .now in
+    let f = c .before .before .before .before .two-strings in
+    let e = c .before .array-close-end in
+    let r = c .ended-at in
+    subst (λ (m : Bool). r .result ≡ foundAt (entryFor m) s (a .at)) (sym (c .before .before .if2 .taken))
+    (found-ended entryM s (a .at) (f .result) (f .ensures .two (c .before .before .before .if1 .taken)) (e .result) (m-end s (f .result .end) (e .result) (e .ensures)) (r .result) (r .ensures))
 
-at-end-requires : tie.Need-at-end-requires
-at-end-requires c κs = search needs
+k-rest-end-requires : tie.Need-k-rest-end-requires
+k-rest-end-requires c κs = search needs
+
+ended-at-requires-2 : tie.Need-ended-at-requires-2
+ended-at-requires-2 c κs = search needs
 
 returns-2 : tie.Need-returns-2
-unfolding foundOf
 returns-2 c =
     let a = c .before .before .before .before .before .before .args in
-    let s = now (a .s) in
-    let f = c .before .before .before .before .two-strings .result in
-    let t = c .before .before .before .before .two-strings .ensures .two (c .before .before .before .if1 .taken) in
-    let e = c .before .before .entry-end .result in
-    c .at-end .ensures ∙ told-is f e (c .before .before .before .if1 .taken) ∙ sym (c .before .before .entry-end .ensures .some (c .before .if2 .left) (a .at) f t refl)
+    let s = a .s .now in
+    let f = c .before .before .before .before .two-strings in
+    let e = c .before .k-rest-end in
+    let r = c .ended-at2 in
+    subst (λ (m : Bool). r .result ≡ foundAt (entryFor m) s (a .at)) (sym (c .before .before .if2 .left))
+    (found-ended entryK s (a .at) (f .result) (f .ensures .two (c .before .before .before .if1 .taken)) (e .result) (e .ensures) (r .result) (r .ensures))
 
-passed-over-requires-2 : tie.Need-passed-over-requires-2
-passed-over-requires-2 c κs = search needs
+passed-over-requires : tie.Need-passed-over-requires
+passed-over-requires c κs = search needs
 
 returns-3 : tie.Need-returns-3
 returns-3 c =
     let a = c .before .before .before .before .args in
-    let s = now (a .s) in
-    let n = c .before .before .two-strings .ensures .neither (c .before .if1 .left) in
-    c .passed-over2 .ensures ∙ found-none (entryFor (a .m)) s (a .at) (n (a .m))
+    c .passed-over .ensures ∙ found-none (entryFor (a .m)) (a .s .now) (a .at) (c .before .before .two-strings .ensures .neither (c .before .if1 .left) (a .m))
 
 pub entry-at-spec : {M : Type 1} → statement M
-entry-at-spec = tie.close (tie.spec two-strings-requires entry-end-requires passed-over-requires returns at-end-requires returns-2 passed-over-requires-2 returns-3)
+entry-at-spec = tie.close (tie.spec two-strings-requires array-close-end-requires ended-at-requires returns k-rest-end-requires ended-at-requires-2 returns-2 passed-over-requires returns-3)

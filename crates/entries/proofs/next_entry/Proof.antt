@@ -1,7 +1,7 @@
--- `entries::next_entry` meets its contract: an entry whose texts are decimals has these for its price and its size, and any other is found first.
+-- `entries::next_entry` meets its contract: an entry that begins with two decimals in quotes has these for its price and its size, and any other is found
+-- first.
 -- Assumes nothing.
 use borrow.Author.Needs.{needs}
-use denote.Ref.{now}
 use mathlib.Core.Path.{_∙_, ap}
 use native.Mathlib.Omega.{arith}
 use Rattle.entries.specs.Rows.{entryFor}
@@ -16,21 +16,29 @@ use Rattle.entries.proofs.next_entry.Tie as tie
 two-amounts-requires : tie.Need-two-amounts-requires
 two-amounts-requires c κs = search needs
 
+entry-end-requires : tie.Need-entry-end-requires
+entry-end-requires c κs = search needs
+
 with-amounts-requires : tie.Need-with-amounts-requires
 with-amounts-requires c κs =
-    let a = c .before .before .before .before .args in
-    let r = c .before .before .two-amounts in
-    let some = c .if1 .taken in
-    let past = decimals-past (entryFor (a .m)) (now (a .s)) (a .at) (r .result) (r .ensures (λ z. omega arith)) (λ z. omega arith) in
-    let few = c .before .before .before .before .pre in
+    let a = c .before .before .before .before .before .before .args in
+    let front = c .before .before .before .before .two-amounts in
+    let some = c .before .before .if1 .taken in
+    let e = c .before .entry-end in
+    let more = c .if2 .taken in
+    let past = decimals-past (entryFor (a .m)) (a .s .now) (a .at) (front .result) (front .ensures (λ z. omega arith)) (e .result) (e .ensures) (λ z. omega arith) in
+    let few = c .before .before .before .before .before .before .pre in
     omega arith
 
 returns : tie.Need-returns
 returns c =
-    let a = c .before .before .before .before .before .args in
-    let r = c .before .before .before .two-amounts in
-    let some = c .before .if1 .taken in
-    c .with-amounts .ensures ∙ decimals-counted (entryFor (a .m)) (now (a .s)) (a .at) (r .result) (r .ensures (λ z. omega arith)) (a .sum)
+    let a = c .before .before .before .before .before .before .before .args in
+    let front = c .before .before .before .before .before .two-amounts in
+    let some = c .before .before .before .if1 .taken in
+    let e = c .before .before .entry-end in
+    let more = c .before .if2 .taken in
+    c .with-amounts .ensures
+    ∙ decimals-counted (entryFor (a .m)) (a .s .now) (a .at) (front .result) (front .ensures (λ z. omega arith)) (e .result) (e .ensures) (λ z. omega arith) (a .sum)
 
 entry-at-requires : tie.Need-entry-at-requires
 entry-at-requires c κs = search needs
@@ -41,24 +49,35 @@ refused-requires c κs = search needs
 returns-2 : tie.Need-returns-2
 returns-2 c =
     let a = c .before .before .before .before .before .before .before .before .args in
-    let s = now (a .s) in
+    let s = a .s .now in
     let f = c .before .before .before .entry-at in
-    c .refused .ensures ∙ counted-none s (a .sum) (f .result) 0 (found-broken (entryFor (a .m)) s (a .at) (f .result) (f .ensures) (c .before .if2 .taken))
+    c .refused .ensures ∙ counted-none s (a .sum) (f .result) 0 (found-broken (entryFor (a .m)) s (a .at) (f .result) (f .ensures) (c .before .if3 .taken))
     ∙ ap (counted s (a .sum)) (f .ensures)
 
 counted-requires : tie.Need-counted-requires
 counted-requires c κs =
     let a = c .before .before .before .before .before .before .before .args in
-    let s = now (a .s) in
+    let s = a .s .now in
     let f = c .before .before .entry-at in
-    let past = found-past (entryFor (a .m)) s (a .at) (f .result) (f .ensures) (c .if2 .left) in
+    let past = found-past (entryFor (a .m)) s (a .at) (f .result) (f .ensures) (c .if3 .left) in
     let few = c .before .before .before .before .before .before .before .pre in
     (found-laid (entryFor (a .m)) s (a .at) (f .result) (f .ensures) (sound-for (a .m) s), omega arith)
 
 returns-3 : tie.Need-returns-3
 returns-3 c =
     let a = c .before .before .before .before .before .before .before .before .args in
-    c .counted .ensures ∙ ap (counted (now (a .s)) (a .sum)) (c .before .before .before .entry-at .ensures)
+    c .counted .ensures ∙ ap (counted (a .s .now) (a .sum)) (c .before .before .before .entry-at .ensures)
 
 pub next-entry-spec : {M : Type 1} → statement M
-next-entry-spec = tie.close (tie.spec two-amounts-requires with-amounts-requires returns entry-at-requires refused-requires returns-2 counted-requires returns-3)
+next-entry-spec =
+    tie.close
+    (tie.spec
+    two-amounts-requires
+    entry-end-requires
+    with-amounts-requires
+    returns
+    entry-at-requires
+    refused-requires
+    returns-2
+    counted-requires
+    returns-3)

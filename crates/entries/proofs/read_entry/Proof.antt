@@ -1,4 +1,5 @@
--- `entries::read_entry` meets its contract: an entry whose texts are decimals has these for its price and its size, and any other is found first.
+-- `entries::read_entry` meets its contract: an entry that begins with two decimals in quotes has these for its price and its size, and any other is found
+-- first.
 -- Assumes nothing.
 use native.Mathlib.Omega.{arith}
 use Rattle.entries.proofs.Decimals.{entry-numbers}
@@ -9,12 +10,17 @@ use Rattle.entries.proofs.read_entry.Tie as tie
 two-amounts-requires : tie.Need-two-amounts-requires
 two-amounts-requires c κs = search needs
 
+entry-end-requires : tie.Need-entry-end-requires
+entry-end-requires c κs = search needs
+
 returns : tie.Need-returns
 returns c =
-    let a = c .before .before .before .before .args in
-    let r = c .before .before .two-amounts in
-    let some = c .if1 .taken in
-    entry-numbers (a .m) (a .s .now) (a .at) (r .result) (r .ensures (λ z. omega arith))
+    let a = c .before .before .before .before .before .before .before .before .args in
+    let front = c .before .before .before .before .before .before .two-amounts in
+    let some = c .before .before .before .before .if1 .taken in
+    let e = c .before .before .before .entry-end in
+    let more = c .before .before .if2 .taken in
+    entry-numbers (a .m) (a .s .now) (a .at) (front .result) (front .ensures (λ z. omega arith)) (e .result) (e .ensures) (λ z. omega arith)
 
 any-entry-requires : tie.Need-any-entry-requires
 any-entry-requires c κs = search needs
@@ -23,4 +29,4 @@ returns-2 : tie.Need-returns-2
 returns-2 c = search needs
 
 pub read-entry-spec : {M : Type 1} → statement M
-read-entry-spec = tie.close (tie.spec two-amounts-requires returns any-entry-requires returns-2)
+read-entry-spec = tie.close (tie.spec two-amounts-requires entry-end-requires returns any-entry-requires returns-2)

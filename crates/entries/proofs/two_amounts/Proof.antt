@@ -1,13 +1,11 @@
--- `entries::two_amounts` meets its contract: two decimals in quotes with a comma between begin an entry, which ends as the dialect has it; at any other
--- way out the end is 0.
+-- `entries::two_amounts` meets its contract: an array begins with two decimals in quotes and a comma between; at any other way out the end is 0.
 -- Assumes nothing.
 use borrow.Author.Needs.{needs}
 use mathlib.Core.Path.{_∙_, sym}
 use native.Mathlib.Omega.{arith}
 use Rattle.json_tokens.proofs.Laws.{end-at, in-byte}
 use Rattle.json_tokens.specs.Tokens.{separator}
-use Rattle.entries.specs.Rows.{entryFor}
-use Rattle.entries.proofs.Decimals.{decimals-at}
+use Rattle.entries.proofs.Decimals.{two-decimals}
 use Rattle.entries.proofs.two_amounts.Statement.{statement}
 use Rattle.entries.proofs.two_amounts.Tie as tie
 
@@ -50,26 +48,16 @@ returns-3 c = λ n. absurd (n (c .no-amounts3 .ensures))
 quoted-decimal-requires-2 : tie.Need-quoted-decimal-requires-2
 quoted-decimal-requires-2 c κs = search needs
 
-no-amounts-requires-4 : tie.Need-no-amounts-requires-4
-no-amounts-requires-4 c κs = search needs
-
 returns-4 : tie.Need-returns-4
-returns-4 c = λ n. absurd (n (c .no-amounts4 .ensures))
-
-entry-end-requires : tie.Need-entry-end-requires
-entry-end-requires c κs = search needs
-
-returns-5 : tie.Need-returns-5
-returns-5 c =
-    let a = c .before .before .before .before .before .before .before .before .before .before .before .before .before .before .before .args in
+returns-4 c =
+    let a = c .before .before .before .before .before .before .before .before .before .before .before .before .args in
     let s = a .s .now in
-    let blanks = c .before .before .before .before .before .before .before .before .before .before .before .skip-blanks in
-    let p = c .before .before .before .before .before .before .before .before .before .before .quoted-decimal in
-    let j = c .before .before .before .before .before .before .before .comma-end in
-    let z = c .before .before .before .before .before .quoted-decimal2 in
-    let comma = end-at (separator 44 s (p .result .end)) (j .result) (j .ensures) (c .before .before .before .before .before .before .if3 .left) in
-    decimals-at (entryFor (a .m)) s (a .at) (sym (c .before .before .before .before .before .before .before .before .before .before .before .before .before .byte-at .ensures) ∙ c .before .before .before .before .before .before .before .before .before .before .before .before .if1 .left) (blanks .result) (blanks .ensures) (p .result) (p .ensures (c .before .before .before .before .before .before .before .before .if2 .left))
-    (j .result) comma (z .result) (z .ensures (c .before .before .before .if4 .left)) (c .entry-end .result) (c .entry-end .ensures)
+    let blanks = c .before .before .before .before .before .before .before .before .skip-blanks in
+    let p = c .before .before .before .before .before .before .before .quoted-decimal in
+    let j = c .before .before .before .before .comma-end in
+    let z = c .before .before .quoted-decimal2 in
+    let comma = end-at (separator 44 s (p .result .end)) (j .result) (j .ensures) (c .before .before .before .if3 .left) in
+    λ n. two-decimals s (a .at) (sym (c .before .before .before .before .before .before .before .before .before .before .byte-at .ensures) ∙ c .before .before .before .before .before .before .before .before .before .if1 .left) (blanks .result) (blanks .ensures) (p .result) (p .ensures (c .before .before .before .before .before .if2 .left)) (j .result) comma (z .result) (z .ensures n)
 
 pub two-amounts-spec : {M : Type 1} → statement M
 two-amounts-spec =
@@ -87,7 +75,4 @@ two-amounts-spec =
     no-amounts-requires-3
     returns-3
     quoted-decimal-requires-2
-    no-amounts-requires-4
-    returns-4
-    entry-end-requires
-    returns-5)
+    returns-4)

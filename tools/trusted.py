@@ -36,13 +36,13 @@ class Module:
         self.crate, self.name = path.parts[-3], path.stem
         self.path = path
         lines = [code_of(line) for line in path.read_text(encoding="utf-8").splitlines()]
-        self.net = sum(1 for line in lines if line.strip() and not line.startswith("use ") and not line.startswith("pub mod "))
+        self.net = sum(1 for line in lines if line.strip() and not re.match(r"(?:unfoldable |abbrev )*(?:pub )?(?:use|mod) ", line))
         self.imports, self.aliases, self.owner, self.words = {}, {}, {}, {}
         self.define([line for line in self.without_imports(lines) if line.strip()])
 
     def without_imports(self, lines):
         for line in lines:
-            if not (found := re.match(r"(?:pub )?use (\S+?)(?:\.\{(.*)\})?(?: as (\S+))?$", line)):
+            if not (found := re.match(r"(?:unfoldable |abbrev )*(?:pub )?use (\S+?)(?:\.\{(.*)\})?(?: as (\S+))?$", line)):
                 yield line
             elif found[2]:
                 for item in found[2].split(","):

@@ -7,6 +7,7 @@ use Prim.Native.Nat.{ℕ, zero, suc, _+_, _≤_, _<_}
 use native.Mathlib.Omega.{arith}
 use borrow.Author.Tests.{eq-eqb, ne-eqb, eqb-true, eqb-false}
 use lib.Dec.{eqb}
+use Rattle.text.specs.Text.{byteAt}
 use Rattle.decimal.specs.Digits.{Reading, refused}
 use Rattle.json_tokens.specs.Tokens.{End, At, Broken, endOf, blanks, closing, separator, string}
 use Rattle.json_tokens.proofs.Laws.{end-at}

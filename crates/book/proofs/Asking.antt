@@ -12,7 +12,8 @@ use Rattle.lifecycle.specs.Lifecycle.{statusOf, firstState, answers, refusalOf}
 use Rattle.level.proofs.Held.{held-length}
 use Rattle.decimal.specs.Decimal.{Number, number}
 use Rattle.decimal.specs.declared.Decimal.{Decimal}
-use Rattle.settings.specs.Settings.{Terms, good, goodDepth, goodName, kept, shut, termsOf, Chosen}
+use Rattle.settings.specs.Settings.{Terms, good, goodDepth, goodName, kept, shut}
+use Rattle.settings.specs.Kept.{termsOf, Chosen}
 use Rattle.settings.specs.declared.Settings.{Settings}
 use Rattle.settings.specs.declared.Dialect.{Dialect}
 use Rattle.settings.specs.declared.Dialect.the-variants.{K, M, Unknown}

@@ -13,7 +13,8 @@ use Rattle.answer.proofs.Laws.{taken-answer}
 use Rattle.decimal.specs.Digits.{Reading, reads, refused}
 use Rattle.decimal.specs.Decimal.{Number, read, isZero}
 use Rattle.json.specs.Json.{Span}
-use Rattle.settings.specs.Settings.{Terms, good, goodDepth, goodName, termsOf}
+use Rattle.settings.specs.Settings.{Terms, good, goodDepth, goodName}
+use Rattle.settings.specs.Kept.{termsOf}
 use Rattle.settings.proofs.Depth.{good-depth}
 use Rattle.settings.specs.declared.Dialect.{Dialect}
 use Rattle.settings.specs.declared.Dialect.the-variants.{K, M, Unknown}

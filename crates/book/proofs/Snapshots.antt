@@ -9,10 +9,11 @@ use borrow.Author.Tests.{leb-true, leb-false, le-leb, lt-ltb, le-ltb}
 use lib.Dec.{leb, ltb}
 use lib.ListN.{length, take, length-take}
 use Rattle.lifecycle.specs.Lifecycle.{statusOf, answers, refusalOf}
-use Rattle.decimal.specs.Buffer.{overlaid, fits, Laid}
+use Rattle.decimal.specs.Buffer.{overlaid}
+use Rattle.decimal.specs.Laying.{fits, Laid}
 use Rattle.decimal.specs.declared.Written.{Written}
 use Rattle.decimal.specs.declared.Written.the-variants.{To, Full}
-use Rattle.settings.specs.Settings.{termsOf}
+use Rattle.settings.specs.Kept.{termsOf}
 use Rattle.settings.specs.declared.Dialect.{Dialect}
 use Rattle.settings.specs.declared.Dialect.the-variants.{K, M, Unknown}
 use Rattle.level.specs.Words.{shown}

@@ -6,7 +6,8 @@ use mathlib.Core.List.{List, map}
 use lib.ListN.{length}
 use Rattle.decimal.specs.Decimal.{number}
 use Rattle.decimal.specs.declared.Decimal.{Decimal}
-use Rattle.settings.specs.Settings.{Terms, good, termsOf}
+use Rattle.settings.specs.Settings.{Terms, good}
+use Rattle.settings.specs.Kept.{termsOf}
 use Rattle.level.specs.Words.{shown}
 use Rattle.level.specs.Kept.{keptIn, held}
 use Rattle.level.specs.declared.Side.{Side}

@@ -8,7 +8,8 @@ use lib.ListN.{length}
 use Rattle.lifecycle.specs.Lifecycle.{statusOf, liveStanding, refusedStanding, judgedUpdate}
 use Rattle.answer.specs.Answers.{isTaken, leavesStatus}
 use Rattle.decimal.specs.Digits.{reads}
-use Rattle.settings.specs.Settings.{isM, termsOf, good}
+use Rattle.settings.specs.Settings.{isM, good}
+use Rattle.settings.specs.Kept.{termsOf}
 use Rattle.settings.specs.declared.Dialect.{Dialect}
 use Rattle.level.specs.Words.{shown}
 use Rattle.level.specs.Kept.{keptIn, held}

@@ -1,6 +1,6 @@
 // A live book written out as a snapshot.
 ghost use mathlib.Core.Path.{_≡_};
-ghost use Rattle.decimal.specs.Buffer.{Laid};
+ghost use Rattle.decimal.specs.Laying.{Laid};
 ghost use Rattle.reference.specs.Reference.{snapshotText};
 ghost use Rattle.book.specs.Shown.{shows, Good};
 use crate::Book;

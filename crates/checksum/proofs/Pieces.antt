@@ -8,7 +8,8 @@ use native.Mathlib.Numerals.{add-one}
 use lib.Bits.{bitXor, xor-comm}
 use lib.ListN.{length, getD, take, drop, length-map, length-append, drop-of-length-le}
 use lib.Seq.{take-nil, take-take, drop-cons, getD-take, length-take-le}
-use Rattle.decimal.specs.Decimal.{Number, number, Within, text, stripped}
+use Rattle.decimal.specs.Decimal.{Number, number, text, stripped}
+use Rattle.decimal.specs.Limits.{Within}
 use Rattle.decimal.specs.declared.Decimal.{Decimal}
 use Rattle.decimal.proofs.Text.{length-text, length-stripped}
 use Rattle.crc32_spec.specs.Crc.{bits, step, run, start, finish, crc, bit}

@@ -5,7 +5,8 @@ use mathlib.Core.Path.{_≡_, refl}
 use mathlib.Core.List.{List, [], _∷_, map}
 use Rattle.text.specs.Text.{ascii, isDigit, joined}
 use Rattle.decimal.specs.Digits.{Reading, reads, refused, leading, valueFrom, fixed, significantIn, significant, written}
-use Rattle.decimal.specs.Decimal.{Number, isWhole, fractional, pointed, prefix, read, text, afterPoint, withoutPoint, withoutZeros, stripped, value, orderOf, order}
+use Rattle.decimal.specs.Decimal.{Number, isWhole, fractional, pointed, prefix, read, text, afterPoint, withoutPoint, withoutZeros, stripped, value}
+use Rattle.decimal.specs.Limits.{orderOf, order}
 use Rattle.decimal.specs.declared.Order.the-variants.{Equal}
 use Rattle.crc32_spec.specs.Crc.{bit, bits, step, run, crc}
 use Rattle.level.specs.Level.{PriceLevel}

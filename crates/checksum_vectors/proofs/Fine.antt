@@ -9,7 +9,8 @@ use borrow.Author.Tests.{eqb-true, eqb-false}
 use lib.Dec.{eqb}
 use lib.ListN.{length, take, set, length-append, length-set}
 use lib.Seq.{take-suc-set, length-take-le}
-use Rattle.decimal.specs.Decimal.{Number, number, Within}
+use Rattle.decimal.specs.Decimal.{Number, number}
+use Rattle.decimal.specs.Limits.{Within}
 use Rattle.decimal.specs.declared.Decimal.{Decimal}
 use Rattle.level.specs.Level.{PriceLevel}
 use Rattle.level.specs.Words.{levelPrice, levelSize, shown}

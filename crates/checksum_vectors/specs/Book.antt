@@ -4,7 +4,8 @@ use mathlib.Core.Bool.{Bool, true, false}
 use mathlib.Core.List.{List}
 use mathlib.Core.Path.{_≡_}
 use lib.ListN.{length, take}
-use Rattle.decimal.specs.Decimal.{Number, Within}
+use Rattle.decimal.specs.Decimal.{Number}
+use Rattle.decimal.specs.Limits.{Within}
 use Rattle.piece.specs.Piece.{kPiece, mPiece}
 use Rattle.level.specs.Words.{levelPrice}
 use Rattle.level.specs.Ranked.{All, IfSet}

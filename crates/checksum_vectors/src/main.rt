@@ -7,7 +7,8 @@
 ghost use mathlib.Core.Path.{_≡_};
 ghost use Prim.Native.Nat.{_≤_};
 ghost use lib.ListN.{length};
-ghost use Rattle.decimal.specs.Decimal.{number, Within};
+ghost use Rattle.decimal.specs.Decimal.{number};
+ghost use Rattle.decimal.specs.Limits.{Within};
 ghost use Rattle.checksum.specs.Carried.{Made};
 ghost use Rattle.checksum_vectors.specs.Book.{pieceFor, Fine, FineSide, Readable, Stored};
 use decimal::Decimal;

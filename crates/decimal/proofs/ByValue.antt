@@ -9,7 +9,8 @@ use borrow.Author.Tests.{lt-ltb, le-ltb, eq-eqb, ne-eqb, ltb-true, ltb-false, eq
 use lib.Dec.{ltb, eqb, lit<, lit≤}
 use lib.Pow.{pow-add}
 use lib.Arith.{lt-of-le-ne}
-use Rattle.decimal.specs.Decimal.{Number, value, orderOf, order, isZero, Within, maxDecimals, maxWhole}
+use Rattle.decimal.specs.Decimal.{Number, value, isZero, maxDecimals, maxWhole}
+use Rattle.decimal.specs.Limits.{orderOf, order, Within}
 use Rattle.decimal.specs.declared.Order.{Order}
 use Rattle.decimal.specs.declared.Order.the-variants.{Less, Equal, Greater}
 use Rattle.decimal.proofs.Digits.{tens, tens-mono}

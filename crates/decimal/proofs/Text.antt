@@ -11,7 +11,8 @@ use lib.Pow.{pow-add}
 use lib.ListN.{length, getD, length-append}
 use Rattle.text.specs.Text.{isDigit}
 use Rattle.decimal.specs.Digits.{digit, fixed, significant, written}
-use Rattle.decimal.specs.Decimal.{Number, Within, point, text, afterPoint, withoutPoint, withoutZeros, stripped, maxWhole, maxDecimals}
+use Rattle.decimal.specs.Decimal.{Number, point, text, afterPoint, withoutPoint, withoutZeros, stripped, maxWhole, maxDecimals}
+use Rattle.decimal.specs.Limits.{Within}
 use Rattle.decimal.specs.Tail.{remaining, remainingOf}
 use Rattle.decimal.specs.declared.Tail.{Tail}
 use Rattle.decimal.specs.declared.Part.{Part}

@@ -1,14 +1,12 @@
 -- Decimals, as document 01 has them under "Decimals": 1 to 10 digits, then optionally a point and 1 to 9 digits; no sign, no exponent;
 -- no leading zero before the point unless it is the single digit 0. Assumes nothing: these are definitions.
 use Prim.Native.Nat.{ℕ, zero, suc, _+_, _-_, _*_, _/_, _^_, _≤_, _<_}
-use mathlib.Core.Bool.{Bool, true, false, _&&_, not}
+use mathlib.Core.Bool.{Bool, true, false, _&&_, not, cond}
 use mathlib.Core.List.{List, [], _∷_, _++_}
 use lib.Dec.{leb, ltb, eqb}
 use lib.ListN.{length, getD, drop}
 use Rattle.decimal.specs.Digits.{Reading, reads, refused, leading, valueOf, fixed, written}
 use Rattle.decimal.specs.declared.Decimal.{Decimal}
-use Rattle.decimal.specs.declared.Order.{Order}
-use Rattle.decimal.specs.declared.Order.the-variants.{Less, Equal, Greater}
 
 -- ---- limits: digits before the point, and after it
 
@@ -45,34 +43,18 @@ prefixed w decimals size = reads (record { number = record { digits = valueOf w;
 
 -- w before the point and f after it
 unfoldable pub fractional : List ℕ → List ℕ → Reading Prefix
-fractional w f =
-    elim (leb 1 (length f) && leb (length f) maxDecimals) [
-      | true ↦ prefixed (w ++ f) (length f) (length w + 1 + length f)
-      | false ↦ refused
-    ]
+fractional w f = cond (leb 1 (length f) && leb (length f) maxDecimals) (prefixed (w ++ f) (length f) (length w + 1 + length f)) refused
 
 -- w before the point, if there is one at the front of t
 unfoldable pub pointed : List ℕ → List ℕ → Reading Prefix
-pointed w t =
-    elim (eqb (getD t 0 0) point) [
-      | true ↦ fractional w (leading (drop 1 t))
-      | false ↦ prefixed w 0 (length w)
-    ]
+pointed w t = cond (eqb (getD t 0 0) point) (fractional w (leading (drop 1 t))) (prefixed w 0 (length w))
 
 unfoldable pub prefix : List ℕ → Reading Prefix
-prefix s =
-    elim (isWhole maxWhole (leading s)) [
-      | true ↦ pointed (leading s) (drop (length (leading s)) s)
-      | false ↦ refused
-    ]
+prefix s = cond (isWhole maxWhole (leading s)) (pointed (leading s) (drop (length (leading s)) s)) refused
 
 -- A decimal text: a decimal at its front, and nothing after it.
 unfoldable pub read : List ℕ → Reading Number
-read s =
-    elim (prefix s) [
-      | reads p ↦ elim (eqb (p .size) (length s)) [ true ↦ reads (p .number) | false ↦ refused ]
-      | refused ↦ refused
-    ]
+read s = elim (prefix s) [ reads p ↦ elim (eqb (p .size) (length s)) [ true ↦ reads (p .number) | false ↦ refused ] | refused ↦ refused ]
 
 -- ---- its text rebuilt
 
@@ -95,22 +77,10 @@ withoutZeros (c ∷ s) = elim (eqb c 48) [ true ↦ withoutZeros s | false ↦ c
 unfoldable pub stripped : Number → List ℕ
 stripped n = withoutZeros (withoutPoint (text n))
 
--- ---- its value, counted in the smallest decimal, and the order by value
+-- ---- its value, counted in the smallest decimal
 
 unfoldable pub value : Number → ℕ
 value n = n .digits * 10 ^ (maxDecimals - n .decimals)
 
-unfoldable pub orderOf : ℕ → ℕ → Order
-orderOf x y = elim (ltb x y) [ true ↦ Less | false ↦ elim (eqb x y) [ true ↦ Equal | false ↦ Greater ] ]
-
-unfoldable pub order : Number → Number → Order
-order a b = orderOf (value a) (value b)
-
 unfoldable pub isZero : Number → Bool
 isZero n = eqb (n .digits) 0
-
--- ---- what every decimal that was read keeps: at most `maxWhole` digits before the point and `maxDecimals` after it
-
-pub record Within (n : Number) : Type 0 where
-  pub few : n .decimals ≤ maxDecimals
-  pub low : n .digits < 10 ^ (maxWhole + n .decimals)

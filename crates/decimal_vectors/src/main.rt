@@ -8,7 +8,8 @@
 ghost use mathlib.Core.Path.{_≡_};
 ghost use Prim.Native.Nat.{_≤_};
 ghost use lib.ListN.{length};
-ghost use Rattle.decimal.specs.Decimal.{number, Within};
+ghost use Rattle.decimal.specs.Decimal.{number};
+ghost use Rattle.decimal.specs.Limits.{Within};
 use decimal::Decimal;
 use decimal::Order;
 use decimal::Parsed;

@@ -9,7 +9,8 @@ use borrow.Author.Tests.{eq-eqb, ne-eqb, eqb-true, eqb-false}
 use lib.Dec.{eqb}
 use Rattle.text.specs.Text.{byteAt}
 use Rattle.decimal.specs.Digits.{Reading, refused}
-use Rattle.json_tokens.specs.Tokens.{End, At, Broken, endOf, blanks, closing, separator, string}
+use Rattle.json_tokens.specs.Tokens.{End, At, Broken, blanks, closing, separator, string}
+use Rattle.json_tokens.specs.Ends.{endOf}
 use Rattle.json_tokens.proofs.Laws.{end-at}
 use Rattle.json_tokens.proofs.Bounds.{bounds, end-broken, closing-in, separator-in}
 use lib.ListN.{length}

@@ -5,7 +5,8 @@ use mathlib.Core.Bool.{Bool}
 use mathlib.Core.List.{List}
 use mathlib.Core.Path.{_≡_}
 use Rattle.decimal.specs.Digits.{reads}
-use Rattle.decimal.specs.Decimal.{number, read, Within}
+use Rattle.decimal.specs.Decimal.{number, read}
+use Rattle.decimal.specs.Limits.{Within}
 use Rattle.decimal.specs.declared.Decimal.{Decimal}
 use Rattle.json_tokens.specs.Tokens.{At, string}
 use Rattle.json.specs.Json.{Span}

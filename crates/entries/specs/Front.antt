@@ -8,7 +8,8 @@ use lib.ListN.{length}
 use Rattle.text.specs.Text.{byteAt}
 use Rattle.decimal.specs.Digits.{Reading, reads, refused}
 use Rattle.json_tokens.specs.Bytes.{openArray, comma, closeArray}
-use Rattle.json_tokens.specs.Tokens.{End, At, Broken, endOf, blanks, separator, string}
+use Rattle.json_tokens.specs.Tokens.{End, At, Broken, blanks, separator, string}
+use Rattle.json_tokens.specs.Ends.{endOf}
 use Rattle.json.specs.Json.{Span, list, itemsEnd, element, value}
 use Rattle.entries.specs.Rows.{Row, entryDepth, elementDepth, entryFor}
 use Rattle.entries.specs.Summary.{foundOf, priceSpan, sizeSpan, foundAt}

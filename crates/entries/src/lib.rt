@@ -34,7 +34,7 @@ ghost use Prim.Native.Nat.{_+_, _≤_};
 ghost use Rattle.decimal.specs.Digits.{refused};
 ghost use Rattle.decimal.specs.Decimal.{number, read};
 ghost use Rattle.decimal.specs.Reads.{parsed};
-ghost use Rattle.json_tokens.specs.Tokens.{endOf};
+ghost use Rattle.json_tokens.specs.Ends.{endOf};
 ghost use Rattle.json.specs.Json.{value};
 ghost use Rattle.entries.specs.Places.{inner};
 ghost use Rattle.entries.specs.Rows.{entryDepth, entryK, entryFor, isBadPrice, isBadSize};

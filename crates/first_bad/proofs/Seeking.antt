@@ -8,7 +8,8 @@ use native.Mathlib.Omega.{arith}
 use lib.ListN.{length}
 use Rattle.decimal.specs.Digits.{Reading}
 use Rattle.decimal.specs.Decimal.{Number, read}
-use Rattle.json_tokens.specs.Tokens.{endOf, separator}
+use Rattle.json_tokens.specs.Tokens.{separator}
+use Rattle.json_tokens.specs.Ends.{endOf}
 use Rattle.json_tokens.proofs.Laws.{end-at}
 use Rattle.json_tokens.proofs.Bounds.{bounds, separator-in}
 use Rattle.json.specs.Json.{Span}

@@ -10,7 +10,8 @@ use lib.Dec.{eqb}
 use Rattle.text.specs.Text.{byteAt}
 use Rattle.json_tokens.specs.Tokens.{End, At, Broken, andThen, blanks, closing, separator, string}
 use Rattle.json_tokens.proofs.Bounds.{within, none, bounds, in-when, in-sub, Within, blanks-in, string-in, closing-in, separator-in, scalar-in}
-use Rattle.json.specs.Json.{Span, Pair, Next, item, ends, wrong, Items, next, onward, list, listOf, itemsEnd, element, member, memberEnd, elements, members, value}
+use Rattle.json.specs.Json.{Span, Pair, Next, item, ends, wrong, Items, next, onward, list, listOf, itemsEnd, element, member, elements, members, value}
+use Rattle.json.specs.Ends.{memberEnd}
 use Rattle.json.proofs.Laws.{before-end}
 
 -- the position past what is found

@@ -4,10 +4,12 @@ use mathlib.Core.Path.{_≡_, refl, _∙_}
 use mathlib.Core.List.{List}
 use Prim.Native.Nat.{ℕ, _<_}
 use native.Mathlib.Omega.{arith}
-use Rattle.json_tokens.specs.Tokens.{End, At, Broken, endOf, blanks, closing, separator}
+use Rattle.json_tokens.specs.Tokens.{End, At, Broken, blanks, closing, separator}
+use Rattle.json_tokens.specs.Ends.{endOf}
 use Rattle.json_tokens.proofs.Laws.{end-at, end-is, end-none}
 use Rattle.json_tokens.proofs.Bounds.{Within, bounds, end-broken, closing-in}
-use Rattle.json.specs.Json.{Next, item, wrong, Items, items, noItems, listOf, itemsEnd, element, member, memberEnd, value}
+use Rattle.json.specs.Json.{Next, item, wrong, Items, items, noItems, listOf, itemsEnd, element, member, value}
+use Rattle.json.specs.Ends.{memberEnd}
 use Rattle.json.specs.Fold.{foldedIn}
 use Rattle.json.proofs.Laws.{element-is, element-wrong, by-member, member-is, no-member}
 use Rattle.json.proofs.Bounds.{value-in, memberEnd-value}

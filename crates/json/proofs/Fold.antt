@@ -6,7 +6,8 @@ use mathlib.Core.List.{List, [], _∷_}
 use Prim.Native.Nat.{ℕ, _≤_, _<_}
 use native.Mathlib.Omega.{arith}
 use lib.ListN.{length}
-use Rattle.json_tokens.specs.Tokens.{At, Broken, endOf, blanks, closing, separator, string}
+use Rattle.json_tokens.specs.Tokens.{At, Broken, blanks, closing, separator, string}
+use Rattle.json_tokens.specs.Ends.{endOf}
 use Rattle.json_tokens.proofs.Laws.{end-at}
 use Rattle.json_tokens.proofs.Bounds.{bounds, end-broken, blanks-in, closing-in, separator-in, string-in}
 use Rattle.json.specs.Json.{Span, Pair, Next, item, wrong, Items, items, noItems, before, listOf, element, member, value}

@@ -9,7 +9,8 @@ use borrow.Author.Tests.{ne-eqb}
 use Rattle.text.specs.Text.{byteAt}
 use Rattle.json_tokens.specs.Tokens.{End, At, Broken, andThen, blanks, closing, separator, string, scalar, ended}
 use Rattle.json_tokens.proofs.Laws.{scalar-string}
-use Rattle.json.specs.Json.{Next, item, ends, wrong, Items, items, noItems, next, before, itemsEnd, element, member, memberEnd, elements, members, value, text}
+use Rattle.json.specs.Json.{Next, item, ends, wrong, Items, items, noItems, next, before, itemsEnd, element, member, elements, members, value, text}
+use Rattle.json.specs.Ends.{memberEnd}
 
 -- ---- a value, by its first byte
 module _ (s : List ℕ) (i : ℕ) where

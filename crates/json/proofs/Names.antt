@@ -14,7 +14,8 @@ use Rattle.json_tokens.specs.Tokens.{End, At, Broken, andThen, prefix, word}
 use Rattle.json_tokens.proofs.Laws.{here, past, by-place, then-at, then-broken, word-nil, word-cons, word-other, word-append}
 use Rattle.json_tokens.proofs.Bounds.{word-is}
 use Rattle.json.specs.Json.{Span}
-use Rattle.json.specs.Names.{part, means, spelled, holds}
+use Rattle.json.specs.Names.{part, means, holds}
+use Rattle.json.specs.Ends.{spelled}
 
 -- ---- a backslash, one step at a time: what is left of the part at i
 module _ (s : List ℕ) (to i : ℕ) where

@@ -36,11 +36,7 @@ pub data Items (A : Type 0) : Type 0 where
 -- item; later, past an item, it is a comma and an item, or the closing bracket.
 unfoldable pub next : {A : Type 0} → (ℕ → Next A) → ℕ → List ℕ → Bool → ℕ → Next A
 next one close s true i = elim (closing close s i) [ At e ↦ ends e | Broken ↦ one (blanks s i) ]
-next one close s false i =
-    elim (separator comma s i) [
-      | At j ↦ one j
-      | Broken ↦ elim (closing close s i) [ At e ↦ ends e | Broken ↦ wrong ]
-    ]
+next one close s false i = elim (separator comma s i) [ At j ↦ one j | Broken ↦ elim (closing close s i) [ At e ↦ ends e | Broken ↦ wrong ] ]
 
 unfoldable pub before : {A : Type 0} → A → Items A → Items A
 before a (items l e) = items (a ∷ l) e
@@ -83,10 +79,6 @@ member value s i =
       | Broken ↦ wrong
     ]
 
--- the same, where only its end is asked for
-unfoldable pub memberEnd : (ℕ → End) → List ℕ → ℕ → End
-memberEnd value s i = andThen (string s i) (λ k. andThen (separator colon s k) value)
-
 -- array = begin-array [ value *( value-separator value ) ] end-array, from past the bracket
 unfoldable pub elements : (ℕ → End) → List ℕ → ℕ → Items Span
 elements value s i = listOf (element value) closeArray s i
@@ -101,10 +93,7 @@ value zero s i = scalar s i
 value (suc d) s i =
     elim (eqb (byteAt s i) openArray) [
       | true ↦ itemsEnd (elements (value d s) s (i + 1))
-      | false ↦ elim (eqb (byteAt s i) openObject) [
-        | true ↦ itemsEnd (members (value d s) s (i + 1))
-        | false ↦ scalar s i
-      ]
+      | false ↦ elim (eqb (byteAt s i) openObject) [ true ↦ itemsEnd (members (value d s) s (i + 1)) | false ↦ scalar s i ]
     ]
 
 -- arrays and objects nest at most this deep, the outermost counting as one

@@ -2,5 +2,6 @@
 pub mod Json
 pub mod Fold
 pub mod Names
+pub mod Ends
 pub mod Claims
 pub mod Examples

@@ -18,11 +18,6 @@ part s a = take (a .to - a .from) (drop (a .from) s)
 unfoldable pub means : List ℕ → Span → List ℕ → Bool
 means s a name = elim (word (quote ∷ (name ++ (quote ∷ []))) s (a .from)) [ At e ↦ eqb e (a .to) | Broken ↦ false ]
 
--- a short name as one number, the first of its n bytes the lowest
-unfoldable pub spelled : ℕ → ℕ → List ℕ
-spelled zero w = []
-spelled (suc n) w = w % 256 ∷ spelled n (w / 256)
-
 unfoldable pub holds : ℕ → List ℕ → Bool
 holds c [] = false
 holds c (d ∷ t) = eqb d c || holds c t

@@ -31,9 +31,12 @@ use json_tokens::string_end;
 use json_tokens::word_end;
 use text::byte_at;
 ghost use mathlib.Core.Path.{_≡_};
-ghost use Rattle.json_tokens.specs.Tokens.{endOf, word};
-ghost use Rattle.json.specs.Json.{itemsEnd, memberEnd, elements, members, value};
-ghost use Rattle.json.specs.Names.{means, spelled, hasBackslash};
+ghost use Rattle.json_tokens.specs.Tokens.{word};
+ghost use Rattle.json_tokens.specs.Ends.{endOf};
+ghost use Rattle.json.specs.Json.{itemsEnd, elements, members, value};
+ghost use Rattle.json.specs.Ends.{memberEnd};
+ghost use Rattle.json.specs.Names.{means, hasBackslash};
+ghost use Rattle.json.specs.Ends.{spelled};
 
 // How deep arrays and objects may nest in a text, the outermost counting as one.
 pub const MAX_DEPTH: usize = 16;

@@ -10,7 +10,8 @@ use lib.Dec.{ltb, eqb}
 use borrow.Author.Tests.{eqb-true}
 use Rattle.text.specs.Text.{byteAt, isDigit}
 use Rattle.json_tokens.specs.Bytes.{blank, hexDigit, escaped}
-use Rattle.json_tokens.specs.Tokens.{End, At, Broken, endOf, andThen, run, blanks, digits, someDigits, closing, separator, chars, escape, hexes, stringRest, string, minus, sign, int, fraction, exponent, number, prefix, word, scalar}
+use Rattle.json_tokens.specs.Tokens.{End, At, Broken, andThen, run, blanks, digits, someDigits, closing, separator, chars, escape, hexes, stringRest, string, minus, sign, int, fraction, exponent, number, prefix, word, scalar}
+use Rattle.json_tokens.specs.Ends.{endOf}
 use Rattle.json_tokens.proofs.Laws.{in-digit, in-byte, digits-on}
 
 -- the end, if there is one, is from lo to hi

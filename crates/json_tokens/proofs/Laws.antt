@@ -14,7 +14,8 @@ use lib.Dec.{ltb, eqb}
 use borrow.Author.Tests.{eq-eqb, ne-eqb, lt-ltb, le-ltb}
 use Rattle.text.specs.Text.{byteAt, isDigit}
 use Rattle.json_tokens.specs.Bytes.{blank, hexDigit, escaped}
-use Rattle.json_tokens.specs.Tokens.{End, At, Broken, endOf, andThen, run, blanks, digits, someDigits, closing, separator, chars, escape, hexes, stringRest, string, fourHex, minus, sign, int, fraction, exponent, number, prefix, word, scalar}
+use Rattle.json_tokens.specs.Tokens.{End, At, Broken, andThen, run, blanks, digits, someDigits, closing, separator, chars, escape, hexes, stringRest, string, minus, sign, int, fraction, exponent, number, prefix, word, scalar}
+use Rattle.json_tokens.specs.Ends.{endOf, fourHex}
 
 -- ---- an end as a number
 pub end-at : (x : End) (e : ℕ) → e ≡ endOf x → (e ≡ 0 → ⊥) → x ≡ At e

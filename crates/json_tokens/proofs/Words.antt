@@ -12,7 +12,7 @@ use lib.Count.{trailingZeros, trailing-of-zero}
 use lib.Dec.{leb, eqb}
 use borrow.Author.Tests.{eqb-true, eqb-false, leb-true, not-true, ne-eqb, le-leb}
 use Rattle.text.specs.Text.{byteAt}
-use Rattle.json_tokens.specs.Bytes.{unescaped}
+use Rattle.json_tokens.specs.Ends.{unescaped}
 use Rattle.json_tokens.specs.Tokens.{Broken, stringRest}
 use Rattle.json_tokens.specs.Words.{twoAt, fourAt, wordAt, specialBytes, CharEnd}
 use Rattle.json_tokens.proofs.Laws.{in-kind, rest-plain}

@@ -38,7 +38,3 @@ hexDigit c = digit c || (leb 65 c && leb c 70) || (leb 97 c && leb c 102)
 -- what stands after the backslash of a two-character escape: " \ / b f n r t
 unfoldable pub escaped : ℕ → Bool
 escaped c = eqb c quote || eqb c backslash || eqb c 47 || eqb c 98 || eqb c 102 || eqb c 110 || eqb c 114 || eqb c 116
-
--- unescaped: a byte that stands for itself in a string
-unfoldable pub unescaped : ℕ → Bool
-unescaped c = leb 32 c && (not (eqb c quote) && not (eqb c backslash))

@@ -1,4 +1,5 @@
 -- In reading order.
 pub mod Bytes
 pub mod Tokens
+pub mod Ends
 pub mod Words

@@ -14,11 +14,6 @@ pub data End : Type 0 where
   At : ℕ → End
   Broken : End
 
--- the same as one number, as the code has it: no token of a byte or more ends at 0
-unfoldable pub endOf : End → ℕ
-endOf (At e) = e
-endOf Broken = 0
-
 -- one thing, and from where it ends the next
 unfoldable pub andThen : End → (ℕ → End) → End
 andThen (At e) next = next e
@@ -67,19 +62,11 @@ unfoldable mutual
 
   pub escape : List ℕ → ℕ → End
   escape [] i = Broken
-  escape (c ∷ t) i =
-      elim (eqb c 117) [
-        | true ↦ hexes t 3 (i + 1)
-        | false ↦ elim (escaped c) [ true ↦ chars t (i + 1) | false ↦ Broken ]
-      ]
+  escape (c ∷ t) i = elim (eqb c 117) [ true ↦ hexes t 3 (i + 1) | false ↦ elim (escaped c) [ true ↦ chars t (i + 1) | false ↦ Broken ] ]
 
   pub hexes : List ℕ → ℕ → ℕ → End
   hexes [] n i = Broken
-  hexes (c ∷ t) n i =
-      elim (hexDigit c) [
-        | true ↦ elim n [ zero ↦ chars t (i + 1) | suc m ↦ hexes t m (i + 1) ]
-        | false ↦ Broken
-      ]
+  hexes (c ∷ t) n i = elim (hexDigit c) [ true ↦ elim n [ zero ↦ chars t (i + 1) | suc m ↦ hexes t m (i + 1) ] | false ↦ Broken ]
 
 -- the same at a position of a text: a string from past its first quote
 unfoldable pub stringRest : List ℕ → ℕ → End
@@ -88,10 +75,6 @@ stringRest s i = chars (drop i s) i
 -- string = quotation-mark *char quotation-mark
 unfoldable pub string : List ℕ → ℕ → End
 string s i = elim (eqb (byteAt s i) quote) [ true ↦ stringRest s (i + 1) | false ↦ Broken ]
-
--- 4HEXDIG stand at i
-unfoldable pub fourHex : List ℕ → ℕ → Bool
-fourHex s i = hexDigit (byteAt s i) && (hexDigit (byteAt s (i + 1)) && (hexDigit (byteAt s (i + 2)) && hexDigit (byteAt s (i + 3))))
 
 -- ---- numbers
 -- [ minus ]
@@ -136,10 +119,7 @@ scalar s i =
         | true ↦ word (116 ∷ 114 ∷ 117 ∷ 101 ∷ []) s i
         | false ↦ elim (eqb (byteAt s i) 102) [
           | true ↦ word (102 ∷ 97 ∷ 108 ∷ 115 ∷ 101 ∷ []) s i
-          | false ↦ elim (eqb (byteAt s i) 110) [
-            | true ↦ word (110 ∷ 117 ∷ 108 ∷ 108 ∷ []) s i
-            | false ↦ number s i
-          ]
+          | false ↦ elim (eqb (byteAt s i) 110) [ true ↦ word (110 ∷ 117 ∷ 108 ∷ 108 ∷ []) s i | false ↦ number s i ]
         ]
       ]
     ]

@@ -14,8 +14,10 @@ ghost use mathlib.Core.Path.{_≡_};
 ghost use Prim.Native.Nat.{_+_, _≤_, _<_};
 ghost use lib.ListN.{length};
 ghost use Rattle.text.specs.Text.{colon};
-ghost use Rattle.json_tokens.specs.Bytes.{comma, closeArray, closeObject, blank, hexDigit, escaped, unescaped};
-ghost use Rattle.json_tokens.specs.Tokens.{endOf, blanks, digits, someDigits, closing, separator, stringRest, string, fourHex, minus, sign, int, fraction, exponent, number, word, scalar, ended};
+ghost use Rattle.json_tokens.specs.Bytes.{comma, closeArray, closeObject, blank, hexDigit, escaped};
+ghost use Rattle.json_tokens.specs.Ends.{unescaped};
+ghost use Rattle.json_tokens.specs.Tokens.{blanks, digits, someDigits, closing, separator, stringRest, string, minus, sign, int, fraction, exponent, number, word, scalar, ended};
+ghost use Rattle.json_tokens.specs.Ends.{endOf, fourHex};
 ghost use Rattle.json_tokens.specs.Words.{twoAt, fourAt, wordAt, specialBytes, CharEnd};
 
 pub const QUOTE: u8 = 34;

@@ -6,7 +6,7 @@ use mathlib.Core.Bool.{Bool, true, false}
 use native.Mathlib.Omega.{arith}
 use lib.Dec.{eqb}
 use borrow.Author.Tests.{ltb-true, ltb-false, eq-eqb, ne-eqb}
-use Rattle.decimal.specs.Decimal.{orderOf}
+use Rattle.decimal.specs.Limits.{orderOf}
 use Rattle.decimal.specs.declared.Order.{Order}
 use Rattle.decimal.specs.declared.Order.the-variants.{Less, Equal, Greater}
 use Rattle.decimal.proofs.ByValue.{Holds, order-holds}

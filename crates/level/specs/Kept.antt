@@ -3,7 +3,7 @@ use Prim.Native.Nat.{ℕ, zero, suc, _≤_}
 use mathlib.Core.Path.{_≡_}
 use mathlib.Core.List.{List, [], _∷_}
 use lib.ListN.{length, take, set}
-use Rattle.decimal.specs.Decimal.{Within}
+use Rattle.decimal.specs.Limits.{Within}
 use Rattle.level.specs.declared.Side.{Side}
 use Rattle.level.specs.declared.Side.the-variants.{Bids, Asks}
 use Rattle.level.specs.declared.Level.{Level}

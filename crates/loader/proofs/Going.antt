@@ -6,7 +6,8 @@ use native.Mathlib.Omega.{arith}
 use lib.ListN.{length, set, length-append}
 use Rattle.decimal.specs.Digits.{Reading}
 use Rattle.decimal.specs.Decimal.{Number}
-use Rattle.json_tokens.specs.Tokens.{endOf, separator}
+use Rattle.json_tokens.specs.Tokens.{separator}
+use Rattle.json_tokens.specs.Ends.{endOf}
 use Rattle.json.specs.Json.{Span}
 use Rattle.entries.specs.Rows.{Row, maxEntries}
 use Rattle.entries.specs.Summary.{foundOf, foundAt}

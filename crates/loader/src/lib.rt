@@ -3,7 +3,8 @@
 //
 //     let n = loader::load(&message[at..], false, &mut prices, &mut sizes, &mut rests);
 //     side::apply(bids, Side::Bids, depth, &prices[..n], &sizes[..n], &rests[..n])
-ghost use Rattle.decimal.specs.Decimal.{number, Within};
+ghost use Rattle.decimal.specs.Decimal.{number};
+ghost use Rattle.decimal.specs.Limits.{Within};
 ghost use Rattle.entries.specs.Rows.{entryFor};
 ghost use Rattle.entries.specs.Arrays.{Loadable, rowsAt};
 ghost use Rattle.checksum.specs.Carried.{Made};

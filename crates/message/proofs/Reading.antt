@@ -9,7 +9,8 @@ use borrow.Author.Tests.{lt-ltb, le-ltb, leb-true}
 use lib.Dec.{leb}
 use lib.ListN.{length}
 use Rattle.decimal.specs.Digits.{reads, refused}
-use Rattle.json_tokens.specs.Tokens.{End, At, Broken, endOf, blanks, ended}
+use Rattle.json_tokens.specs.Tokens.{End, At, Broken, blanks, ended}
+use Rattle.json_tokens.specs.Ends.{endOf}
 use Rattle.json.specs.Json.{value}
 use Rattle.settings.specs.Settings.{Terms, goodDepth, goodName, good}
 use Rattle.settings.specs.declared.Dialect.the-variants.{K, Unknown}

@@ -7,7 +7,7 @@ use native.Mathlib.Omega.{arith}
 use Rattle.text.specs.Text.{ascii}
 use Rattle.decimal.specs.Digits.{digit, significantIn, significant, written}
 use Rattle.decimal.proofs.Digits.{significant-zero, significant-step}
-use Rattle.json.specs.Names.{spelled}
+use Rattle.json.specs.Ends.{spelled}
 
 one-digit : (q : ℕ) → 0 < q → q < 10 → significant q ≡ digit q ∷ []
 one-digit q p h =

@@ -10,7 +10,8 @@ use borrow.Author.Tests.{eq-eqb, ne-eqb}
 use Rattle.decimal.specs.Digits.{Reading}
 use Rattle.decimal.specs.Whole.{readWhole, readChecksum}
 use Rattle.text.specs.Text.{byteAt}
-use Rattle.json_tokens.specs.Tokens.{At, endOf}
+use Rattle.json_tokens.specs.Tokens.{At}
+use Rattle.json_tokens.specs.Ends.{endOf}
 use Rattle.json_tokens.proofs.Bounds.{bounds, end-broken}
 use Rattle.json.specs.Json.{value}
 use Rattle.json.specs.Names.{part}

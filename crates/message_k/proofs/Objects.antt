@@ -6,7 +6,8 @@ use Prim.Native.Nat.{ℕ, _+_}
 use borrow.Author.Tests.{eq-eqb, ne-eqb}
 use Rattle.decimal.specs.Digits.{Reading, reads, refused}
 use Rattle.text.specs.Text.{byteAt}
-use Rattle.json_tokens.specs.Tokens.{End, At, Broken, endOf}
+use Rattle.json_tokens.specs.Tokens.{End, At, Broken}
+use Rattle.json_tokens.specs.Ends.{endOf}
 use Rattle.json.specs.Json.{Pair, Items, items, noItems, itemsEnd, members, value}
 use Rattle.json.proofs.Laws.{value-object}
 use Rattle.entries.specs.Places.{contents, objectAt}

@@ -7,7 +7,8 @@ use Prim.Native.Nat.{ℕ, _+_, _*_}
 use lib.Dec.{eqb}
 use borrow.Author.Tests.{eqb-false}
 use Rattle.text.specs.Text.{ascii}
-use Rattle.json_tokens.specs.Tokens.{At, endOf}
+use Rattle.json_tokens.specs.Tokens.{At}
+use Rattle.json_tokens.specs.Ends.{endOf}
 use Rattle.json.specs.Json.{Span, Pair, value}
 use Rattle.json.specs.Names.{means}
 use Rattle.entries.specs.Rows.{entryK}

@@ -6,7 +6,8 @@ use mathlib.Core.Bool.{Bool, true, false, cond}
 use Prim.Native.Nat.{ℕ}
 use lib.Dec.{eqb}
 use borrow.Author.Tests.{eq-eqb, ne-eqb}
-use Rattle.json_tokens.specs.Tokens.{At, endOf}
+use Rattle.json_tokens.specs.Tokens.{At}
+use Rattle.json_tokens.specs.Ends.{endOf}
 use Rattle.json_tokens.proofs.Laws.{end-at}
 use Rattle.json.specs.Json.{value}
 use Rattle.entries.specs.Places.{objectAt, wholeAt}

@@ -6,7 +6,8 @@ use mathlib.Core.List.{List}
 use lib.Dec.{leb, ltb, eqb}
 use Rattle.text.specs.Text.{ascii}
 use Rattle.decimal.specs.Digits.{Reading, reads, refused}
-use Rattle.json_tokens.specs.Tokens.{At, Broken, endOf}
+use Rattle.json_tokens.specs.Tokens.{At, Broken}
+use Rattle.json_tokens.specs.Ends.{endOf}
 use Rattle.json.specs.Json.{Span, Pair, value}
 use Rattle.json.specs.Names.{means}
 use Rattle.entries.specs.Places.{objectAt, quotedChecksumAt}

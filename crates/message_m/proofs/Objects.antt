@@ -9,7 +9,8 @@ use borrow.Author.Tests.{eq-eqb, ne-eqb, eqb-true, eqb-false}
 use lib.Dec.{eqb}
 use Rattle.decimal.specs.Digits.{Reading, reads, refused}
 use Rattle.text.specs.Text.{byteAt}
-use Rattle.json_tokens.specs.Tokens.{Broken, endOf, blanks, closing}
+use Rattle.json_tokens.specs.Tokens.{Broken, blanks, closing}
+use Rattle.json_tokens.specs.Ends.{endOf}
 use Rattle.json.specs.Json.{Span, Pair, Items, items, noItems, itemsEnd, members, value}
 use Rattle.json.proofs.Laws.{value-object}
 use Rattle.entries.specs.Places.{contents, objectAt}

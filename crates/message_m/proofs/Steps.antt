@@ -10,9 +10,11 @@ use lib.Dec.{eqb}
 use lib.ListN.{length, getD}
 use Rattle.text.specs.Text.{ascii, byteAt}
 use Rattle.decimal.specs.Digits.{Reading, reads, refused}
-use Rattle.json_tokens.specs.Tokens.{End, At, Broken, endOf}
+use Rattle.json_tokens.specs.Tokens.{End, At, Broken}
+use Rattle.json_tokens.specs.Ends.{endOf}
 use Rattle.json.specs.Json.{Span, Pair, Items, items, noItems, itemsEnd, elements, value}
-use Rattle.json.specs.Names.{means, spelled, holds, hasBackslash}
+use Rattle.json.specs.Names.{means, holds, hasBackslash}
+use Rattle.json.specs.Ends.{spelled}
 use Rattle.json.proofs.Laws.{value-array}
 use Rattle.json.proofs.Claims.{backslash-no-name}
 use Rattle.entries.specs.Places.{andThen, contents, isString, arrayAt, objectAt}

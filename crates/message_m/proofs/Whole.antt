@@ -10,7 +10,8 @@ use lib.Dec.{eqb}
 use lib.ListN.{length}
 use Rattle.text.specs.Text.{ascii, byteAt}
 use Rattle.decimal.specs.Digits.{Reading, reads, refused}
-use Rattle.json_tokens.specs.Tokens.{End, At, Broken, endOf, blanks, closing}
+use Rattle.json_tokens.specs.Tokens.{End, At, Broken, blanks, closing}
+use Rattle.json_tokens.specs.Ends.{endOf}
 use Rattle.json.specs.Json.{Span, Pair, value}
 use Rattle.json.specs.Names.{means, hasBackslash}
 use Rattle.json.proofs.Fold.{Loop, Left, overMembers}

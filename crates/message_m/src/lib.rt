@@ -42,7 +42,7 @@ ghost use mathlib.Core.Bool.{_&&_, _||_};
 ghost use lib.Dec.{eqb};
 ghost use Rattle.text.specs.Text.{ascii};
 ghost use Rattle.decimal.specs.Reads.{parsedChecksum, parsedWhole};
-ghost use Rattle.json_tokens.specs.Tokens.{endOf};
+ghost use Rattle.json_tokens.specs.Ends.{endOf};
 ghost use Rattle.json.specs.Json.{value};
 ghost use Rattle.json.specs.Names.{means, hasBackslash};
 ghost use Rattle.entries.specs.Places.{andThen, wholeAt, checksumAt};

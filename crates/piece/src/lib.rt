@@ -7,7 +7,8 @@
 //     piece::m_piece(price, size)    // `:9:2` for 9 and 2: a colon before each part, so that pieces are joined as they are
 ghost use Prim.Native.Nat.{_+_, _<_, _^_};
 ghost use lib.ListN.{length};
-ghost use Rattle.decimal.specs.Decimal.{number, Within};
+ghost use Rattle.decimal.specs.Decimal.{number};
+ghost use Rattle.decimal.specs.Limits.{Within};
 ghost use Rattle.decimal.specs.Tail.{remaining};
 ghost use Rattle.text.specs.Text.{colon};
 ghost use Rattle.piece.specs.Piece.{kPiece, mPiece, SumsTo, Fed, Fronted};

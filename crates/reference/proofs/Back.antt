@@ -10,7 +10,8 @@ use lib.Dec.{ltb, lit<}
 use lib.ListN.{length, take, length-take, length-map}
 use lib.Seq.{take-all}
 use Rattle.decimal.specs.Digits.{Reading, reads, refused}
-use Rattle.decimal.specs.Decimal.{Number, read, isZero, Within, value}
+use Rattle.decimal.specs.Decimal.{Number, read, isZero, value}
+use Rattle.decimal.specs.Limits.{Within}
 use Rattle.decimal.proofs.RoundTrip.{read-within}
 use Rattle.json.specs.Json.{Span}
 use Rattle.settings.specs.Settings.{Terms, isM, good, kept}

@@ -226,23 +226,18 @@ pub data Ask : Type 0 where
   howManyUpdates : Scope → Ask
   write : Ask
 
+abbrev pub replied : Reference → Answer → Value → List ℕ → Reply
+replied p a value buffer = record { after = p; answer = a; value = value; buffer = buffer }
+
 unfoldable pub does : Reference → Ask → List ℕ → Reply
-does p (message s) buffer = record { after = hear p s .book; answer = hear p s .answer; value = nothing; buffer = buffer }
-does p (howMany scope) buffer =
-    record { after = p; answer = asked scope p; value = ifTaken (asked scope p) (counts (length (p .bids)) (length (p .asks))) (counts 0 0); buffer = buffer }
-does p (levelAt scope side i) buffer =
-    record { after = p; answer = askedLevel scope side i p; value = level (levelAsked scope side i p); buffer = buffer }
-does p (whichNumber scope) buffer =
-    record { after = p; answer = asked scope p; value = amount (ifTaken (asked scope p) (p .number) 0); buffer = buffer }
-does p (howManyUpdates scope) buffer =
-    record { after = p; answer = asked scope p; value = amount (ifTaken (asked scope p) (p .updates) 0); buffer = buffer }
+does p (message s) buffer = replied (hear p s .book) (hear p s .answer) nothing buffer
+does p (howMany scope) buffer = replied p (asked scope p) (ifTaken (asked scope p) (counts (length (p .bids)) (length (p .asks))) (counts 0 0)) buffer
+does p (levelAt scope side i) buffer = replied p (askedLevel scope side i p) (level (levelAsked scope side i p)) buffer
+does p (whichNumber scope) buffer = replied p (asked scope p) (amount (ifTaken (asked scope p) (p .number) 0)) buffer
+does p (howManyUpdates scope) buffer = replied p (asked scope p) (amount (ifTaken (asked scope p) (p .updates) 0)) buffer
 does p write buffer =
-    record {
-      after = p;
-      answer = askedWriting p buffer;
-      value = amount (ifTaken (askedWriting p buffer) (length (snapshotText p)) 0);
-      buffer = ifTaken (askedWriting p buffer) (overlaid buffer 0 (snapshotText p)) buffer;
-    }
+    replied p (askedWriting p buffer) (amount (ifTaken (askedWriting p buffer) (length (snapshotText p)) 0))
+    (ifTaken (askedWriting p buffer) (overlaid buffer 0 (snapshotText p)) buffer)
 
 -- ---- a list of calls: what is asked, and the lent buffer
 

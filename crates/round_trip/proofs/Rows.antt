@@ -10,7 +10,7 @@ use Rattle.decimal.specs.Digits.{Reading, reads, written}
 use Rattle.decimal.specs.Decimal.{Number, read, text, afterPoint}
 use Rattle.decimal.proofs.Digits.{Digits, none, one, digit-in, written-digits, fixed-digits}
 use Rattle.decimal.proofs.RoundTrip.{read-text}
-use Rattle.json_tokens.specs.Bytes.{unescaped}
+use Rattle.json_tokens.specs.Ends.{unescaped}
 use Rattle.json.specs.Json.{Span}
 use Rattle.entries.specs.Places.{andThen, all, arrayAt, inner}
 use Rattle.entries.specs.Rows.{Row, rowK, entryK, rowM, entryM, entriesAt, badPrice, badSize, badTexts, numberAt}

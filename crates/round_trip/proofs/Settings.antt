@@ -9,7 +9,7 @@ use lib.Dec.{leb}
 use lib.ListN.{length}
 use Rattle.decimal.specs.Digits.{written}
 use Rattle.decimal.proofs.Digits.{length-written}
-use Rattle.json_tokens.specs.Bytes.{unescaped}
+use Rattle.json_tokens.specs.Ends.{unescaped}
 use Rattle.settings.specs.Settings.{Terms, goodDepth, nameByte, nameBytes, goodName, good}
 use Rattle.settings.specs.declared.Dialect.the-variants.{K}
 use Rattle.round_trip.proofs.Tokens.{plain}

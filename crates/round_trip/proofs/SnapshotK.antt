@@ -10,7 +10,7 @@ use Rattle.decimal.specs.Digits.{reads, leading, valueFrom, written}
 use Rattle.decimal.specs.Decimal.{isWhole}
 use Rattle.decimal.specs.Whole.{readWhole}
 use Rattle.decimal.proofs.Digits.{written-digits}
-use Rattle.json_tokens.specs.Bytes.{unescaped}
+use Rattle.json_tokens.specs.Ends.{unescaped}
 use Rattle.json.specs.Json.{Span, Pair}
 use Rattle.entries.specs.Places.{andThen, all, arrayAt, objectAt, valuesOf, wholeAt}
 use Rattle.entries.specs.Rows.{entryK}

@@ -11,7 +11,7 @@ use Rattle.decimal.specs.Whole.{readWhole, atMost, readChecksum}
 use Rattle.decimal.proofs.Digits.{length-written}
 use Rattle.decimal.proofs.WholeNumber.{below-bound}
 use Rattle.decimal.proofs.RoundTrip.{written-read}
-use Rattle.json_tokens.specs.Bytes.{unescaped}
+use Rattle.json_tokens.specs.Ends.{unescaped}
 use Rattle.json.specs.Json.{Span, Pair}
 use Rattle.entries.specs.Places.{andThen, objectAt, valuesOf, only, wholeAt, checksumAt}
 use Rattle.entries.specs.Rows.{entryM}

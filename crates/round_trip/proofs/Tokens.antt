@@ -11,7 +11,7 @@ use lib.ListN.{length, getD, drop, length-append}
 use Rattle.text.specs.Text.{isDigit, byteAt}
 use Rattle.decimal.specs.Digits.{written, significant}
 use Rattle.decimal.proofs.Digits.{Digits, none, one, digit-in, written-digits, written-positive, significant-zero, first-significant}
-use Rattle.json_tokens.specs.Bytes.{unescaped}
+use Rattle.json_tokens.specs.Ends.{unescaped}
 use Rattle.json_tokens.specs.Tokens.{At, Broken, run, digits, blanks, closing, separator, chars, stringRest, string, int, number}
 use Rattle.json_tokens.proofs.Laws.{closing-yes, closing-no, separator-yes, separator-no, string-yes, minus-no, int-zero, int-more, some-yes, fraction-none, exponent-none, number-is}
 use Rattle.writer.specs.Snapshot.{quoted}

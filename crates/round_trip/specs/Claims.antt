@@ -4,7 +4,8 @@ use mathlib.Core.Path.{_≡_}
 use mathlib.Core.Bool.{true, false}
 use mathlib.Core.List.{List, [], _∷_, map}
 use lib.ListN.{length}
-use Rattle.decimal.specs.Decimal.{Number, Within, isZero}
+use Rattle.decimal.specs.Decimal.{Number, isZero}
+use Rattle.decimal.specs.Limits.{Within}
 use Rattle.level.specs.Level.{PriceLevel}
 use Rattle.settings.specs.Settings.{good}
 use Rattle.settings.specs.declared.Dialect.the-variants.{K, M}

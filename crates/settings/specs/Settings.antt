@@ -5,7 +5,6 @@ use mathlib.Core.Bool.{Bool, true, false, _&&_, not, cond}
 use mathlib.Core.List.{List, [], _∷_}
 use lib.Dec.{leb, eqb}
 use lib.ListN.{length, take}
-use Rattle.settings.specs.declared.Settings.{Settings}
 use Rattle.settings.specs.declared.Dialect.{Dialect}
 use Rattle.settings.specs.declared.Dialect.the-variants.{K, M, Unknown}
 
@@ -46,17 +45,3 @@ shut = record { dialect = Unknown; depth = 0; name = [] }
 
 unfoldable pub kept : Terms → Terms
 kept t = cond (good t) t shut
-
--- The settings that the code's struct holds.
-unfoldable pub termsOf : Settings → Terms
-termsOf s = record { dialect = s .dialect; depth = s .depth; name = take (s .length) (s .name) }
-
-pub record Chosen (t : Terms) (s : Settings) : Type 0 where
-  pub terms : termsOf s ≡ kept t
-  pub room : length (s .name) ≡ 16
-  pub short : s .length ≤ 16
-
--- A name at the front of an array of 16 bytes.
-pub record Copied (name copy : List ℕ) : Type 0 where
-  pub room : length copy ≡ 16
-  pub front : take (length name) copy ≡ name

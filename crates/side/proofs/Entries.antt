@@ -9,7 +9,8 @@ use borrow.Author.Tests.{eqb-true, eqb-false}
 use lib.Dec.{eqb}
 use lib.ListN.{length, getD, set, take, drop, drop-of-length-le}
 use lib.Seq.{drop-cons, take-suc, take-suc-set, take-take, take-all, length-take-le, getD-take}
-use Rattle.decimal.specs.Decimal.{Number, number, value, order, Within}
+use Rattle.decimal.specs.Decimal.{Number, number, value}
+use Rattle.decimal.specs.Limits.{order, Within}
 use Rattle.decimal.specs.declared.Decimal.{Decimal}
 use Rattle.decimal.specs.declared.Order.{Order}
 use Rattle.level.specs.declared.Side.{Side}

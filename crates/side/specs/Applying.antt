@@ -3,7 +3,7 @@ use Prim.Native.Nat.{ℕ, _≤_}
 use mathlib.Core.Path.{_≡_}
 use mathlib.Core.List.{List}
 use lib.ListN.{length}
-use Rattle.decimal.specs.Decimal.{Within}
+use Rattle.decimal.specs.Limits.{Within}
 use Rattle.level.specs.Side.{Edit, applyAll}
 use Rattle.level.specs.Ranked.{All, named, afterMessage, met}
 use Rattle.level.specs.Words.{levelPrice, entriesOf}

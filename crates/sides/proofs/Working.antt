@@ -8,7 +8,8 @@ use native.Mathlib.Omega.{arith}
 use borrow.Author.Tests.{eq-eqb, ne-eqb}
 use lib.ListN.{length, take, drop, length-map}
 use lib.Seq.{take-all}
-use Rattle.decimal.specs.Decimal.{isZero, Within}
+use Rattle.decimal.specs.Decimal.{isZero}
+use Rattle.decimal.specs.Limits.{Within}
 use Rattle.entries.specs.Rows.{Row, entryFor, numberAt}
 use Rattle.entries.specs.Arrays.{rowsAt}
 use Rattle.entries.proofs.Numbers.{number-within}

@@ -5,7 +5,7 @@ use mathlib.Core.List.{List, [], map}
 use mathlib.Core.Path.{_≡_}
 use lib.Dec.{eqb}
 use lib.ListN.{length, drop}
-use Rattle.decimal.specs.Decimal.{Within}
+use Rattle.decimal.specs.Limits.{Within}
 use Rattle.level.specs.Level.{PriceLevel, shownPrice}
 use Rattle.level.specs.Words.{levelSize, shown}
 use Rattle.level.specs.Side.{Edit, applyAll}

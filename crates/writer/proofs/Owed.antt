@@ -9,7 +9,8 @@ use native.Mathlib.Omega.{arith}
 use borrow.Author.Tests.{le-leb}
 use lib.ListN.{length, take, drop, set, length-append, length-drop}
 use lib.Seq.{set-split, take-at, drop-at, drop-drop, length-take-le}
-use Rattle.decimal.specs.Buffer.{overlaid, fits, Laid}
+use Rattle.decimal.specs.Buffer.{overlaid}
+use Rattle.decimal.specs.Laying.{fits, Laid}
 use Rattle.decimal.specs.declared.Written.{Written}
 use Rattle.decimal.specs.declared.Written.the-variants.{To, Full}
 use Rattle.decimal.proofs.Buffer.{overlaid-none, laid-to}

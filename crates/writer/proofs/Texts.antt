@@ -9,7 +9,7 @@ use lib.Dec.{lit≤}
 use lib.ListN.{length, length-append}
 use Rattle.text.specs.Text.{ascii}
 use Rattle.decimal.specs.Digits.{written}
-use Rattle.decimal.specs.Decimal.{Within}
+use Rattle.decimal.specs.Limits.{Within}
 use Rattle.decimal.proofs.Digits.{length-written}
 use Rattle.level.specs.declared.Side.{Side}
 use Rattle.level.specs.declared.Level.{Level}

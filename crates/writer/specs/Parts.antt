@@ -5,7 +5,7 @@ use mathlib.Core.Bool.{Bool, cond}
 use mathlib.Core.List.{List, _++_, map}
 use lib.ListN.{length}
 use Rattle.text.specs.Text.{ascii}
-use Rattle.decimal.specs.Decimal.{Within}
+use Rattle.decimal.specs.Limits.{Within}
 use Rattle.decimal.specs.Buffer.{overlaid}
 use Rattle.level.specs.declared.Level.{Level}
 use Rattle.level.specs.declared.Levels.{Levels}

@@ -1,7 +1,8 @@
 // Texts laid into a lent buffer that has room for them, one after another.
 ghost use mathlib.Core.List.{_++_};
 ghost use Rattle.decimal.specs.Digits.{written};
-ghost use Rattle.decimal.specs.Decimal.{number, text, Within};
+ghost use Rattle.decimal.specs.Decimal.{number, text};
+ghost use Rattle.decimal.specs.Limits.{Within};
 ghost use Rattle.writer.specs.Parts.{Room, Put, Writable, WritableSide, entry, nextEntry, entries};
 use decimal::Decimal;
 use decimal::Written;

@@ -3,9 +3,11 @@ use Prim.Native.Nat.{ℕ, _*_, _^_, _<_}
 use mathlib.Core.Path.{_≡_, sym, ap, _∙_, subst}
 use native.Mathlib.Nat.{le-of-lt}
 use native.Mathlib.Omega.{arith}
-use Rattle.decimal.specs.Decimal.{number, orderOf}
+use Rattle.decimal.specs.Decimal.{number}
+use Rattle.decimal.specs.Limits.{orderOf}
 use mathlib.Core.Path.{_≡_, sym, ap, _∙_}
-use Rattle.decimal.specs.Decimal.{number, Within}
+use Rattle.decimal.specs.Decimal.{number}
+use Rattle.decimal.specs.Limits.{Within}
 use Rattle.decimal.proofs.ByValue.{order-same, order-raised-left, order-raised-right, raised-fits}
 use borrow.Author.Needs.{needs}
 use Rattle.decimal.proofs.compare.Statement.{statement}

@@ -11,11 +11,13 @@ use mathlib.Core.Path.{_∙_, _≡_, ap, refl, sym}
 use native.Mathlib.Omega.{arith}
 use Rattle.json_tokens.proofs.Bounds.{end-broken, separator-in, string-in}
 use Rattle.json_tokens.proofs.Laws.{end-at, end-none, in-byte, then-at, then-broken}
-use Rattle.json_tokens.specs.Tokens.{andThen, endOf, separator, string}
+use Rattle.json_tokens.specs.Tokens.{andThen, separator, string}
+use Rattle.json_tokens.specs.Ends.{endOf}
 use Rattle.json.proofs.Ends.{elements-tell, ends, ends-empty, ends-last, ends-start, listEnd, members-tell, tells-item, tells-wrong}
 use Rattle.json.proofs.Fold.{Left, Stands, fold-further, fold-on, fold-wrong, is-brace, is-bracket}
 use Rattle.json.proofs.Laws.{value-array, value-none, value-object, value-scalar, value-string}
-use Rattle.json.specs.Json.{Next, Pair, Span, element, elements, member, memberEnd, members, value, wrong}
+use Rattle.json.specs.Json.{Next, Pair, Span, element, elements, member, members, value, wrong}
+use Rattle.json.specs.Ends.{memberEnd}
 use borrow.Fn.Kinds.{In}
 use borrow.Fn.PlainCycle.{Measures, is, falls, and}
 use Rattle.json.proofs.array_end.Reads as array-end

@@ -9,7 +9,7 @@ use Rattle.json_tokens.proofs.Bounds.{end-broken, word-from}
 use Rattle.json_tokens.proofs.Laws.{end-at, in-byte}
 use Rattle.json_tokens.specs.Tokens.{word}
 use Rattle.json.proofs.Names.{means-elsewhere, means-longer, means-no-quote, means-other, means-yes}
-use Rattle.json.specs.Names.{spelled}
+use Rattle.json.specs.Ends.{spelled}
 use Rattle.json.proofs.is_short_name.Statement.{statement}
 use Rattle.json.proofs.is_short_name.Tie as tie
 

@@ -8,7 +8,7 @@ use native.Mathlib.Omega.{arith}
 use Rattle.json_tokens.proofs.Laws.{end-is, end-none}
 use Rattle.json_tokens.specs.Tokens.{word}
 use Rattle.json.proofs.Names.{spelled-ends, spelled-off, spelled-on, spelled-past}
-use Rattle.json.specs.Names.{spelled}
+use Rattle.json.specs.Ends.{spelled}
 use Rattle.json.proofs.short_name_end.Statement.{statement}
 use Rattle.json.proofs.short_name_end.Tie as tie
 

@@ -8,7 +8,8 @@ use native.Mathlib.Omega.{arith}
 use Rattle.json_tokens.proofs.Laws.{in-byte, in-escaped, in-four-hex, rest-low, rest-six, rest-six-no, rest-two, rest-two-no}
 use Rattle.json_tokens.proofs.Words.{char-none, char-some, in-unescaped, rest-unescaped, unescaped-low}
 use Rattle.text.specs.Text.{byteAt}
-use Rattle.json_tokens.specs.Bytes.{escaped, unescaped}
+use Rattle.json_tokens.specs.Bytes.{escaped}
+use Rattle.json_tokens.specs.Ends.{unescaped}
 use Rattle.json_tokens.proofs.char_end.Statement.{statement}
 use Rattle.json_tokens.proofs.char_end.Tie as tie
 

@@ -5,7 +5,8 @@ use denote.Ref.{now}
 use mathlib.Core.Path.{_∙_, ap, sym}
 use native.Mathlib.Omega.{arith}
 use Rattle.json_tokens.proofs.Laws.{end-is, exponent-lower, exponent-none, exponent-upper, in-byte}
-use Rattle.json_tokens.specs.Tokens.{endOf, someDigits}
+use Rattle.json_tokens.specs.Tokens.{someDigits}
+use Rattle.json_tokens.specs.Ends.{endOf}
 use Rattle.json_tokens.proofs.exponent_end.Statement.{statement}
 use Rattle.json_tokens.proofs.exponent_end.Tie as tie
 

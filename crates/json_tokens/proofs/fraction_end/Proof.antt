@@ -5,7 +5,7 @@ use denote.Ref.{now}
 use mathlib.Core.Path.{_∙_, ap, sym}
 use native.Mathlib.Omega.{arith}
 use Rattle.json_tokens.proofs.Laws.{end-is, fraction-none, fraction-point, in-byte}
-use Rattle.json_tokens.specs.Tokens.{endOf}
+use Rattle.json_tokens.specs.Ends.{endOf}
 use Rattle.json_tokens.proofs.fraction_end.Statement.{statement}
 use Rattle.json_tokens.proofs.fraction_end.Tie as tie
 

@@ -7,7 +7,7 @@ use mathlib.Core.Path.{_∙_, ap, sym}
 use native.Mathlib.Omega.{arith}
 use Rattle.json_tokens.proofs.Laws.{in-hex}
 use Rattle.json_tokens.specs.Bytes.{hexDigit}
-use Rattle.json_tokens.specs.Tokens.{fourHex}
+use Rattle.json_tokens.specs.Ends.{fourHex}
 use Rattle.json_tokens.proofs.is_four_hex.Statement.{statement}
 use Rattle.json_tokens.proofs.is_four_hex.Tie as tie
 

@@ -2,7 +2,7 @@
 -- Assumes nothing.
 use borrow.Author.Tests.{le-leb, lt-leb, ne-eqb}
 use native.Mathlib.Omega.{arith}
-use Rattle.json_tokens.specs.Bytes.{unescaped}
+use Rattle.json_tokens.specs.Ends.{unescaped}
 use Rattle.json_tokens.proofs.is_unescaped.Statement.{statement}
 use Rattle.json_tokens.proofs.is_unescaped.Tie as tie
 

@@ -6,7 +6,8 @@ use mathlib.Core.Path.{_∙_, _≡_, ap, sym}
 use native.Mathlib.Omega.{arith}
 use Rattle.json_tokens.proofs.Bounds.{bounds, end-broken, fraction-in, int-minus-in}
 use Rattle.json_tokens.proofs.Laws.{end-at, end-none, number-is, number-no-fraction, number-no-int}
-use Rattle.json_tokens.specs.Tokens.{endOf, int, minus}
+use Rattle.json_tokens.specs.Tokens.{int, minus}
+use Rattle.json_tokens.specs.Ends.{endOf}
 use Rattle.json_tokens.proofs.number_end.Statement.{statement}
 use Rattle.json_tokens.proofs.number_end.Tie as tie
 

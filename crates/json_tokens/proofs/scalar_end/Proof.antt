@@ -4,7 +4,7 @@ use borrow.Author.Needs.{needs}
 use denote.Ref.{now}
 use mathlib.Core.Path.{_∙_, ap, sym}
 use Rattle.json_tokens.proofs.Laws.{scalar-false, scalar-null, scalar-number, scalar-string, scalar-true}
-use Rattle.json_tokens.specs.Tokens.{endOf}
+use Rattle.json_tokens.specs.Ends.{endOf}
 use Rattle.json_tokens.proofs.scalar_end.Statement.{statement}
 use Rattle.json_tokens.proofs.scalar_end.Tie as tie
 

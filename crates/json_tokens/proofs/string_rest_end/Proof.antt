@@ -7,7 +7,8 @@ use lib.ListN.{length}
 use mathlib.Core.Path.{_∙_, _≡_, ap, refl, sym}
 use native.Mathlib.Omega.{arith}
 use Rattle.json_tokens.proofs.Laws.{end-is, end-none, in-byte, rest-quote}
-use Rattle.json_tokens.specs.Tokens.{endOf, stringRest}
+use Rattle.json_tokens.specs.Tokens.{stringRest}
+use Rattle.json_tokens.specs.Ends.{endOf}
 use Rattle.json_tokens.proofs.string_rest_end.Statement.{statement}
 use Rattle.json_tokens.proofs.string_rest_end.Tie as tie
 

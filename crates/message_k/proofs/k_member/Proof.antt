@@ -2,7 +2,7 @@
 -- Assumes nothing.
 use mathlib.Core.Path.{sym, refl, _∙_}
 use denote.Ref.{now}
-use Rattle.json.specs.Names.{spelled}
+use Rattle.json.specs.Ends.{spelled}
 use Rattle.message_k.proofs.OneMember.{read-as, read-bs, read-a, read-b, read-c, read-other}
 use borrow.Author.Needs.{needs}
 use Rattle.message_k.proofs.k_member.Statement.{statement}

@@ -8,7 +8,7 @@ use denote.Ref.{now}
 use native.Mathlib.Omega.{arith}
 use lib.ListN.{length}
 use Rattle.json_tokens.proofs.Laws.{end-at, in-byte}
-use Rattle.json_tokens.specs.Tokens.{endOf}
+use Rattle.json_tokens.specs.Ends.{endOf}
 use Rattle.json.specs.Json.{Pair, wrong, member, members, value}
 use Rattle.json.proofs.Fold.{Loop, Left, Stands, pairAt, overMembers, no-name, no-colon, no-value, member-stands, fold-empty, fold-start, fold-wrong, fold-further, fold-on, fold-last, fold-broken}
 use Rattle.message_k.specs.MembersK.{withMember, noMembers, closedAt, membersAt}

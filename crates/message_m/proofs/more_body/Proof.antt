@@ -1,7 +1,7 @@
 -- `message_m::more_body` meets its contract: the value of a member `data` is read as such, and any other is passed over.
 -- Assumes nothing.
 use denote.Ref.{now}
-use Rattle.json_tokens.specs.Tokens.{endOf}
+use Rattle.json_tokens.specs.Ends.{endOf}
 use Rattle.json.specs.Json.{Span, value}
 use Rattle.message_m.proofs.Steps.{body-data, body-other}
 use borrow.Author.Needs.{needs}

@@ -3,7 +3,7 @@
 use denote.Ref.{now}
 use mathlib.Core.Path.{_∙_, ap}
 use mathlib.Core.Bool.{Bool, _||_}
-use Rattle.json_tokens.specs.Tokens.{endOf}
+use Rattle.json_tokens.specs.Ends.{endOf}
 use Rattle.json.specs.Json.{value}
 use Rattle.message_m.proofs.Steps.{members-made}
 use borrow.Author.Needs.{needs}

@@ -2,7 +2,8 @@
 use Prim.Native.Nat.{ℕ, zero-le}
 use mathlib.Core.Path.{_≡_, refl, sym, ap, _∙_}
 use mathlib.Core.List.{List}
-use Rattle.settings.specs.Settings.{Terms, termsOf}
+use Rattle.settings.specs.Settings.{Terms}
+use Rattle.settings.specs.Kept.{termsOf}
 use Rattle.settings.proofs.Good.{good-short, kept-good, kept-none}
 use borrow.Author.Needs.{needs}
 use Rattle.settings.proofs.choose.Statement.{statement}

@@ -9,7 +9,8 @@ use native.Mathlib.Omega.{arith}
 use borrow.Author.Needs.{needs}
 use lib.ListN.{length, getD, set, take, drop, length-set}
 use lib.Seq.{length-take-le}
-use Rattle.decimal.specs.Decimal.{Number, number, value, Within}
+use Rattle.decimal.specs.Decimal.{Number, number, value}
+use Rattle.decimal.specs.Limits.{Within}
 use Rattle.decimal.specs.declared.Decimal.{Decimal}
 use Rattle.level.specs.declared.Level.{Level}
 use Rattle.level.specs.declared.Entry.{Entry}

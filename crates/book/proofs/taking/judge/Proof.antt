@@ -5,7 +5,7 @@ use denote.Ref.{now}
 use native.Mathlib.Omega.{arith}
 use lib.ListN.{length-take}
 use Rattle.lifecycle.specs.Lifecycle.{judgedUpdate}
-use Rattle.settings.specs.Settings.{termsOf}
+use Rattle.settings.specs.Kept.{termsOf}
 use Rattle.message.specs.Meaning.{checked}
 use Rattle.book.specs.Shown.{shows, bookOf}
 use Rattle.book.specs.Taking.{refusedStep, Judged}

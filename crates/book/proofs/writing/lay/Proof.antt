@@ -6,7 +6,7 @@ use mathlib.Core.List.{List, []}
 use Prim.Native.Nat.{ℕ}
 use native.Mathlib.Omega.{arith}
 use denote.Ref.{now}
-use Rattle.decimal.specs.Buffer.{Laid}
+use Rattle.decimal.specs.Laying.{Laid}
 use Rattle.crc32.proofs.Filled.{empty-table}
 use borrow.Author.Needs.{needs}
 use Rattle.book.proofs.writing.lay.Statement.{statement}

@@ -1,0 +1,21 @@
+-- The settings that the code's book keeps. Assumes nothing: these are definitions.
+use Prim.Native.Nat.{ℕ, _≤_}
+use mathlib.Core.Path.{_≡_}
+use mathlib.Core.List.{List}
+use lib.ListN.{length, take}
+use Rattle.settings.specs.Settings.{Terms, kept}
+use Rattle.settings.specs.declared.Settings.{Settings}
+
+-- The settings that the code's struct holds.
+unfoldable pub termsOf : Settings → Terms
+termsOf s = record { dialect = s .dialect; depth = s .depth; name = take (s .length) (s .name) }
+
+pub record Chosen (t : Terms) (s : Settings) : Type 0 where
+  pub terms : termsOf s ≡ kept t
+  pub room : length (s .name) ≡ 16
+  pub short : s .length ≤ 16
+
+-- A name at the front of an array of 16 bytes.
+pub record Copied (name copy : List ℕ) : Type 0 where
+  pub room : length copy ≡ 16
+  pub front : take (length name) copy ≡ name

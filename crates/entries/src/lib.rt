@@ -347,8 +347,8 @@ fn two_strings(s: &[u8], at: usize) -> Found
     }
 }
 
-// Past the entry whose second string ends at `at`, or 0 where what follows does not fit. It goes into the loops that ask it, where `k_rest_end`
-// is a call: that one is asked at two places, and so is not put inside.
+// Past the entry whose second string ends at `at`, or 0 where what follows does not fit. It is inlined into the loops that read entries;
+// `k_rest_end`, which `entry_at` calls too, is not, and an entry of dialect M does not pay for it.
 fn entry_end(s: &[u8], at: usize, m: bool) -> usize
     ensures { λ r. ⌜ EntryEnd (entryFor m) (now (s .entry)) at r ⌝ }
 {

@@ -1,12 +1,12 @@
 -- Laws of answers: an answer is that of a taken message, or another. Assumes nothing.
 use mathlib.Core.Path.{_≡_, refl, sym, _∙_}
 use mathlib.Core.Bool.{Bool, true, false, true≢false, false≢true}
-use Rattle.answer.specs.Answers.{number, isTaken}
+use Rattle.answer.specs.Answers.{answerNumber, isTaken}
 use Rattle.answer.specs.declared.Answer.{Answer}
 use Rattle.answer.specs.declared.Answer.the-variants.{Taken, Shut, TooLong, NotJson, Escaped, NotOurs, BadLayout, TooManyEntries, BadDecimal, PriceTwice, NoSnapshot, OldNumber, TooManyLevels, WrongChecksum, NoLevel, NoRoom}
 
 pub taken-answer : (a : Answer) → isTaken a ≡ true → a ≡ Taken
-unfolding isTaken number
+unfolding isTaken answerNumber
 taken-answer Taken h = refl
 taken-answer Shut h = absurd (false≢true h)
 taken-answer TooLong h = absurd (false≢true h)
@@ -25,8 +25,8 @@ taken-answer NoLevel h = absurd (false≢true h)
 taken-answer NoRoom h = absurd (false≢true h)
 
 pub is-taken : (a : Answer) → a ≡ Taken → isTaken a ≡ true
-unfolding isTaken number
-is-taken a h = rw (h, isTaken, number)
+unfolding isTaken answerNumber
+is-taken a h = rw (h, isTaken, answerNumber)
 
 pub not-taken : (a : Answer) → isTaken a ≡ false → a ≡ Taken → ⊥
 not-taken a h e = true≢false (sym (is-taken a e) ∙ h)

@@ -6,23 +6,23 @@ use lib.Dec.{eqb}
 use Rattle.answer.specs.declared.Answer.{Answer}
 use Rattle.answer.specs.declared.Answer.the-variants.{Taken, Shut, TooLong, NotJson, Escaped, NotOurs, BadLayout, TooManyEntries, BadDecimal, PriceTwice, NoSnapshot, OldNumber, TooManyLevels, WrongChecksum, NoLevel, NoRoom}
 
-unfoldable pub number : Answer → ℕ
-number Taken = 0
-number Shut = 1
-number TooLong = 2
-number NotJson = 3
-number Escaped = 4
-number NotOurs = 5
-number BadLayout = 6
-number TooManyEntries = 7
-number BadDecimal = 8
-number PriceTwice = 9
-number NoSnapshot = 10
-number OldNumber = 11
-number TooManyLevels = 12
-number WrongChecksum = 13
-number NoLevel = 14
-number NoRoom = 15
+unfoldable pub answerNumber : Answer → ℕ
+answerNumber Taken = 0
+answerNumber Shut = 1
+answerNumber TooLong = 2
+answerNumber NotJson = 3
+answerNumber Escaped = 4
+answerNumber NotOurs = 5
+answerNumber BadLayout = 6
+answerNumber TooManyEntries = 7
+answerNumber BadDecimal = 8
+answerNumber PriceTwice = 9
+answerNumber NoSnapshot = 10
+answerNumber OldNumber = 11
+answerNumber TooManyLevels = 12
+answerNumber WrongChecksum = 13
+answerNumber NoLevel = 14
+answerNumber NoRoom = 15
 
 unfoldable pub oneOf : List ℕ → ℕ → Bool
 oneOf [] n = false
@@ -37,11 +37,11 @@ abbrev pub toQuestions : List ℕ
 toQuestions = 0 ∷ 1 ∷ 10 ∷ 14 ∷ 15 ∷ []
 
 unfoldable pub isTaken : Answer → Bool
-isTaken a = eqb (number a) 0
+isTaken a = eqb (answerNumber a) 0
 
 -- The table's last column: the refusals that leave the book unchanged; the others set it waiting.
 abbrev pub unchanging : List ℕ
 unchanging = 1 ∷ 5 ∷ 10 ∷ 14 ∷ 15 ∷ []
 
 unfoldable pub leavesStatus : Answer → Bool
-leavesStatus a = oneOf unchanging (number a)
+leavesStatus a = oneOf unchanging (answerNumber a)

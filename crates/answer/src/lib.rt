@@ -1,6 +1,6 @@
 // The answers of a book to messages and questions: their numbers, which of them take a message, and which leave the book as it is.
 ghost use mathlib.Core.Path.{_≡_};
-ghost use Rattle.answer.specs.Answers.{number, isTaken, leavesStatus};
+ghost use Rattle.answer.specs.Answers.{answerNumber, isTaken, leavesStatus};
 
 pub enum Answer {
     // The message is taken, or the question is answered.
@@ -39,7 +39,7 @@ pub enum Answer {
 
 // The number of an answer.
 pub fn number_of(answer: Answer) -> u64
-    ensures { λ r. ⌜ r ≡ number answer ⌝ }
+    ensures { λ r. ⌜ r ≡ answerNumber answer ⌝ }
 {
     match answer {
         Answer::Taken => 0,

@@ -12,8 +12,8 @@ use Rattle.lifecycle.specs.Lifecycle.{statusOf, firstState, answers, refusalOf}
 use Rattle.level.proofs.Held.{held-length}
 use Rattle.decimal.specs.Decimal.{Number, number}
 use Rattle.decimal.specs.declared.Decimal.{Decimal}
-use Rattle.settings.specs.Settings.{Terms, good, goodDepth, goodName, kept, shut}
-use Rattle.settings.specs.Kept.{termsOf, Chosen}
+use Rattle.settings.specs.Settings.{Config, good, goodDepth, goodName, kept, shut}
+use Rattle.settings.specs.Kept.{configOf, Chosen}
 use Rattle.settings.specs.declared.Settings.{Settings}
 use Rattle.settings.specs.declared.Dialect.{Dialect}
 use Rattle.settings.specs.declared.Dialect.the-variants.{K, M, Unknown}
@@ -26,10 +26,10 @@ use Rattle.level.specs.declared.Side.{Side}
 use Rattle.level.specs.declared.Side.the-variants.{Bids, Asks}
 use Rattle.level.specs.declared.Level.{Level}
 use Rattle.level.specs.declared.Levels.{Levels}
-use Rattle.level.specs.declared.Found.{Found}
-use Rattle.level.specs.declared.Found.the-variants.{At, Nothing}
+use Rattle.level.specs.declared.MaybeLevel.{MaybeLevel}
+use Rattle.level.specs.declared.MaybeLevel.the-variants.{At, Nothing}
 use Rattle.sides.specs.Worked.{Sound}
-use Rattle.answer.specs.Answers.{number as numberOf, isTaken}
+use Rattle.answer.specs.Answers.{answerNumber as numberOf, isTaken}
 use Rattle.answer.specs.declared.Answer.{Answer}
 use Rattle.answer.specs.declared.Answer.the-variants.{Taken, Shut, NoSnapshot, NoLevel}
 use Rattle.reference.proofs.Questions.{if-refused}
@@ -46,22 +46,22 @@ use Rattle.book.specs.declared.Book.{Book}
 -- ---- whether a question is answered
 
 module _ (p : Reference) (scope : Scope) where
-  pub asked-yes : answers (p .status) (p .ever) scope ≡ true → asked scope p ≡ Taken
+  pub asked-yes : answers (p .status) (p .had-snapshot) scope ≡ true → asked scope p ≡ Taken
   unfolding answers asked isShut stands r·.isLive
   asked-yes h = go (p .status) refl scope refl h
     where
-      go : (x : Status) → p .status ≡ x → (y : Scope) → scope ≡ y → answers x (p .ever) y ≡ true → cond (isShut (p .status)) Shut (cond (stands scope p) Taken NoSnapshot) ≡ Taken
+      go : (x : Status) → p .status ≡ x → (y : Scope) → scope ≡ y → answers x (p .had-snapshot) y ≡ true → cond (isShut (p .status)) Shut (cond (stands scope p) Taken NoSnapshot) ≡ Taken
       go shut′ e y f g = absurd (true≢false (sym g))
       go waiting e Current f g = absurd (true≢false (sym g))
       go waiting e LastGood f g = rw (e, f, g)
       go live e Current f g = rw (e, f)
       go live e LastGood f g = rw (e, f, g)
 
-  pub asked-no : answers (p .status) (p .ever) scope ≡ false → asked scope p ≡ refusalOf (p .status)
+  pub asked-no : answers (p .status) (p .had-snapshot) scope ≡ false → asked scope p ≡ refusalOf (p .status)
   unfolding answers asked isShut stands r·.isLive refusalOf
   asked-no h = go (p .status) refl scope refl h
     where
-      go : (x : Status) → p .status ≡ x → (y : Scope) → scope ≡ y → answers x (p .ever) y ≡ false → cond (isShut (p .status)) Shut (cond (stands scope p) Taken NoSnapshot) ≡ refusalOf (p .status)
+      go : (x : Status) → p .status ≡ x → (y : Scope) → scope ≡ y → answers x (p .had-snapshot) y ≡ false → cond (isShut (p .status)) Shut (cond (stands scope p) Taken NoSnapshot) ≡ refusalOf (p .status)
       go shut′ e y f g = rw e
       go waiting e Current f g = rw (e, f)
       go waiting e LastGood f g = rw (e, f, g)
@@ -93,7 +93,7 @@ module _ (b : Book) (scope : Scope) where
   p = shows b
 
   abbrev yes : Bool
-  yes = answers (statusOf (b .standing .state)) (b .standing .ever) scope
+  yes = answers (statusOf (b .lifecycle .state)) (b .lifecycle .«had_snapshot») scope
 
   pub counts-yes : Good b → yes ≡ true → AnswersCounts b scope (record { book = b; answer = Taken; bids = b .bids .count; asks = b .asks .count })
   unfolding does shows
@@ -105,33 +105,33 @@ module _ (b : Book) (scope : Scope) where
         value = λ x. ap₂ counts (held-count (b .bids) Bids (g .bids .good)) (held-count (b .asks) Asks (g .asks .good)) ∙ sym (if-yes (asked scope p) _ _ a);
       }
 
-  pub counts-no : yes ≡ false → (a : Answer) → a ≡ refusalOf (statusOf (b .standing .state)) → AnswersCounts b scope (record { book = b; answer = a; bids = 0; asks = 0 })
+  pub counts-no : yes ≡ false → (a : Answer) → a ≡ refusalOf (statusOf (b .lifecycle .state)) → AnswersCounts b scope (record { book = b; answer = a; bids = 0; asks = 0 })
   unfolding does shows
   counts-no h a e =
       let n = asked-no p scope h in
-      record { book = refl; answer = λ x. e ∙ sym n; value = λ x. sym (if-no (asked scope p) (statusOf (b .standing .state)) _ _ n) }
+      record { book = refl; answer = λ x. e ∙ sym n; value = λ x. sym (if-no (asked scope p) (statusOf (b .lifecycle .state)) _ _ n) }
 
   -- ---- the sequence number and the count of updates
 
-  pub number-yes : yes ≡ true → AnswersAmount b (whichNumber scope) (record { book = b; answer = Taken; amount = b .number })
+  pub number-yes : yes ≡ true → AnswersAmount b (whichNumber scope) (record { book = b; answer = Taken; value = b .number })
   unfolding does shows
   number-yes h = let a = asked-yes p scope h in record { book = refl; answer = λ x. sym a; value = λ x. ap amount (sym (if-yes (asked scope p) _ _ a)) }
 
-  pub number-no : yes ≡ false → (a : Answer) → a ≡ refusalOf (statusOf (b .standing .state)) → AnswersAmount b (whichNumber scope) (record { book = b; answer = a; amount = 0 })
+  pub number-no : yes ≡ false → (a : Answer) → a ≡ refusalOf (statusOf (b .lifecycle .state)) → AnswersAmount b (whichNumber scope) (record { book = b; answer = a; value = 0 })
   unfolding does shows
   number-no h a e =
       let n = asked-no p scope h in
-      record { book = refl; answer = λ x. e ∙ sym n; value = λ x. ap amount (sym (if-no (asked scope p) (statusOf (b .standing .state)) _ _ n)) }
+      record { book = refl; answer = λ x. e ∙ sym n; value = λ x. ap amount (sym (if-no (asked scope p) (statusOf (b .lifecycle .state)) _ _ n)) }
 
-  pub updates-yes : yes ≡ true → AnswersAmount b (howManyUpdates scope) (record { book = b; answer = Taken; amount = b .updates })
+  pub updates-yes : yes ≡ true → AnswersAmount b (howManyUpdates scope) (record { book = b; answer = Taken; value = b .updates })
   unfolding does shows
   updates-yes h = let a = asked-yes p scope h in record { book = refl; answer = λ x. sym a; value = λ x. ap amount (sym (if-yes (asked scope p) _ _ a)) }
 
-  pub updates-no : yes ≡ false → (a : Answer) → a ≡ refusalOf (statusOf (b .standing .state)) → AnswersAmount b (howManyUpdates scope) (record { book = b; answer = a; amount = 0 })
+  pub updates-no : yes ≡ false → (a : Answer) → a ≡ refusalOf (statusOf (b .lifecycle .state)) → AnswersAmount b (howManyUpdates scope) (record { book = b; answer = a; value = 0 })
   unfolding does shows
   updates-no h a e =
       let n = asked-no p scope h in
-      record { book = refl; answer = λ x. e ∙ sym n; value = λ x. ap amount (sym (if-no (asked scope p) (statusOf (b .standing .state)) _ _ n)) }
+      record { book = refl; answer = λ x. e ∙ sym n; value = λ x. ap amount (sym (if-no (asked scope p) (statusOf (b .lifecycle .state)) _ _ n)) }
 
 -- ---- a level
 
@@ -157,7 +157,7 @@ module _ (b : Book) (scope : Scope) (side : Side) (i : ℕ) where
   q = shows b
 
   abbrev open′ : Bool
-  open′ = answers (statusOf (b .standing .state)) (b .standing .ever) scope
+  open′ = answers (statusOf (b .lifecycle .state)) (b .lifecycle .«had_snapshot») scope
 
   in-here : (s : Side) (l : Level) → levelIn b s i ≡ At l → (ltb i (length (sideOf s q)) ≡ true) × (getD (sideOf s q) i noLevel ≡ shown l)
   unfolding levelIn sideOf shows
@@ -197,21 +197,21 @@ module _ (b : Book) (scope : Scope) (side : Side) (i : ℕ) where
         value = λ y. ap level (sym (if-refused (askedLevel scope side i q) _ _ (rw (a, isTaken, numberOf))));
       }
 
-  pub level-no : open′ ≡ false → (a : Answer) → a ≡ refusalOf (statusOf (b .standing .state))
+  pub level-no : open′ ≡ false → (a : Answer) → a ≡ refusalOf (statusOf (b .lifecycle .state))
       → AnswersLevel b scope side i (record { book = b; answer = a; price = record { digits = 0; decimals = 0 }; size = record { digits = 0; decimals = 0 } })
   unfolding does askedLevel levelAsked number shows
   level-no h a e =
       let n = asked-no q scope h in
-      let m : askedLevel scope side i q ≡ refusalOf (statusOf (b .standing .state)) = if-no (asked scope q) (statusOf (b .standing .state)) _ _ n ∙ n in
+      let m : askedLevel scope side i q ≡ refusalOf (statusOf (b .lifecycle .state)) = if-no (asked scope q) (statusOf (b .lifecycle .state)) _ _ n ∙ n in
       record {
         book = refl;
         answer = λ y. e ∙ sym m;
-        value = λ y. ap level (sym (if-no (askedLevel scope side i q) (statusOf (b .standing .state)) _ _ m));
+        value = λ y. ap level (sym (if-no (askedLevel scope side i q) (statusOf (b .lifecycle .state)) _ _ m));
       }
 
 -- ---- opening
 
-good-first : (t : Terms) → good t ≡ true → isShut (statusOf (firstState (t .dialect))) ≡ false
+good-first : (t : Config) → good t ≡ true → isShut (statusOf (firstState (t .dialect))) ≡ false
 unfolding good goodDepth firstState statusOf isShut
 good-first t h = go (t .dialect) refl
   where
@@ -221,7 +221,7 @@ good-first t h = go (t .dialect) refl
     go Unknown e = absurd (true≢false (sym h ∙ rw e))
 
 -- the state by the settings that are kept
-first-status : (t : Terms) → statusOf (firstState (kept t .dialect)) ≡ cond (good t) waiting shut′
+first-status : (t : Config) → statusOf (firstState (kept t .dialect)) ≡ cond (good t) waiting shut′
 unfolding kept firstState statusOf isShut
 first-status t = at (good t) refl
   where
@@ -234,7 +234,7 @@ first-status t = at (good t) refl
     at true h = live-not (t .dialect) (good-first t h)
     at false h = refl
 
-kept-good : (t : Terms) → isShut (statusOf (firstState (kept t .dialect))) ≡ false → good (kept t) ≡ true
+kept-good : (t : Config) → isShut (statusOf (firstState (kept t .dialect))) ≡ false → good (kept t) ≡ true
 unfolding kept firstState statusOf isShut
 kept-good t h = at (good t) refl h
   where
@@ -242,13 +242,13 @@ kept-good t h = at (good t) refl h
     at true e g = e
     at false e g = absurd (true≢false g)
 
-module _ (t : Terms) (c : Settings) (h : Chosen t c) (none : Levels) (e : Empty none) (state : State) (f : state ≡ firstState (c .dialect)) where
+module _ (t : Config) (c : Settings) (h : Chosen t c) (none : Levels) (e : Empty none) (state : State) (f : state ≡ firstState (c .dialect)) where
   abbrev b : Book
-  b = record { bids = none; asks = none; settings = c; number = 0; updates = 0; standing = record { state = state; ever = false } }
+  b = record { bids = none; asks = none; settings = c; number = 0; updates = 0; lifecycle = record { state = state; «had_snapshot» = false } }
 
   dialect-kept : c .dialect ≡ kept t .dialect
-  unfolding termsOf
-  dialect-kept = ap (λ (x : Terms). x .dialect) (h .terms)
+  unfolding configOf
+  dialect-kept = ap (λ (x : Config). x .dialect) (h .config)
 
   status-is : statusOf state ≡ cond (good t) waiting shut′
   status-is = ap statusOf (f ∙ ap firstState dialect-kept) ∙ first-status t
@@ -267,12 +267,12 @@ module _ (t : Terms) (c : Settings) (h : Chosen t c) (none : Levels) (e : Empty 
         good = record {
           room = h .room;
           short = h .short;
-          terms = λ u. subst (λ (x : Terms). good x ≡ true) (sym (h .terms)) (kept-good t (subst (λ (x : State). isShut (statusOf x) ≡ false) (f ∙ ap firstState dialect-kept) u));
+          config = λ u. subst (λ (x : Config). good x ≡ true) (sym (h .config)) (kept-good t (subst (λ (x : State). isShut (statusOf x) ≡ false) (f ∙ ap firstState dialect-kept) u));
           bids = record { good = e .bids; carried = nothing _; sized = nothing _ };
           asks = record { good = e .asks; carried = nothing _; sized = nothing _ };
           few-bids = let n = length-none in omega arith;
           few-asks = let n = length-none in omega arith;
           small = lit< tt;
         };
-        same = rw (h .terms, status-is, e .none);
+        same = rw (h .config, status-is, e .none);
       }

@@ -13,7 +13,7 @@ use Rattle.decimal.specs.Digits.{Reading, reads, refused}
 use Rattle.decimal.specs.Decimal.{Number, read, isZero}
 use Rattle.json_tokens.proofs.Laws.{in-byte}
 use Rattle.json.specs.Json.{Span, text}
-use Rattle.settings.specs.Settings.{Terms, good, goodDepth, goodName}
+use Rattle.settings.specs.Settings.{Config, good, goodDepth, goodName}
 use Rattle.settings.specs.declared.Dialect.{Dialect}
 use Rattle.settings.specs.declared.Dialect.the-variants.{K, M, Unknown}
 use Rattle.entries.specs.Places.{andThen, all, arrayAt, inner, top}
@@ -21,8 +21,8 @@ use Rattle.entries.specs.Rows.{Row, entryK, entryM, entryFor, entriesAt, number
 use Rattle.entries.specs.Summary.{zeroSize, anyZero}
 use Rattle.entries.proofs.Claims.{zero-none}
 use Rattle.entries.proofs.Shift.{Even, k-even, m-even, shifted-rows, shifted-loadable}
-use Rattle.layout.specs.Layout.{Listed, Layout, Heard}
-use Rattle.message.specs.Meaning.{Quote, quoteAt, Checked, fails, passes, bad, decimals, alsoDecimals, tooMany, counted, laidOut, addressed, heardIn, framed, checked}
+use Rattle.layout.specs.Layout.{Listed, Layout, Envelope}
+use Rattle.message.specs.Meaning.{LevelChange, levelChangeAt, Checked, fails, passes, bad, decimals, alsoDecimals, tooMany, counted, laidOut, addressed, envelopeIn, framed, checked}
 use Rattle.answer.specs.declared.Answer.{Answer}
 use Rattle.answer.specs.declared.Answer.the-variants.{TooLong, NotJson, Escaped, NotOurs, BadLayout, TooManyEntries, BadDecimal}
 use Rattle.message.proofs.Entering.{Readable, entry-same, entry-even}
@@ -38,14 +38,14 @@ use Rattle.reference.specs.Reference.{editOf, pricesOf}
 use Rattle.settings.specs.Settings.{isM}
 
 -- what a row says
-quote-edit : (s : List ℕ) (rows : List Row) → map (editAt s) rows ≡ map editOf (map (quoteAt s) rows)
-unfolding editAt editFor editOf quoteAt
+quote-edit : (s : List ℕ) (rows : List Row) → map (editAt s) rows ≡ map editOf (map (levelChangeAt s) rows)
+unfolding editAt editFor editOf levelChangeAt
 quote-edit s [] = refl
 quote-edit s (r ∷ l) = ap (λ (x : List (Edit PriceLevel)). editAt s r ∷ x) (quote-edit s l)
 
 module _ {d : Dialect} (r : Readable d) (s : List ℕ) (l : Listed) where
   -- the entries of a side do what the message says
-  pub listed-edits : Lies (entryIn d) s l → editsAt (isM d) s (l .at) (length (l .rows)) ≡ map editOf (map (quoteAt s) (l .rows))
+  pub listed-edits : Lies (entryIn d) s l → editsAt (isM d) s (l .at) (length (l .rows)) ≡ map editOf (map (levelChangeAt s) (l .rows))
   unfolding editsAt
   listed-edits (nowhere e) = rw e
   listed-edits (there to q) =
@@ -54,11 +54,11 @@ module _ {d : Dialect} (r : Readable d) (s : List ℕ) (l : Listed) where
       let w = sym (edits-shift (l .at) s (rowsAt (entryFor (isM d)) (drop (l .at) s))) ∙ ap (map (editAt s)) (sym x) ∙ quote-edit s (l .rows) in
       at (eqb (length (l .rows)) 0) refl w
     where
-      at : (b : Bool) → eqb (length (l .rows)) 0 ≡ b → map (editAt (drop (l .at) s)) (rowsAt (entryFor (isM d)) (drop (l .at) s)) ≡ map editOf (map (quoteAt s) (l .rows))
-          → cond b [] (map (editAt (drop (l .at) s)) (rowsAt (entryFor (isM d)) (drop (l .at) s))) ≡ map editOf (map (quoteAt s) (l .rows))
+      at : (b : Bool) → eqb (length (l .rows)) 0 ≡ b → map (editAt (drop (l .at) s)) (rowsAt (entryFor (isM d)) (drop (l .at) s)) ≡ map editOf (map (levelChangeAt s) (l .rows))
+          → cond b [] (map (editAt (drop (l .at) s)) (rowsAt (entryFor (isM d)) (drop (l .at) s))) ≡ map editOf (map (levelChangeAt s) (l .rows))
       at false h w = w
       at true h w = empty (l .rows) (eqb-true (length (l .rows)) 0 h)
         where
-          empty : (rows : List Row) → length rows ≡ 0 → [] ≡ map editOf (map (quoteAt s) rows)
+          empty : (rows : List Row) → length rows ≡ 0 → [] ≡ map editOf (map (levelChangeAt s) rows)
           empty [] z = refl
           empty (x ∷ xs) z = absurd (omega arith)

@@ -6,23 +6,23 @@ use mathlib.Core.Bool.{Bool, true, false, true≢false, _&&_, _||_, not, cond}
 use Prim.Native.Nat.{ℕ}
 use native.Mathlib.Omega.{arith}
 use lib.Dec.{eqb, leb}
-use Rattle.lifecycle.specs.Lifecycle.{statusOf, refusedStanding, judgedUpdate}
+use Rattle.lifecycle.specs.Lifecycle.{statusOf, refusedLifecycle, judgedUpdate}
 use Rattle.settings.specs.declared.Dialect.{Dialect}
 use Rattle.layout.specs.Layout.{Printed, printed, unprinted, Layout}
-use Rattle.layout.specs.Told.{isPrinted, sumOf}
-use Rattle.answer.specs.Answers.{number, oneOf, isTaken, leavesStatus}
-use Rattle.message.specs.Meaning.{Checked, fails, passes, checked, Message, messageOf, saidOf, said}
+use Rattle.layout.specs.Scan.{isPrinted, sumOf}
+use Rattle.answer.specs.Answers.{answerNumber, oneOf, isTaken, leavesStatus}
+use Rattle.message.specs.Meaning.{Checked, fails, passes, checked, Message, messageOf, decodedOf, decode}
 use Rattle.message.specs.Verdict.{verdictOf}
 use Rattle.answer.specs.declared.Answer.{Answer}
 use Rattle.answer.specs.declared.Answer.the-variants.{Taken, Shut, PriceTwice, NoSnapshot, OldNumber, TooManyLevels, WrongChecksum}
 use Rattle.message.specs.declared.Verdict.{Verdict}
 use Rattle.message.specs.declared.Verdict.the-variants.{Fails, Passes}
 use Rattle.layout.specs.declared.Outline.{Outline}
-use Rattle.layout.specs.Told.{outlineOf}
+use Rattle.layout.specs.Scan.{outlineOf}
 use Rattle.decimal.specs.Digits.{reads}
-use Rattle.reference.specs.Reference.{waiting, isShut, isLive, Reference, checksumOf, namesPriceTwice, lacksSnapshot, isOld, hasTooMany, differs, hasWrongChecksum, verdict, After, taken, withStatus, refusedBy, answered, hearing, hear}
+use Rattle.reference.specs.Reference.{waiting, isShut, isLive, Reference, checksumOf, namesPriceTwice, lacksSnapshot, isOld, hasTooMany, differs, hasWrongChecksum, verdict, After, taken, withStatus, refusedBy, answered, received, receive}
 use Rattle.settings.specs.Settings.{isM}
-use Rattle.book.specs.Shown.{shows, Good, Told}
+use Rattle.book.specs.Shown.{shows, Good, Received}
 use Rattle.book.specs.Taking.{refusedStep, weighed}
 use Rattle.lifecycle.specs.declared.State.{State}
 use Rattle.lifecycle.specs.declared.State.the-variants.{Waiting}
@@ -31,52 +31,52 @@ use Rattle.level.specs.Kept.{held}
 use Rattle.level.specs.declared.Levels.{Levels}
 use borrow.Author.Tests.{eq-eqb, ne-eqb}
 use Rattle.book.specs.declared.Book.{Book}
-use Rattle.lifecycle.specs.declared.Standing.{Standing}
+use Rattle.lifecycle.specs.declared.Lifecycle.{Lifecycle}
 use Rattle.book.specs.declared.Step.{Step}
 
 -- ---- a refusal
 
-module _ (b : Book) (g : Good b) (u : isShut (statusOf (b .standing .state)) ≡ false) where
-  pub refused-told : (a : Answer) → Told (refusedBy (shows b) a) (refusedStep b a)
-  unfolding refusedBy refusedStep refusedStanding withStatus shows statusOf
+module _ (b : Book) (g : Good b) (u : isShut (statusOf (b .lifecycle .state)) ≡ false) where
+  pub refused-told : (a : Answer) → Received (refusedBy (shows b) a) (refusedStep b a)
+  unfolding refusedBy refusedStep refusedLifecycle withStatus shows statusOf
   refused-told a = at (leavesStatus a)
     where
-      at : (t : Bool) → Told (record { book = cond t (shows b) (withStatus waiting (shows b)); answer = a })
+      at : (t : Bool) → Received (record { book = cond t (shows b) (withStatus waiting (shows b)); answer = a })
           (record {
-            book = record { bids = b .bids; asks = b .asks; settings = b .settings; number = b .number; updates = b .updates; standing = record { state = cond t (b .standing .state) Waiting; ever = b .standing .ever } };
+            book = record { bids = b .bids; asks = b .asks; settings = b .settings; number = b .number; updates = b .updates; lifecycle = record { state = cond t (b .lifecycle .state) Waiting; «had_snapshot» = b .lifecycle .«had_snapshot» } };
             answer = a;
           })
       at true = record { good = g; same = refl; answer = refl }
       at false =
           record {
-            good = record { room = g .room; short = g .short; terms = λ h. g .terms u; bids = g .bids; asks = g .asks; few-bids = g .few-bids; few-asks = g .few-asks; small = g .small };
+            good = record { room = g .room; short = g .short; config = λ h. g .config u; bids = g .bids; asks = g .asks; few-bids = g .few-bids; few-asks = g .few-asks; small = g .small };
             same = refl;
             answer = refl;
           }
 
 -- a book that shows the same answers the same
-pub told-as : {x y : After} (r : Step) → x ≡ y → Told y r → Told x r
-told-as r h t = subst (λ (z : After). Told z r) (sym h) t
+pub told-as : {x y : After} (r : Step) → x ≡ y → Received y r → Received x r
+told-as r h t = subst (λ (z : After). Received z r) (sym h) t
 
 -- ---- what is heard
 
-pub hear-shut : (p : Reference) (s : List ℕ) → isShut (p .status) ≡ true → hear p s ≡ record { book = p; answer = Shut }
-unfolding hear
-hear-shut p s u = rw (u, hear)
+pub hear-shut : (p : Reference) (s : List ℕ) → isShut (p .status) ≡ true → receive p s ≡ record { book = p; answer = Shut }
+unfolding receive
+hear-shut p s u = rw (u, receive)
 
 -- a shut book answers so, and stays as it is
-pub shut-told : (b : Book) (s : List ℕ) → Good b → isShut (statusOf (b .standing .state)) ≡ true → Told (hear (shows b) s) (refusedStep b Shut)
-unfolding shows refusedStep refusedStanding leavesStatus number oneOf
+pub shut-told : (b : Book) (s : List ℕ) → Good b → isShut (statusOf (b .lifecycle .state)) ≡ true → Received (receive (shows b) s) (refusedStep b Shut)
+unfolding shows refusedStep refusedLifecycle leavesStatus answerNumber oneOf
 shut-told b s g u = told-as (refusedStep b Shut) (hear-shut (shows b) s u) (record { good = g; same = refl; answer = refl })
 
 module _ (p : Reference) (s : List ℕ) (u : isShut (p .status) ≡ false) where
-  pub hear-fails : (a : Answer) → checked (p .terms) s ≡ fails a → hear p s ≡ refusedBy p a
-  unfolding hear hearing said saidOf
-  hear-fails a h = rw (u, h, hear, said, saidOf, hearing)
+  pub hear-fails : (a : Answer) → checked (p .config) s ≡ fails a → receive p s ≡ refusedBy p a
+  unfolding receive received decode decodedOf
+  hear-fails a h = rw (u, h, receive, decode, decodedOf, received)
 
-  pub hear-passes : (l : Layout) → checked (p .terms) s ≡ passes l → hear p s ≡ answered p (messageOf s l) (verdict p (messageOf s l))
-  unfolding hear hearing said saidOf
-  hear-passes l h = rw (u, h, hear, said, saidOf, hearing)
+  pub hear-passes : (l : Layout) → checked (p .config) s ≡ passes l → receive p s ≡ answered p (messageOf s l) (verdict p (messageOf s l))
+  unfolding receive received decode decodedOf
+  hear-passes l h = rw (u, h, receive, decode, decodedOf, received)
 
 -- from the reader's answer
 module _ (s : List ℕ) (x : Checked) (v : Verdict) (h : v ≡ verdictOf s x) where
@@ -103,39 +103,39 @@ module _ (p : Reference) (m : Message) where
   heard = answered p m (verdict p m)
 
   pub nine : namesPriceTwice m ≡ true → heard ≡ refusedBy p PriceTwice
-  unfolding verdict answered isTaken number
-  nine a = rw (a, verdict, answered, isTaken, number)
+  unfolding verdict answered isTaken answerNumber
+  nine a = rw (a, verdict, answered, isTaken, answerNumber)
 
   module _ (a : namesPriceTwice m ≡ false) where
     pub ten : lacksSnapshot p m ≡ true → heard ≡ refusedBy p NoSnapshot
-    unfolding verdict answered isTaken number
-    ten b = rw (a, b, verdict, answered, isTaken, number)
+    unfolding verdict answered isTaken answerNumber
+    ten b = rw (a, b, verdict, answered, isTaken, answerNumber)
 
     module _ (b : lacksSnapshot p m ≡ false) where
       pub eleven : isOld p m ≡ true → heard ≡ refusedBy p OldNumber
-      unfolding verdict answered isTaken number
-      eleven c = rw (a, b, c, verdict, answered, isTaken, number)
+      unfolding verdict answered isTaken answerNumber
+      eleven c = rw (a, b, c, verdict, answered, isTaken, answerNumber)
 
       module _ (c : isOld p m ≡ false) where
         pub twelve : hasTooMany p m ≡ true → heard ≡ refusedBy p TooManyLevels
-        unfolding verdict answered isTaken number
-        twelve d = rw (a, b, c, d, verdict, answered, isTaken, number)
+        unfolding verdict answered isTaken answerNumber
+        twelve d = rw (a, b, c, d, verdict, answered, isTaken, answerNumber)
 
         module _ (d : hasTooMany p m ≡ false) where
           pub thirteen : hasWrongChecksum p m ≡ true → heard ≡ refusedBy p WrongChecksum
-          unfolding verdict answered isTaken number
-          thirteen e = rw (a, b, c, d, e, verdict, answered, isTaken, number)
+          unfolding verdict answered isTaken answerNumber
+          thirteen e = rw (a, b, c, d, e, verdict, answered, isTaken, answerNumber)
 
           pub none-fits : hasWrongChecksum p m ≡ false → heard ≡ record { book = taken p m; answer = Taken }
-          unfolding verdict answered isTaken number
-          none-fits e = rw (a, b, c, d, e, verdict, answered, isTaken, number)
+          unfolding verdict answered isTaken answerNumber
+          none-fits e = rw (a, b, c, d, e, verdict, answered, isTaken, answerNumber)
 
 -- ---- a snapshot, and an update
 
 module _ (p : Reference) (m : Message) (h : m .snapshot ≡ true) where
   pub snapshot-not-old : isOld p m ≡ false
   unfolding isOld
-  snapshot-not-old = at (isM (p .terms .dialect))
+  snapshot-not-old = at (isM (p .config .dialect))
     where
       at : (t : Bool) → (t && (not (m .snapshot) && leb (m .number) (p .number))) ≡ false
       at true = rw h
@@ -153,7 +153,7 @@ pub update-lacks : (p : Reference) (m : Message) (t : Bool) → m .snapshot ≡ 
 unfolding lacksSnapshot
 update-lacks p m t h k = rw (h, k, lacksSnapshot)
 
-pub update-old : (p : Reference) (m : Message) → m .snapshot ≡ false → isOld p m ≡ (isM (p .terms .dialect) && leb (m .number) (p .number))
+pub update-old : (p : Reference) (m : Message) → m .snapshot ≡ false → isOld p m ≡ (isM (p .config .dialect) && leb (m .number) (p .number))
 unfolding isOld
 update-old p m h = rw (h, isOld)
 
@@ -166,28 +166,28 @@ differs-is unprinted sum = refl
 
 -- ---- checks 9, 12 and 13 in numbers, one test at a time
 
-module _ (o : Outline) (d : Dialect) (met over : Bool) (bids asks : Levels) where
+module _ (o : Outline) (d : Dialect) (replaced over : Bool) (bids asks : Levels) where
   abbrev sum : ℕ
   sum = checksumOf d (map shown (held bids)) (map shown (held asks))
 
-  pub weighed-twice : (o .snapshot && met) ≡ true → PriceTwice ≡ weighed o d met over bids asks
+  pub weighed-twice : (o .snapshot && replaced) ≡ true → PriceTwice ≡ weighed o d replaced over bids asks
   unfolding weighed
   weighed-twice h = sym (rw (h, weighed))
 
-  module _ (a : (o .snapshot && met) ≡ false) where
-    pub weighed-over : (not (o .snapshot) && (isM d && over)) ≡ true → TooManyLevels ≡ weighed o d met over bids asks
+  module _ (a : (o .snapshot && replaced) ≡ false) where
+    pub weighed-over : (not (o .snapshot) && (isM d && over)) ≡ true → TooManyLevels ≡ weighed o d replaced over bids asks
     unfolding weighed
     weighed-over h = sym (rw (a, h, weighed))
 
     module _ (b : (not (o .snapshot) && (isM d && over)) ≡ false) where
-      pub weighed-unprinted : o .printed ≡ false → Taken ≡ weighed o d met over bids asks
+      pub weighed-unprinted : o .printed ≡ false → Taken ≡ weighed o d replaced over bids asks
       unfolding weighed
       weighed-unprinted h = sym (rw (a, b, h, weighed))
 
-      pub weighed-right : o .printed ≡ true → o .checksum ≡ sum → Taken ≡ weighed o d met over bids asks
+      pub weighed-right : o .printed ≡ true → o .checksum ≡ sum → Taken ≡ weighed o d replaced over bids asks
       unfolding weighed
       weighed-right h g = let e = eq-eqb (o .checksum) sum g in sym (rw (a, b, h, e, weighed))
 
-      pub weighed-wrong : o .printed ≡ true → (o .checksum ≡ sum → ⊥) → WrongChecksum ≡ weighed o d met over bids asks
+      pub weighed-wrong : o .printed ≡ true → (o .checksum ≡ sum → ⊥) → WrongChecksum ≡ weighed o d replaced over bids asks
       unfolding weighed
       weighed-wrong h g = let e = ne-eqb (o .checksum) sum g in sym (rw (a, b, h, e, weighed))

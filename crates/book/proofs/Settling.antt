@@ -8,13 +8,13 @@ use native.Mathlib.Omega.{arith}
 use borrow.Author.Tests.{leb-true, eqb-true, ltb-false, le-ltb}
 use lib.Dec.{eqb, leb, ltb}
 use lib.ListN.{length, take, length-take, length-map}
-use Rattle.lifecycle.specs.Lifecycle.{statusOf, liveStanding, judgedUpdate}
+use Rattle.lifecycle.specs.Lifecycle.{statusOf, liveLifecycle, judgedUpdate}
 use Rattle.answer.proofs.Laws.{taken-answer}
 use Rattle.decimal.specs.Digits.{Reading, reads, refused}
 use Rattle.decimal.specs.Decimal.{Number, read, isZero}
 use Rattle.json.specs.Json.{Span}
-use Rattle.settings.specs.Settings.{Terms, good, goodDepth, goodName}
-use Rattle.settings.specs.Kept.{termsOf}
+use Rattle.settings.specs.Settings.{Config, good, goodDepth, goodName}
+use Rattle.settings.specs.Kept.{configOf}
 use Rattle.settings.proofs.Depth.{good-depth}
 use Rattle.settings.specs.declared.Dialect.{Dialect}
 use Rattle.settings.specs.declared.Dialect.the-variants.{K, M, Unknown}
@@ -25,7 +25,7 @@ use Rattle.entries.proofs.Claims.{zero-none}
 use Rattle.level.specs.Level.{PriceLevel, shownPrice}
 use Rattle.level.specs.Words.{shown}
 use Rattle.level.specs.Side.{Edit, sets, removes, namesTwice, applyAll, ranked}
-use Rattle.level.specs.Ranked.{All, IsSet, named, Sorted, afterMessage, met}
+use Rattle.level.specs.Ranked.{All, IsSet, named, Sorted, afterMessage, replaced}
 use Rattle.level.specs.Kept.{keptIn, held}
 use Rattle.level.specs.Kept as kept·
 use Rattle.piece.specs.Piece.{kPiece, mPiece}
@@ -38,19 +38,19 @@ use Rattle.level.proofs.Meeting.{met-snapshot}
 use Rattle.sides.specs.Worked.{SideAfter, Sound, editsAt, Worked}
 use Rattle.entries.specs.Arrays.{Ready}
 use Rattle.layout.specs.Layout.{Layout}
-use Rattle.layout.specs.Told.{isPrinted, sumOf, outlineOf}
+use Rattle.layout.specs.Scan.{isPrinted, sumOf, outlineOf}
 use Rattle.layout.specs.declared.Outline.{Outline}
-use Rattle.message.specs.Meaning.{Quote, Message, quoteAt, messageOf, bad, passes}
-use Rattle.answer.specs.Answers.{number, isTaken}
+use Rattle.message.specs.Meaning.{LevelChange, Message, levelChangeAt, messageOf, bad, passes}
+use Rattle.answer.specs.Answers.{answerNumber, isTaken}
 use Rattle.answer.specs.declared.Answer.{Answer}
 use Rattle.message.specs.declared.Verdict.{Verdict}
 use Rattle.message.specs.declared.Verdict.the-variants.{Fails, Passes}
 use Rattle.answer.specs.declared.Answer.the-variants.{Taken, PriceTwice, NoSnapshot, OldNumber, TooManyLevels, WrongChecksum}
 use Rattle.message.proofs.Where.{entryIn, LieIn, framed-lies}
-use Rattle.reference.specs.Reference.{isLive, Reference, editOf, cut, afterQuotes, bidsAfter, asksAfter, pricesOf, checksumOf, namesPriceTwice, lacksSnapshot, isOld, hasTooMany, hasWrongChecksum, verdict, taken, refusedBy, answered, hear}
+use Rattle.reference.specs.Reference.{isLive, Reference, editOf, cut, afterChanges, bidsAfter, asksAfter, pricesOf, checksumOf, namesPriceTwice, lacksSnapshot, isOld, hasTooMany, hasWrongChecksum, verdict, taken, refusedBy, answered, receive}
 use Rattle.settings.specs.Settings.{isM}
-use Rattle.book.specs.Shown.{shows, Good, Told}
-use Rattle.book.specs.Taking.{before, Passed, refusedStep, keptStep, Judged, weighed}
+use Rattle.book.specs.Shown.{shows, Good, Received}
+use Rattle.book.specs.Taking.{sideBefore, Passed, refusedStep, keptStep, Judged, weighed}
 use Rattle.book.specs.declared.Book.{Book}
 use Rattle.lifecycle.specs.declared.State.{State}
 use Rattle.book.specs.declared.Step.{Step}
@@ -96,8 +96,8 @@ size-positive s a h g = go (read (inner s a)) h g
     go (reads n) p q = q
     go refused p q = absurd (true≢false p)
 
-sets-all : (s : List ℕ) (rows : List Row) → anyBroken s rows ≡ false → anyZero s rows ≡ false → All IsSet (map editOf (map (quoteAt s) rows))
-unfolding All anyBroken anyZero editOf quoteAt IsSet
+sets-all : (s : List ℕ) (rows : List Row) → anyBroken s rows ≡ false → anyZero s rows ≡ false → All IsSet (map editOf (map (levelChangeAt s) rows))
+unfolding All anyBroken anyZero editOf levelChangeAt IsSet
 sets-all s [] h g = tt
 sets-all s (r ∷ l) h g =
     let a = or-none (badPrice s (r .price) || badSize false s (r .size)) (anyBroken s l) h in
@@ -109,7 +109,7 @@ sets-all s (r ∷ l) h g =
     one true e = absurd (true≢false e)
     one false e = tt
 
-names-are : (qs : List Quote) → map (named shownPrice) (map editOf qs) ≡ pricesOf qs
+names-are : (qs : List LevelChange) → map (named shownPrice) (map editOf qs) ≡ pricesOf qs
 unfolding named editOf
 names-are [] = refl
 names-are (q ∷ qs) = ap₂ (λ (x : Number) (y : List Number). x ∷ y) (at (isZero (q .size))) (names-are qs)
@@ -159,69 +159,69 @@ module _ (b : Book) (s : List ℕ) (o : Outline) (k : Passed b s o) where
   abbrev d : Dialect
   d = b .settings .dialect
 
-  abbrev terms : Terms
-  terms = termsOf (b .settings)
+  abbrev terms : Config
+  terms = configOf (b .settings)
 
   good-terms : good terms ≡ true
-  good-terms = k .good .terms (k .unshut)
+  good-terms = k .good .config (k .unshut)
 
   readable : Readable d
-  unfolding termsOf
+  unfolding configOf
   readable = good-readable terms good-terms
 
   pub depth-most : b .settings .depth ≤ 100
-  unfolding termsOf
+  unfolding configOf
   depth-most = good-depth terms good-terms .0
 
   hundred : isM d ≡ true → b .settings .depth ≡ 100
-  unfolding termsOf
+  unfolding configOf
   hundred = good-depth terms good-terms .1
 
   lie : LieIn (entryIn d) s l
-  unfolding termsOf
-  lie = framed-lies terms s l (also-framed terms s l (k .fair) .0)
+  unfolding configOf
+  lie = framed-lies terms s l (also-framed terms s l (k .checked-as) .0)
 
   few : (length (l .bids .rows) ≤ 100) × (length (l .asks .rows) ≤ 100)
-  few = framed-few terms s l (also-framed terms s l (k .fair) .0)
+  few = framed-few terms s l (also-framed terms s l (k .checked-as) .0)
 
   -- what the outline has
   pub ready-bids : Ready (isM d) s (o .«bids_at») (o .bids)
   unfolding outlineOf
-  ready-bids = rw (k .told) (listed-ready readable s (l .bids) (few .0) (lie .bids))
+  ready-bids = rw (k .outlined) (listed-ready readable s (l .bids) (few .0) (lie .bids))
 
   pub ready-asks : Ready (isM d) s (o .«asks_at») (o .asks)
   unfolding outlineOf
-  ready-asks = rw (k .told) (listed-ready readable s (l .asks) (few .1) (lie .asks))
+  ready-asks = rw (k .outlined) (listed-ready readable s (l .asks) (few .1) (lie .asks))
 
   bids-edits : editsAt (isM d) s (o .«bids_at») (o .bids) ≡ map editOf (m .bids)
   unfolding outlineOf messageOf
-  bids-edits = ap (λ (x : Outline). editsAt (isM d) s (x .«bids_at») (x .bids)) (k .told) ∙ listed-edits readable s (l .bids) (lie .bids)
+  bids-edits = ap (λ (x : Outline). editsAt (isM d) s (x .«bids_at») (x .bids)) (k .outlined) ∙ listed-edits readable s (l .bids) (lie .bids)
 
   asks-edits : editsAt (isM d) s (o .«asks_at») (o .asks) ≡ map editOf (m .asks)
   unfolding outlineOf messageOf
-  asks-edits = ap (λ (x : Outline). editsAt (isM d) s (x .«asks_at») (x .asks)) (k .told) ∙ listed-edits readable s (l .asks) (lie .asks)
+  asks-edits = ap (λ (x : Outline). editsAt (isM d) s (x .«asks_at») (x .asks)) (k .outlined) ∙ listed-edits readable s (l .asks) (lie .asks)
 
   o-snapshot : m .snapshot ≡ o .snapshot
   unfolding outlineOf messageOf
-  o-snapshot = sym (ap (λ (x : Outline). x .snapshot) (k .told))
+  o-snapshot = sym (ap (λ (x : Outline). x .snapshot) (k .outlined))
 
   o-number : m .number ≡ o .number
   unfolding outlineOf messageOf
-  o-number = sym (ap (λ (x : Outline). x .number) (k .told))
+  o-number = sym (ap (λ (x : Outline). x .number) (k .outlined))
 
   o-small : o .number < 10 ^ 19
   unfolding outlineOf
-  o-small = rw (k .told) (lie .small)
+  o-small = rw (k .outlined) (lie .small)
 
   o-checksum : (sum : ℕ) → (o .printed && not (eqb (o .checksum) sum)) ≡ (isPrinted (m .checksum) && not (eqb (sumOf (m .checksum)) sum))
   unfolding outlineOf messageOf
-  o-checksum sum = ap (λ (x : Outline). x .printed && not (eqb (x .checksum) sum)) (k .told)
+  o-checksum sum = ap (λ (x : Outline). x .printed && not (eqb (x .checksum) sum)) (k .outlined)
 
-  heard-is : hear p s ≡ answered p m (verdict p m)
+  heard-is : receive p s ≡ answered p m (verdict p m)
   unfolding shows
-  heard-is = hear-passes p s (k .unshut) l (k .fair)
+  heard-is = hear-passes p s (k .unshut) l (k .checked-as)
 
-  refuse-as : (a : _) → answered p m (verdict p m) ≡ refusedBy p a → Told (hear p s) (refusedStep b a)
+  refuse-as : (a : _) → answered p m (verdict p m) ≡ refusedBy p a → Received (receive p s) (refusedStep b a)
   refuse-as a e = told-as (refusedStep b a) (heard-is ∙ e) (refused-told b (k .good) (k .unshut) a)
 
   -- ---- check 13, and then the book with these sides
@@ -244,8 +244,8 @@ module _ (b : Book) (s : List ℕ) (o : Outline) (k : Passed b s o) where
     abbrev wrong : Bool
     wrong = o .printed && not (eqb (o .checksum) (checksumOf d (map shown (held bids)) (map shown (held asks))))
 
-    pub settled-told : Settles → Told (hear p s) (finished bids asks (cond wrong WrongChecksum Taken))
-    unfolding hasWrongChecksum shows termsOf keptStep liveStanding taken statusOf isTaken number
+    pub settled-told : Settles → Received (receive p s) (finished bids asks (cond wrong WrongChecksum Taken))
+    unfolding hasWrongChecksum shows configOf keptStep liveLifecycle taken statusOf isTaken answerNumber
     settled-told z = at (hasWrongChecksum p m) refl
       where
         test : (o .printed && not (eqb (o .checksum) (checksumOf d (map shown (held bids)) (map shown (held asks))))) ≡ hasWrongChecksum p m
@@ -254,13 +254,13 @@ module _ (b : Book) (s : List ℕ) (o : Outline) (k : Passed b s o) where
             ∙ sym (differs-is (m .checksum) (checksumOf d (map shown (held bids)) (map shown (held asks))))
             ∙ rw (z .bids-are, z .asks-are)
 
-        fresh : Told (record { book = taken p m; answer = Taken }) (keptStep b o bids asks)
+        fresh : Received (record { book = taken p m; answer = Taken }) (keptStep b o bids asks)
         fresh =
             record {
               good = record {
                 room = k .good .room;
                 short = k .good .short;
-                terms = λ h. good-terms;
+                config = λ h. good-terms;
                 bids = z .bids-sound;
                 asks = z .asks-sound;
                 few-bids = z .bids-few;
@@ -271,7 +271,7 @@ module _ (b : Book) (s : List ℕ) (o : Outline) (k : Passed b s o) where
               answer = refl;
             }
 
-        at : (t : Bool) → hasWrongChecksum p m ≡ t → Told (hear p s) (finished bids asks (cond wrong WrongChecksum Taken))
+        at : (t : Bool) → hasWrongChecksum p m ≡ t → Received (receive p s) (finished bids asks (cond wrong WrongChecksum Taken))
         at true e = rw (test ∙ e) (refuse-as WrongChecksum (thirteen p m (z .not-twice) (z .not-lacking) (z .not-old) (z .not-many) e))
         at false e = rw (test ∙ e) (told-as (keptStep b o bids asks) (heard-is ∙ none-fits p m (z .not-twice) (z .not-lacking) (z .not-old) (z .not-many) e) fresh)
 
@@ -281,7 +281,7 @@ module _ (b : Book) (s : List ℕ) (o : Outline) (k : Passed b s o) where
   none-held none e = ap (map shown) e
 
   -- a side with the message's entries applied to it is the side after the message
-  module _ (side : Side) (qs : List Quote) (kept : Levels) (base : List PriceLevel) (at count : ℕ) (a : SideAfter)
+  module _ (side : Side) (qs : List LevelChange) (kept : Levels) (base : List PriceLevel) (at count : ℕ) (a : SideAfter)
       (stood : map shown (held kept) ≡ base) (edits : editsAt (isM d) s at count ≡ map editOf qs)
       (w : Worked (isM d) side (b .settings .depth) (editsAt (isM d) s at count) kept a) where
     levels-are : map shown (held (a .levels)) ≡ afterMessage shownPrice side (b .settings .depth) (map editOf qs) base
@@ -290,8 +290,8 @@ module _ (b : Book) (s : List ℕ) (o : Outline) (k : Passed b s o) where
     count-is : a .count ≡ length (applyAll shownPrice (map editOf qs) base)
     count-is = w .count ∙ ap₂ (λ (x : List (Edit PriceLevel)) (y : List PriceLevel). length (applyAll shownPrice x y)) edits stood
 
-    met-is : a .met ≡ met shownPrice (map editOf qs) base
-    met-is = w .met ∙ ap₂ (λ (x : List (Edit PriceLevel)) (y : List PriceLevel). met shownPrice x y) edits stood
+    met-is : a .replaced ≡ replaced shownPrice (map editOf qs) base
+    met-is = w .replaced ∙ ap₂ (λ (x : List (Edit PriceLevel)) (y : List PriceLevel). replaced shownPrice x y) edits stood
 
     levels-few : length (held (a .levels)) ≤ b .settings .depth
     levels-few =
@@ -300,12 +300,12 @@ module _ (b : Book) (s : List ℕ) (o : Outline) (k : Passed b s o) where
         let z = after-few side (b .settings .depth) (map editOf qs) base in
         omega arith
 
-    after-same : (isM d ≡ true → a .count ≤ 100) → map shown (held (a .levels)) ≡ afterQuotes terms side qs base
-    unfolding afterQuotes termsOf
+    after-same : (isM d ≡ true → a .count ≤ 100) → map shown (held (a .levels)) ≡ afterChanges terms side qs base
+    unfolding afterChanges configOf
     after-same f = levels-are ∙ after-is readable (b .settings .depth) hundred side (map editOf qs) base (λ e. let x = f e in let y = count-is in omega arith)
 
-    length-is : isM d ≡ true → length (afterQuotes terms side qs base) ≡ a .count
-    unfolding afterQuotes termsOf
+    length-is : isM d ≡ true → length (afterChanges terms side qs base) ≡ a .count
+    unfolding afterChanges configOf
     length-is e = after-length readable (b .settings .depth) hundred side (map editOf qs) base e ∙ sym count-is
 
   -- ---- a snapshot, whose entries are applied to an empty side
@@ -318,30 +318,30 @@ module _ (b : Book) (s : List ℕ) (o : Outline) (k : Passed b s o) where
     good-texts : (badTexts true s (l .bids .rows) ≡ []) × (badTexts true s (l .asks .rows) ≡ [])
     unfolding bad messageOf
     good-texts =
-        let n = also-framed terms s l (k .fair) .1 in
+        let n = also-framed terms s l (k .checked-as) .1 in
         let q : l .snapshot ≡ true = is-snapshot in
         let n′ : badTexts true s (l .bids .rows) ++ badTexts true s (l .asks .rows) ≡ [] = subst (λ (x : Bool). badTexts x s (l .bids .rows) ++ badTexts x s (l .asks .rows) ≡ []) q n in
         append-none (badTexts true s (l .bids .rows)) (badTexts true s (l .asks .rows)) n′
 
-    bids-met : bids .met ≡ namesTwice (pricesOf (m .bids))
+    bids-met : bids .replaced ≡ namesTwice (pricesOf (m .bids))
     unfolding messageOf
     bids-met =
         let z = zero-none s (l .bids .rows) (good-texts .0) in
         met-is Bids (m .bids) none [] (o .«bids_at») (o .bids) bids (none-held none e) bids-edits wb
         ∙ met-snapshot shownPrice (map editOf (m .bids)) (sets-all s (l .bids .rows) (z .0) (z .1)) ∙ ap namesTwice (names-are (m .bids))
 
-    asks-met : asks .met ≡ namesTwice (pricesOf (m .asks))
+    asks-met : asks .replaced ≡ namesTwice (pricesOf (m .asks))
     unfolding messageOf
     asks-met =
         let z = zero-none s (l .asks .rows) (good-texts .1) in
         met-is Asks (m .asks) none′ [] (o .«asks_at») (o .asks) asks (none-held none′ e′) asks-edits wa
         ∙ met-snapshot shownPrice (map editOf (m .asks)) (sets-all s (l .asks .rows) (z .0) (z .1)) ∙ ap namesTwice (names-are (m .asks))
 
-    twice-is : namesPriceTwice m ≡ (bids .met || asks .met)
+    twice-is : namesPriceTwice m ≡ (bids .replaced || asks .replaced)
     unfolding namesPriceTwice
     twice-is = rw (is-snapshot, namesPriceTwice, bids-met, asks-met)
 
-    pub snapshot-twice : (bids .met || asks .met) ≡ true → Told (hear p s) (refusedStep b PriceTwice)
+    pub snapshot-twice : (bids .replaced || asks .replaced) ≡ true → Received (receive p s) (refusedStep b PriceTwice)
     snapshot-twice x = refuse-as PriceTwice (nine p m (twice-is ∙ x))
 
     few-bids : bids .count ≤ 100
@@ -350,7 +350,7 @@ module _ (b : Book) (s : List ℕ) (o : Outline) (k : Passed b s o) where
         let c = count-is Bids (m .bids) none [] (o .«bids_at») (o .bids) bids (none-held none e) bids-edits wb in
         let n = length-applyAll shownPrice (map editOf (m .bids)) [] in
         let x = length-map (m .bids) editOf in
-        let y = length-map (l .bids .rows) (quoteAt s) in
+        let y = length-map (l .bids .rows) (levelChangeAt s) in
         let f = few .0 in
         omega arith
 
@@ -360,12 +360,12 @@ module _ (b : Book) (s : List ℕ) (o : Outline) (k : Passed b s o) where
         let c = count-is Asks (m .asks) none′ [] (o .«asks_at») (o .asks) asks (none-held none′ e′) asks-edits wa in
         let n = length-applyAll shownPrice (map editOf (m .asks)) [] in
         let x = length-map (m .asks) editOf in
-        let y = length-map (l .asks .rows) (quoteAt s) in
+        let y = length-map (l .asks .rows) (levelChangeAt s) in
         let f = few .1 in
         omega arith
 
-    pub snapshot-settles : (bids .met || asks .met) ≡ false → Settles (bids .levels) (asks .levels)
-    unfolding bidsAfter asksAfter hasTooMany shows termsOf
+    pub snapshot-settles : (bids .replaced || asks .replaced) ≡ false → Settles (bids .levels) (asks .levels)
+    unfolding bidsAfter asksAfter hasTooMany shows configOf
     snapshot-settles x =
         record {
           bids-sound = wb .sound;
@@ -394,7 +394,7 @@ module _ (b : Book) (s : List ℕ) (o : Outline) (k : Passed b s o) where
     is-update : m .snapshot ≡ false
     is-update = o-snapshot ∙ h
 
-    pub update-waits : isLive (p .status) ≡ false → Told (hear p s) (refusedStep b NoSnapshot)
+    pub update-waits : isLive (p .status) ≡ false → Received (receive p s) (refusedStep b NoSnapshot)
     update-waits x = refuse-as NoSnapshot (ten p m (update-names-once m is-update) (update-lacks p m false is-update x))
 
     module _ (live : isLive (p .status) ≡ true) where
@@ -402,28 +402,28 @@ module _ (b : Book) (s : List ℕ) (o : Outline) (k : Passed b s o) where
       lacks-none = update-lacks p m true is-update live
 
       old-is : isOld p m ≡ (isM d && leb (o .number) (b .number))
-      unfolding shows termsOf
+      unfolding shows configOf
       old-is = update-old p m is-update ∙ ap (λ (x : ℕ). isM d && leb x (b .number)) o-number
 
-      pub update-is-old : (isM d && leb (o .number) (b .number)) ≡ true → Told (hear p s) (refusedStep b OldNumber)
+      pub update-is-old : (isM d && leb (o .number) (b .number)) ≡ true → Received (receive p s) (refusedStep b OldNumber)
       update-is-old x = refuse-as OldNumber (eleven p m (update-names-once m is-update) lacks-none (old-is ∙ x))
 
       module _ (new : (isM d && leb (o .number) (b .number)) ≡ false) (bids asks : SideAfter)
           (wb : Worked (isM d) Bids (b .settings .depth) (editsAt (isM d) s (o .«bids_at») (o .bids)) (b .bids) bids)
           (wa : Worked (isM d) Asks (b .settings .depth) (editsAt (isM d) s (o .«asks_at») (o .asks)) (b .asks) asks) where
         many-is : hasTooMany p m ≡ (isM d && (ltb 100 (bids .count) || ltb 100 (asks .count)))
-        unfolding bidsAfter asksAfter hasTooMany shows termsOf
+        unfolding bidsAfter asksAfter hasTooMany shows configOf
         many-is =
             rw is-update
             (over-is (isM d) _ _ (bids .count) (asks .count)
             (length-is Bids (m .bids) (b .bids) (map shown (held (b .bids))) (o .«bids_at») (o .bids) bids refl bids-edits wb)
             (length-is Asks (m .asks) (b .asks) (map shown (held (b .asks))) (o .«asks_at») (o .asks) asks refl asks-edits wa))
 
-        pub update-is-over : (isM d && (ltb 100 (bids .count) || ltb 100 (asks .count))) ≡ true → Told (hear p s) (refusedStep b TooManyLevels)
+        pub update-is-over : (isM d && (ltb 100 (bids .count) || ltb 100 (asks .count))) ≡ true → Received (receive p s) (refusedStep b TooManyLevels)
         update-is-over x = refuse-as TooManyLevels (twelve p m (update-names-once m is-update) lacks-none (old-is ∙ new) (many-is ∙ x))
 
         pub update-settles : (isM d && (ltb 100 (bids .count) || ltb 100 (asks .count))) ≡ false → Settles (bids .levels) (asks .levels)
-        unfolding bidsAfter asksAfter shows termsOf
+        unfolding bidsAfter asksAfter shows configOf
         update-settles x =
             record {
               bids-sound = wb .sound;
@@ -446,28 +446,28 @@ module _ (b : Book) (s : List ℕ) (o : Outline) (k : Passed b s o) where
 
   -- ---- checks 10 and 11
 
-  pub judged-told : (v : Verdict) → v ≡ judgedUpdate (b .standing .state) (isM d) (b .number) o → Judged b s v
+  pub judged-told : (v : Verdict) → v ≡ judgedUpdate (b .lifecycle .state) (isM d) (b .number) o → Judged b s v
   unfolding judgedUpdate Judged shows statusOf
-  judged-told v e = subst (Judged b s) (sym e) (at (o .snapshot) refl (isLive (statusOf (b .standing .state))) refl (isM d && leb (o .number) (b .number)) refl)
+  judged-told v e = subst (Judged b s) (sym e) (at (o .snapshot) refl (isLive (statusOf (b .lifecycle .state))) refl (isM d && leb (o .number) (b .number)) refl)
     where
-      at : (t : Bool) → o .snapshot ≡ t → (x : Bool) → isLive (statusOf (b .standing .state)) ≡ x → (y : Bool) → (isM d && leb (o .number) (b .number)) ≡ y
+      at : (t : Bool) → o .snapshot ≡ t → (x : Bool) → isLive (statusOf (b .lifecycle .state)) ≡ x → (y : Bool) → (isM d && leb (o .number) (b .number)) ≡ y
           → Judged b s (cond t (Passes o) (cond x (cond y (Fails OldNumber) (Passes o)) (Fails NoSnapshot)))
-      at true h x f y g = (k, sym (judged-snapshot (b .standing .state) (isM d) (b .number) o h))
+      at true h x f y g = (k, sym (judged-snapshot (b .lifecycle .state) (isM d) (b .number) o h))
       at false h true f true g = update-is-old h f g
-      at false h true f false g = (k, sym (judged-new (b .standing .state) (isM d) (b .number) o h f g))
+      at false h true f false g = (k, sym (judged-new (b .lifecycle .state) (isM d) (b .number) o h f g))
       at false h false f y g = update-waits h f
 
   -- ---- the sides that entries are applied to
 
-  before-none : (kept : Levels) → o .snapshot ≡ true → held (before o kept) ≡ []
+  before-none : (kept : Levels) → o .snapshot ≡ true → held (sideBefore o kept) ≡ []
   unfolding held
   before-none kept h = rw h
 
-  before-same : (kept : Levels) → o .snapshot ≡ false → before o kept ≡ kept
+  before-same : (kept : Levels) → o .snapshot ≡ false → sideBefore o kept ≡ kept
   before-same kept h = rw h
 
   pub before-asked : (side : Side) (kept : Levels) → Sound (isM d) side kept → length (held kept) ≤ b .settings .depth
-      → Sound (isM d) side (before o kept) × (length (held (before o kept)) ≤ b .settings .depth)
+      → Sound (isM d) side (sideBefore o kept) × (length (held (sideBefore o kept)) ≤ b .settings .depth)
   unfolding held All Sorted
   before-asked side kept z n = at (o .snapshot)
     where
@@ -483,34 +483,34 @@ module _ (b : Book) (s : List ℕ) (o : Outline) (k : Passed b s o) where
     asked-as r z f = let y = before-asked side kept z f in rw (is, counts) (y .0, r, depth-most, y .1)
 
     pub worked-as : (a : SideAfter) → Worked t side (b .settings .depth) (editsAt t s at count) (keptIn (kept .words) n) a
-        → Worked (isM d) side (b .settings .depth) (editsAt (isM d) s at count) (before o kept) a
+        → Worked (isM d) side (b .settings .depth) (editsAt (isM d) s at count) (sideBefore o kept) a
     worked-as a w = rw (is, counts) at w
 
   -- ---- the whole of checks 9, 12 and 13
 
-  module _ (judged : judgedUpdate (b .standing .state) (isM d) (b .number) o ≡ Passes o) (bids asks : SideAfter)
-      (wb : Worked (isM d) Bids (b .settings .depth) (editsAt (isM d) s (o .«bids_at») (o .bids)) (before o (b .bids)) bids)
-      (wa : Worked (isM d) Asks (b .settings .depth) (editsAt (isM d) s (o .«asks_at») (o .asks)) (before o (b .asks)) asks) where
+  module _ (judged : judgedUpdate (b .lifecycle .state) (isM d) (b .number) o ≡ Passes o) (bids asks : SideAfter)
+      (wb : Worked (isM d) Bids (b .settings .depth) (editsAt (isM d) s (o .«bids_at») (o .bids)) (sideBefore o (b .bids)) bids)
+      (wa : Worked (isM d) Asks (b .settings .depth) (editsAt (isM d) s (o .«asks_at») (o .asks)) (sideBefore o (b .asks)) asks) where
     abbrev found : Answer
-    found = weighed o d (bids .met || asks .met) (ltb 100 (bids .count) || ltb 100 (asks .count)) (bids .levels) (asks .levels)
+    found = weighed o d (bids .replaced || asks .replaced) (ltb 100 (bids .count) || ltb 100 (asks .count)) (bids .levels) (asks .levels)
 
-    found-as : (a : Answer) → found ≡ a → Told (hear p s) (finished (bids .levels) (asks .levels) a) → Told (hear p s) (finished (bids .levels) (asks .levels) found)
-    found-as a e x = subst (λ (y : Answer). Told (hear p s) (finished (bids .levels) (asks .levels) y)) (sym e) x
+    found-as : (a : Answer) → found ≡ a → Received (receive p s) (finished (bids .levels) (asks .levels) a) → Received (receive p s) (finished (bids .levels) (asks .levels) found)
+    found-as a e x = subst (λ (y : Answer). Received (receive p s) (finished (bids .levels) (asks .levels) y)) (sym e) x
 
-    as-snapshot : o .snapshot ≡ true → Told (hear p s) (finished (bids .levels) (asks .levels) found)
-    unfolding weighed isTaken number
-    as-snapshot h = at (bids .met || asks .met) refl
+    as-snapshot : o .snapshot ≡ true → Received (receive p s) (finished (bids .levels) (asks .levels) found)
+    unfolding weighed isTaken answerNumber
+    as-snapshot h = at (bids .replaced || asks .replaced) refl
       where
-        at : (t : Bool) → (bids .met || asks .met) ≡ t → Told (hear p s) (finished (bids .levels) (asks .levels) found)
-        at true e = found-as PriceTwice (rw (h, e)) (snapshot-twice h (before o (b .bids)) (before o (b .asks)) (before-none (b .bids) h) (before-none (b .asks) h) bids asks wb wa e)
-        at false e = found-as (cond (wrong (bids .levels) (asks .levels)) WrongChecksum Taken) (rw (h, e)) (settled-told (bids .levels) (asks .levels) (snapshot-settles h (before o (b .bids)) (before o (b .asks)) (before-none (b .bids) h) (before-none (b .asks) h) bids asks wb wa e))
+        at : (t : Bool) → (bids .replaced || asks .replaced) ≡ t → Received (receive p s) (finished (bids .levels) (asks .levels) found)
+        at true e = found-as PriceTwice (rw (h, e)) (snapshot-twice h (sideBefore o (b .bids)) (sideBefore o (b .asks)) (before-none (b .bids) h) (before-none (b .asks) h) bids asks wb wa e)
+        at false e = found-as (cond (wrong (bids .levels) (asks .levels)) WrongChecksum Taken) (rw (h, e)) (settled-told (bids .levels) (asks .levels) (snapshot-settles h (sideBefore o (b .bids)) (sideBefore o (b .asks)) (before-none (b .bids) h) (before-none (b .asks) h) bids asks wb wa e))
 
-    as-update : o .snapshot ≡ false → Told (hear p s) (finished (bids .levels) (asks .levels) found)
-    unfolding weighed isTaken number shows
+    as-update : o .snapshot ≡ false → Received (receive p s) (finished (bids .levels) (asks .levels) found)
+    unfolding weighed isTaken answerNumber shows
     as-update h = at (isM d && (ltb 100 (bids .count) || ltb 100 (asks .count))) refl
       where
         passed : (isLive (p .status) ≡ true) × ((isM d && leb (o .number) (b .number)) ≡ false)
-        passed = update-passed (b .standing .state) (isM d) (b .number) o h judged
+        passed = update-passed (b .lifecycle .state) (isM d) (b .number) o h judged
 
         wb′ : Worked (isM d) Bids (b .settings .depth) (editsAt (isM d) s (o .«bids_at») (o .bids)) (b .bids) bids
         wb′ = subst (λ (x : Levels). Worked (isM d) Bids (b .settings .depth) (editsAt (isM d) s (o .«bids_at») (o .bids)) x bids) (before-same (b .bids) h) wb
@@ -518,30 +518,30 @@ module _ (b : Book) (s : List ℕ) (o : Outline) (k : Passed b s o) where
         wa′ : Worked (isM d) Asks (b .settings .depth) (editsAt (isM d) s (o .«asks_at») (o .asks)) (b .asks) asks
         wa′ = subst (λ (x : Levels). Worked (isM d) Asks (b .settings .depth) (editsAt (isM d) s (o .«asks_at») (o .asks)) x asks) (before-same (b .asks) h) wa
 
-        at : (t : Bool) → (isM d && (ltb 100 (bids .count) || ltb 100 (asks .count))) ≡ t → Told (hear p s) (finished (bids .levels) (asks .levels) found)
+        at : (t : Bool) → (isM d && (ltb 100 (bids .count) || ltb 100 (asks .count))) ≡ t → Received (receive p s) (finished (bids .levels) (asks .levels) found)
         at true e = found-as TooManyLevels (rw (h, e)) (update-is-over h (passed .0) (passed .1) bids asks wb′ wa′ e)
         at false e = found-as (cond (wrong (bids .levels) (asks .levels)) WrongChecksum Taken) (rw (h, e)) (settled-told (bids .levels) (asks .levels) (update-settles h (passed .0) (passed .1) bids asks wb′ wa′ e))
 
-    pub weighed-told : Told (hear p s) (finished (bids .levels) (asks .levels) found)
+    pub weighed-told : Received (receive p s) (finished (bids .levels) (asks .levels) found)
     weighed-told = at (o .snapshot) refl
       where
-        at : (t : Bool) → o .snapshot ≡ t → Told (hear p s) (finished (bids .levels) (asks .levels) found)
+        at : (t : Bool) → o .snapshot ≡ t → Received (receive p s) (finished (bids .levels) (asks .levels) found)
         at true h = as-snapshot h
         at false h = as-update h
 
     -- the same for an answer that the code found
     module _ (a : Answer) (e : a ≡ found) where
-      step-told : Told (hear p s) (finished (bids .levels) (asks .levels) a)
-      step-told = subst (λ (y : Answer). Told (hear p s) (finished (bids .levels) (asks .levels) y)) (sym e) weighed-told
+      step-told : Received (receive p s) (finished (bids .levels) (asks .levels) a)
+      step-told = subst (λ (y : Answer). Received (receive p s) (finished (bids .levels) (asks .levels) y)) (sym e) weighed-told
 
-      pub kept-told : isTaken a ≡ true → Told (hear p s) (record { book = keptStep b o (bids .levels) (asks .levels) .book; answer = a })
+      pub kept-told : isTaken a ≡ true → Received (receive p s) (record { book = keptStep b o (bids .levels) (asks .levels) .book; answer = a })
       unfolding keptStep
       kept-told h =
-          let x : Told (hear p s) (keptStep b o (bids .levels) (asks .levels)) = subst (λ (t : Bool). Told (hear p s) (cond t (keptStep b o (bids .levels) (asks .levels)) (refusedStep b a))) h step-told in
+          let x : Received (receive p s) (keptStep b o (bids .levels) (asks .levels)) = subst (λ (t : Bool). Received (receive p s) (cond t (keptStep b o (bids .levels) (asks .levels)) (refusedStep b a))) h step-told in
           record { good = x .good; same = x .same; answer = taken-answer a h ∙ x .answer }
 
-      pub left-told : isTaken a ≡ false → Told (hear p s) (refusedStep b a)
-      left-told h = subst (λ (t : Bool). Told (hear p s) (cond t (keptStep b o (bids .levels) (asks .levels)) (refusedStep b a))) h step-told
+      pub left-told : isTaken a ≡ false → Received (receive p s) (refusedStep b a)
+      left-told h = subst (λ (t : Bool). Received (receive p s) (cond t (keptStep b o (bids .levels) (asks .levels)) (refusedStep b a))) h step-told
 
 -- ---- checksums
 

@@ -13,13 +13,13 @@ use Rattle.decimal.specs.Buffer.{overlaid}
 use Rattle.decimal.specs.Laying.{fits, Laid}
 use Rattle.decimal.specs.declared.Written.{Written}
 use Rattle.decimal.specs.declared.Written.the-variants.{To, Full}
-use Rattle.settings.specs.Kept.{termsOf}
+use Rattle.settings.specs.Kept.{configOf}
 use Rattle.settings.specs.declared.Dialect.{Dialect}
 use Rattle.settings.specs.declared.Dialect.the-variants.{K, M, Unknown}
 use Rattle.level.specs.Words.{shown}
 use Rattle.level.specs.Kept.{held}
 use Rattle.checksum.specs.Text.{mChecksum}
-use Rattle.answer.specs.Answers.{number as numberOf, isTaken}
+use Rattle.answer.specs.Answers.{answerNumber as numberOf, isTaken}
 use Rattle.answer.specs.declared.Answer.{Answer}
 use Rattle.answer.specs.declared.Answer.the-variants.{Taken, NoRoom}
 use Rattle.writer.specs.Snapshot.{kSnapshot, mSnapshot}
@@ -39,16 +39,16 @@ module _ (b : Book) where
   name-length g = let r = g .room in let s = g .short in let l = length-take (b .settings .length) (b .settings .name) in omega arith
 
   text-is : (d : Dialect) → b .settings .dialect ≡ d → snapshotText (shows b) ≡ textIn d (shows b)
-  unfolding snapshotText shows termsOf
+  unfolding snapshotText shows configOf
   text-is d e = ap (λ (x : Dialect). textIn x (shows b)) e
 
   pub k-text : b .settings .dialect ≡ K → kSnapshot (b .settings .depth) name (map shown (held (b .bids))) (map shown (held (b .asks))) ≡ snapshotText (shows b)
-  unfolding textIn shows termsOf
+  unfolding textIn shows configOf
   k-text e = sym (text-is K e)
 
   pub m-text : b .settings .dialect ≡ M → (sum : ℕ) → sum ≡ mChecksum (map shown (held (b .bids))) (map shown (held (b .asks)))
       → mSnapshot name (map shown (held (b .bids))) (map shown (held (b .asks))) sum (b .number) ≡ snapshotText (shows b)
-  unfolding textIn shows termsOf
+  unfolding textIn shows configOf
   m-text e sum q = ap (λ (x : ℕ). mSnapshot name (map shown (held (b .bids))) (map shown (held (b .asks))) x (b .number)) q ∙ sym (text-is M e)
 
   -- a book of no dialect has no text
@@ -66,7 +66,7 @@ module _ (b : Book) (before after : List ℕ) where
   text = snapshotText p
 
   abbrev yes : Bool
-  yes = answers (statusOf (b .standing .state)) (b .standing .ever) Current
+  yes = answers (statusOf (b .lifecycle .state)) (b .lifecycle .«had_snapshot») Current
 
   if-not : {A : Type 0} (a : Answer) (x z : A) → a ≡ NoRoom → ifTaken a x z ≡ z
   unfolding ifTaken isTaken numberOf
@@ -77,12 +77,12 @@ module _ (b : Book) (before after : List ℕ) where
     unfolding askedWriting shows
     asked-is t e = if-yes (asked Current p) _ _ (asked-yes p Current h) ∙ rw e
 
-    pub wrote-to : (n : ℕ) → w ≡ To n → Wrote b before after (record { book = b; answer = Taken; amount = n })
+    pub wrote-to : (n : ℕ) → w ≡ To n → Wrote b before after (record { book = b; answer = Taken; value = n })
     unfolding does fits
     wrote-to n e = go (leb (0 + length text) (length before)) refl (l .bytes) (sym e ∙ l .end)
       where
         go : (t : Bool) → leb (0 + length text) (length before) ≡ t → after ≡ elim t [ true ↦ overlaid before 0 text | false ↦ before ] → To n ≡ elim t [ true ↦ To (0 + length text) | false ↦ Full ]
-            → Wrote b before after (record { book = b; answer = Taken; amount = n })
+            → Wrote b before after (record { book = b; answer = Taken; value = n })
         go true q x y =
             let f : 0 + length text ≤ length before = leb-true (0 + length text) (length before) q in
             let a : askedWriting p before ≡ Taken = asked-is false (le-ltb (length before) (length text) (omega arith)) in
@@ -96,12 +96,12 @@ module _ (b : Book) (before after : List ℕ) where
             }
         go false q x y = let z : _≡_ {A = ℕ} 0 1 = cc in absurd (omega arith)
 
-    pub wrote-full : w ≡ Full → Wrote b before after (record { book = b; answer = NoRoom; amount = 0 })
+    pub wrote-full : w ≡ Full → Wrote b before after (record { book = b; answer = NoRoom; value = 0 })
     unfolding does fits
     wrote-full e = go (leb (0 + length text) (length before)) refl (l .bytes) (sym e ∙ l .end)
       where
         go : (t : Bool) → leb (0 + length text) (length before) ≡ t → after ≡ elim t [ true ↦ overlaid before 0 text | false ↦ before ] → Full ≡ elim t [ true ↦ To (0 + length text) | false ↦ Full ]
-            → Wrote b before after (record { book = b; answer = NoRoom; amount = 0 })
+            → Wrote b before after (record { book = b; answer = NoRoom; value = 0 })
         go true q x y = let z : _≡_ {A = ℕ} 0 1 = cc in absurd (omega arith)
         go false q x y =
             let f = leb-false (0 + length text) (length before) q in
@@ -113,14 +113,14 @@ module _ (b : Book) (before after : List ℕ) where
               buffer = x ∙ sym (if-not (askedWriting p before) _ _ a);
             }
 
-  pub wrote-not : yes ≡ false → (a : Answer) → a ≡ refusalOf (statusOf (b .standing .state)) → after ≡ before → Wrote b before after (record { book = b; answer = a; amount = 0 })
+  pub wrote-not : yes ≡ false → (a : Answer) → a ≡ refusalOf (statusOf (b .lifecycle .state)) → after ≡ before → Wrote b before after (record { book = b; answer = a; value = 0 })
   unfolding does askedWriting shows
   wrote-not h a e x =
       let n = asked-no p Current h in
-      let m : askedWriting p before ≡ refusalOf (statusOf (b .standing .state)) = if-no (asked Current p) (statusOf (b .standing .state)) _ _ n ∙ n in
+      let m : askedWriting p before ≡ refusalOf (statusOf (b .lifecycle .state)) = if-no (asked Current p) (statusOf (b .lifecycle .state)) _ _ n ∙ n in
       record {
         book = refl;
         answer = e ∙ sym m;
-        value = ap amount (sym (if-no (askedWriting p before) (statusOf (b .standing .state)) _ _ m));
-        buffer = x ∙ sym (if-no (askedWriting p before) (statusOf (b .standing .state)) _ _ m);
+        value = ap amount (sym (if-no (askedWriting p before) (statusOf (b .lifecycle .state)) _ _ m));
+        buffer = x ∙ sym (if-no (askedWriting p before) (statusOf (b .lifecycle .state)) _ _ m);
       }

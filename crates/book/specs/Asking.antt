@@ -7,7 +7,7 @@ use Rattle.level.specs.Kept.{held}
 use Rattle.level.specs.Kept as kept·
 use Rattle.level.specs.declared.Side.{Side}
 use Rattle.level.specs.declared.Side.the-variants.{Bids, Asks}
-use Rattle.level.specs.declared.Found.{Found}
+use Rattle.level.specs.declared.MaybeLevel.{MaybeLevel}
 use Rattle.answer.specs.declared.Answer.{Answer}
 use Rattle.answer.specs.declared.Answer.the-variants.{Taken, NoSnapshot}
 use Rattle.answer.specs.declared.Answer.the-variants as answer·
@@ -18,6 +18,6 @@ use Rattle.lifecycle.specs.declared.State.{State}
 use Rattle.lifecycle.specs.declared.State.the-variants.{Shut, Waiting, Live}
 use Rattle.book.specs.declared.Book.{Book}
 
-unfoldable pub levelIn : Book → Side → ℕ → Found
+unfoldable pub levelIn : Book → Side → ℕ → MaybeLevel
 levelIn b Bids i = kept·.levelAt i (held (b .bids))
 levelIn b Asks i = kept·.levelAt i (held (b .asks))

@@ -6,15 +6,15 @@ use mathlib.Core.List.{List, map}
 use lib.ListN.{length}
 use Rattle.decimal.specs.Decimal.{number}
 use Rattle.decimal.specs.declared.Decimal.{Decimal}
-use Rattle.settings.specs.Settings.{Terms, good}
-use Rattle.settings.specs.Kept.{termsOf}
+use Rattle.settings.specs.Settings.{Config, good}
+use Rattle.settings.specs.Kept.{configOf}
 use Rattle.level.specs.Words.{shown}
 use Rattle.level.specs.Kept.{keptIn, held}
 use Rattle.level.specs.declared.Side.{Side}
 use Rattle.level.specs.declared.Side.the-variants.{Bids, Asks}
 use Rattle.sides.specs.Worked.{Sound}
 use Rattle.lifecycle.specs.Lifecycle.{statusOf}
-use Rattle.reference.specs.Reference.{isShut, Reference, opened, After, hear, Reply, Ask, message, howMany, levelAt, whichNumber, howManyUpdates, write, counts, level, amount, does}
+use Rattle.reference.specs.Reference.{isShut, Reference, opened, After, receive, Reply, Ask, message, howMany, levelAt, whichNumber, howManyUpdates, write, counts, level, amount, does}
 use Rattle.settings.specs.Settings.{isM}
 use Rattle.reference.specs.declared.Scope.{Scope}
 use Rattle.book.specs.declared.Book.{Book}
@@ -22,20 +22,20 @@ use Rattle.book.specs.declared.Header.{Header}
 use Rattle.book.specs.declared.Answered.{Answered}
 use Rattle.book.specs.declared.Counts.{Counts}
 use Rattle.book.specs.declared.Step.{Step}
-use Rattle.book.specs.declared.Counted.{Counted}
-use Rattle.book.specs.declared.Levelled.{Levelled}
-use Rattle.book.specs.declared.Amounted.{Amounted}
+use Rattle.book.specs.declared.CountsReply.{CountsReply}
+use Rattle.book.specs.declared.LevelReply.{LevelReply}
+use Rattle.book.specs.declared.NumberReply.{NumberReply}
 
 unfoldable pub shows : Book → Reference
 shows b =
     record {
-      terms = termsOf (b .settings);
-      status = statusOf (b .standing .state);
+      config = configOf (b .settings);
+      status = statusOf (b .lifecycle .state);
       bids = map shown (held (b .bids));
       asks = map shown (held (b .asks));
       number = b .number;
       updates = b .updates;
-      ever = b .standing .ever;
+      had-snapshot = b .lifecycle .«had_snapshot»;
     }
 
 -- ---- a book whose words are lent
@@ -49,7 +49,7 @@ bookOf bids asks h =
       settings = h .settings;
       number = h .number;
       updates = h .updates;
-      standing = h .standing;
+      lifecycle = h .lifecycle;
     }
 
 abbrev pub headerOf : Book → Header
@@ -60,7 +60,7 @@ headerOf b =
       settings = b .settings;
       number = b .number;
       updates = b .updates;
-      standing = b .standing;
+      lifecycle = b .lifecycle;
     }
 
 abbrev pub stepOf : List ℕ → List ℕ → Answered → Step
@@ -71,7 +71,7 @@ pub record Good (b : Book) : Type 0 where
   pub room : length (b .settings .name) ≡ 16
   pub short : b .settings .length ≤ 16
   -- a book that is not shut has good settings
-  pub terms : isShut (statusOf (b .standing .state)) ≡ false → good (termsOf (b .settings)) ≡ true
+  pub config : isShut (statusOf (b .lifecycle .state)) ≡ false → good (configOf (b .settings)) ≡ true
   pub bids : Sound (isM (b .settings .dialect)) Bids (b .bids)
   pub asks : Sound (isM (b .settings .dialect)) Asks (b .asks)
   pub few-bids : length (held (b .bids)) ≤ b .settings .depth
@@ -79,19 +79,19 @@ pub record Good (b : Book) : Type 0 where
   -- a sequence number has at most 19 digits
   pub small : b .number < 10 ^ 19
 
-pub record Opened (t : Terms) (b : Book) : Type 0 where
+pub record Opened (t : Config) (b : Book) : Type 0 where
   pub good : Good b
   pub same : shows b ≡ opened t
 
 -- A book after a message.
-pub record Told (a : After) (r : Step) : Type 0 where
+pub record Received (a : After) (r : Step) : Type 0 where
   pub good : Good (r .book)
   pub same : shows (r .book) ≡ a .book
   pub answer : r .answer ≡ a .answer
 
 -- ---- questions and the writer: the book is handed back as it was
 
-pub record AnswersCounts (b : Book) (scope : Scope) (r : Counted) : Type 0 where
+pub record AnswersCounts (b : Book) (scope : Scope) (r : CountsReply) : Type 0 where
   pub book : r .book ≡ b
   pub answer : (buffer : List ℕ) → r .answer ≡ does (shows b) (howMany scope) buffer .answer
   pub value : (buffer : List ℕ) → counts (r .bids) (r .asks) ≡ does (shows b) (howMany scope) buffer .value
@@ -100,19 +100,19 @@ pub record AnswersCounts (b : Book) (scope : Scope) (r : Counted) : Type 0 where
 pub record CountsAnswered (h : Header) (scope : Scope) (r : Counts) : Type 0 where
   pub of : (bids asks : List ℕ) → Good (bookOf bids asks h) → AnswersCounts (bookOf bids asks h) scope (record { book = bookOf bids asks h; answer = r .answer; bids = r .bids; asks = r .asks })
 
-pub record AnswersLevel (b : Book) (scope : Scope) (side : Side) (i : ℕ) (r : Levelled) : Type 0 where
+pub record AnswersLevel (b : Book) (scope : Scope) (side : Side) (i : ℕ) (r : LevelReply) : Type 0 where
   pub book : r .book ≡ b
   pub answer : (buffer : List ℕ) → r .answer ≡ does (shows b) (levelAt scope side i) buffer .answer
   pub value : (buffer : List ℕ) → level (record { price = number (r .price); size = number (r .size) }) ≡ does (shows b) (levelAt scope side i) buffer .value
 
-pub record AnswersAmount (b : Book) (ask : Ask) (r : Amounted) : Type 0 where
+pub record AnswersAmount (b : Book) (ask : Ask) (r : NumberReply) : Type 0 where
   pub book : r .book ≡ b
   pub answer : (buffer : List ℕ) → r .answer ≡ does (shows b) ask buffer .answer
-  pub value : (buffer : List ℕ) → amount (r .amount) ≡ does (shows b) ask buffer .value
+  pub value : (buffer : List ℕ) → amount (r .value) ≡ does (shows b) ask buffer .value
 
 -- The writer: the buffer afterwards too.
-pub record Wrote (b : Book) (before after : List ℕ) (r : Amounted) : Type 0 where
+pub record Wrote (b : Book) (before after : List ℕ) (r : NumberReply) : Type 0 where
   pub book : r .book ≡ b
   pub answer : r .answer ≡ does (shows b) write before .answer
-  pub value : amount (r .amount) ≡ does (shows b) write before .value
+  pub value : amount (r .value) ≡ does (shows b) write before .value
   pub buffer : after ≡ does (shows b) write before .buffer

@@ -5,11 +5,11 @@ use mathlib.Core.Bool.{Bool, true, false, _&&_, _||_, not, cond}
 use mathlib.Core.List.{List, map}
 use lib.Dec.{eqb, leb, ltb}
 use lib.ListN.{length}
-use Rattle.lifecycle.specs.Lifecycle.{statusOf, liveStanding, refusedStanding, judgedUpdate}
+use Rattle.lifecycle.specs.Lifecycle.{statusOf, liveLifecycle, refusedLifecycle, judgedUpdate}
 use Rattle.answer.specs.Answers.{isTaken, leavesStatus}
 use Rattle.decimal.specs.Digits.{reads}
 use Rattle.settings.specs.Settings.{isM, good}
-use Rattle.settings.specs.Kept.{termsOf}
+use Rattle.settings.specs.Kept.{configOf}
 use Rattle.settings.specs.declared.Dialect.{Dialect}
 use Rattle.level.specs.Words.{shown}
 use Rattle.level.specs.Kept.{keptIn, held}
@@ -17,30 +17,30 @@ use Rattle.level.specs.declared.Side.the-variants.{Bids, Asks}
 use Rattle.sides.specs.Worked.{SideAfter, editsAt, Worked}
 use Rattle.level.specs.declared.Levels.{Levels}
 use Rattle.layout.specs.Layout.{Layout}
-use Rattle.layout.specs.Told.{outlineOf}
+use Rattle.layout.specs.Scan.{outlineOf}
 use Rattle.layout.specs.declared.Outline.{Outline}
 use Rattle.message.specs.Meaning.{passes, checked}
 use Rattle.answer.specs.declared.Answer.{Answer}
 use Rattle.answer.specs.declared.Answer.the-variants.{Taken, PriceTwice, NoSnapshot, OldNumber, TooManyLevels, WrongChecksum}
 use Rattle.message.specs.declared.Verdict.{Verdict}
 use Rattle.message.specs.declared.Verdict.the-variants.{Fails, Passes}
-use Rattle.reference.specs.Reference.{maxLevels, isShut, isLive, checksumOf, oneMore, hear}
-use Rattle.book.specs.Shown.{shows, bookOf, stepOf, Good, Told}
+use Rattle.reference.specs.Reference.{maxLevels, isShut, isLive, checksumOf, oneMore, receive}
+use Rattle.book.specs.Shown.{shows, bookOf, stepOf, Good, Received}
 use Rattle.lifecycle.specs.declared.State.{State}
 use Rattle.lifecycle.specs.declared.State.the-variants.{Waiting, Live}
 use Rattle.book.specs.declared.Book.{Book}
 use Rattle.book.specs.declared.Header.{Header}
-use Rattle.lifecycle.specs.declared.Standing.{Standing}
+use Rattle.lifecycle.specs.declared.Lifecycle.{Lifecycle}
 use Rattle.book.specs.declared.Answered.{Answered}
 use Rattle.book.specs.declared.Step.{Step}
 
 -- A message that passes checks 2 to 8, with its layout in numbers.
 pub record Passed (b : Book) (s : List ℕ) (o : Outline) : Type 0 where
   pub good : Good b
-  pub unshut : isShut (statusOf (b .standing .state)) ≡ false
+  pub unshut : isShut (statusOf (b .lifecycle .state)) ≡ false
   pub layout : Layout
-  pub fair : checked (termsOf (b .settings)) s ≡ passes layout
-  pub told : o ≡ outlineOf s (reads layout)
+  pub checked-as : checked (configOf (b .settings)) s ≡ passes layout
+  pub outlined : o ≡ outlineOf s (reads layout)
 
 abbrev pub refusedHeader : Header → Answer → Header
 refusedHeader h a =
@@ -50,13 +50,13 @@ refusedHeader h a =
       settings = h .settings;
       number = h .number;
       updates = h .updates;
-      standing = refusedStanding (h .standing) a;
+      lifecycle = refusedLifecycle (h .lifecycle) a;
     }
 
 unfoldable pub refusedStep : Book → Answer → Step
 refusedStep b a =
     record {
-      book = record { bids = b .bids; asks = b .asks; settings = b .settings; number = b .number; updates = b .updates; standing = refusedStanding (b .standing) a };
+      book = record { bids = b .bids; asks = b .asks; settings = b .settings; number = b .number; updates = b .updates; lifecycle = refusedLifecycle (b .lifecycle) a };
       answer = a;
     }
 
@@ -64,7 +64,7 @@ refusedStep b a =
 unfoldable pub keptStep : Book → Outline → Levels → Levels → Step
 keptStep b o bids asks =
     record {
-      book = record { bids = bids; asks = asks; settings = b .settings; number = o .number; updates = cond (o .snapshot) 0 (oneMore (b .updates)); standing = liveStanding (b .standing) (o .snapshot) };
+      book = record { bids = bids; asks = asks; settings = b .settings; number = o .number; updates = cond (o .snapshot) 0 (oneMore (b .updates)); lifecycle = liveLifecycle (b .lifecycle) (o .snapshot) };
       answer = Taken;
     }
 
@@ -77,51 +77,51 @@ takenHeader h o bids asks =
       settings = h .settings;
       number = o .number;
       updates = cond (o .snapshot) 0 (oneMore (h .updates));
-      standing = liveStanding (h .standing) (o .snapshot);
+      lifecycle = liveLifecycle (h .lifecycle) (o .snapshot);
     }
 
 -- What checks 1 to 8, 10 and 11 find.
 unfoldable pub Judged : Book → List ℕ → Verdict → Type 0
-Judged b s (Fails a) = Told (hear (shows b) s) (refusedStep b a)
-Judged b s (Passes o) = Passed b s o × (judgedUpdate (b .standing .state) (isM (b .settings .dialect)) (b .number) o ≡ Passes o)
+Judged b s (Fails a) = Received (receive (shows b) s) (refusedStep b a)
+Judged b s (Passes o) = Passed b s o × (judgedUpdate (b .lifecycle .state) (isM (b .settings .dialect)) (b .number) o ≡ Passes o)
 
 -- What a message may be read with: of a book that is not shut the settings are good.
 pub record Ruled (h : Header) : Type 0 where
   pub room : length (h .settings .name) ≡ 16
   pub short : h .settings .length ≤ 16
-  pub terms : isShut (statusOf (h .standing .state)) ≡ false → good (termsOf (h .settings)) ≡ true
+  pub config : isShut (statusOf (h .lifecycle .state)) ≡ false → good (configOf (h .settings)) ≡ true
 
 -- What the same checks find of a header, whatever the words of the sides are.
 pub record JudgedWith (h : Header) (s : List ℕ) (v : Verdict) : Type 0 where
   pub of : (bids asks : List ℕ) → Good (bookOf bids asks h) → Judged (bookOf bids asks h) s v
 
 -- A side before the entries: the book's own, and with no level before those of a snapshot.
-abbrev pub before : Outline → Levels → Levels
-before o kept = keptIn (kept .words) (cond (o .snapshot) 0 (kept .count))
+abbrev pub sideBefore : Outline → Levels → Levels
+sideBefore o kept = keptIn (kept .words) (cond (o .snapshot) 0 (kept .count))
 
 -- What the entries of a message make of the sides of a book.
 pub record SidesAfter (b : Book) (s : List ℕ) (o : Outline) (bids asks : SideAfter) : Type 0 where
-  pub bids-worked : Worked (isM (b .settings .dialect)) Bids (b .settings .depth) (editsAt (isM (b .settings .dialect)) s (o .«bids_at») (o .bids)) (before o (b .bids)) bids
-  pub asks-worked : Worked (isM (b .settings .dialect)) Asks (b .settings .depth) (editsAt (isM (b .settings .dialect)) s (o .«asks_at») (o .asks)) (before o (b .asks)) asks
+  pub bids-worked : Worked (isM (b .settings .dialect)) Bids (b .settings .depth) (editsAt (isM (b .settings .dialect)) s (o .«bids_at») (o .bids)) (sideBefore o (b .bids)) bids
+  pub asks-worked : Worked (isM (b .settings .dialect)) Asks (b .settings .depth) (editsAt (isM (b .settings .dialect)) s (o .«asks_at») (o .asks)) (sideBefore o (b .asks)) asks
   pub bids-stay : o .bids ≡ 0 → bids .levels .words ≡ b .bids .words
   pub asks-stay : o .asks ≡ 0 → asks .levels .words ≡ b .asks .words
 
 -- Checks 9, 12 and 13.
 unfoldable pub weighed : Outline → Dialect → Bool → Bool → Levels → Levels → Answer
-weighed o d met over bids asks =
-    cond (o .snapshot && met) PriceTwice
+weighed o d replaced over bids asks =
+    cond (o .snapshot && replaced) PriceTwice
     (cond (not (o .snapshot) && (isM d && over)) TooManyLevels
     (cond (o .printed && not (eqb (o .checksum) (checksumOf d (map shown (held bids)) (map shown (held asks))))) WrongChecksum Taken))
 
 -- .. of what the entries made of the sides.
 abbrev pub weighedSides : Outline → Dialect → SideAfter → SideAfter → Answer
 weighedSides o d bids asks =
-    weighed o d (bids .met || asks .met) (ltb maxLevels (bids .count) || ltb maxLevels (asks .count)) (bids .levels) (asks .levels)
+    weighed o d (bids .replaced || asks .replaced) (ltb maxLevels (bids .count) || ltb maxLevels (asks .count)) (bids .levels) (asks .levels)
 
 -- A message that passes the checks of its text is tried: where it is taken, the words are those of the book after it; where it is refused, those of the
 -- book before it are to be put back. A side without entries keeps its words.
 pub record Tried (b : Book) (s : List ℕ) (o : Outline) (bids asks : List ℕ) (r : Answered) : Type 0 where
-  pub taken : isTaken (r .answer) ≡ true → Told (hear (shows b) s) (stepOf bids asks r)
-  pub refused : isTaken (r .answer) ≡ false → Told (hear (shows b) s) (stepOf (b .bids .words) (b .asks .words) r)
+  pub taken : isTaken (r .answer) ≡ true → Received (receive (shows b) s) (stepOf bids asks r)
+  pub refused : isTaken (r .answer) ≡ false → Received (receive (shows b) s) (stepOf (b .bids .words) (b .asks .words) r)
   pub bids-stay : o .bids ≡ 0 → bids ≡ b .bids .words
   pub asks-stay : o .asks ≡ 0 → asks ≡ b .asks .words

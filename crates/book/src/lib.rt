@@ -16,11 +16,11 @@ mod writing;
 use answer::Answer;
 use decimal::Decimal;
 use decimal::Written;
-use level::Found;
 use level::Levels;
 use level::MAX_WORDS;
+use level::MaybeLevel;
 use level::Side;
-use lifecycle::Standing;
+use lifecycle::Lifecycle;
 use lifecycle::first_state;
 use lifecycle::refusal;
 use lifecycle::stands;
@@ -30,8 +30,8 @@ use settings::Settings;
 ghost use mathlib.Core.Path.{_≡_};
 ghost use Rattle.lifecycle.specs.Lifecycle.{statusOf, firstState, answers, refusalOf};
 ghost use Rattle.crc32.specs.Table.{ShiftTable};
-ghost use Rattle.reference.specs.Reference.{hear, whichNumber, howManyUpdates};
-ghost use Rattle.book.specs.Shown.{shows, bookOf, headerOf, stepOf, Good, Opened, Told, CountsAnswered, AnswersCounts, AnswersLevel, AnswersAmount, Wrote};
+ghost use Rattle.reference.specs.Reference.{receive, whichNumber, howManyUpdates};
+ghost use Rattle.book.specs.Shown.{shows, bookOf, headerOf, stepOf, Good, Opened, Received, CountsAnswered, AnswersCounts, AnswersLevel, AnswersAmount, Wrote};
 ghost use Rattle.book.specs.Asking.{levelIn};
 
 pub struct Book {
@@ -42,7 +42,7 @@ pub struct Book {
     number: u64,
     // How many updates were taken since the last snapshot.
     updates: u64,
-    standing: Standing,
+    lifecycle: Lifecycle,
 }
 
 // A book but for the words of its sides.
@@ -53,7 +53,7 @@ pub struct Header {
     settings: Settings,
     number: u64,
     updates: u64,
-    standing: Standing,
+    lifecycle: Lifecycle,
 }
 
 // The answer to a message, where the words of the sides are lent.
@@ -76,7 +76,7 @@ pub struct Step {
 }
 
 // How many bids and asks there are.
-pub struct Counted {
+pub struct CountsReply {
     pub book: Book,
     pub answer: Answer,
     pub bids: usize,
@@ -84,7 +84,7 @@ pub struct Counted {
 }
 
 // A level of a side.
-pub struct Levelled {
+pub struct LevelReply {
     pub book: Book,
     pub answer: Answer,
     pub price: Decimal,
@@ -92,10 +92,10 @@ pub struct Levelled {
 }
 
 // A sequence number, a count of updates, or a length.
-pub struct Amounted {
+pub struct NumberReply {
     pub book: Book,
     pub answer: Answer,
-    pub amount: u64,
+    pub value: u64,
 }
 
 // A book with these settings: waiting, or shut where they are bad.
@@ -111,9 +111,9 @@ pub fn open(dialect: Dialect, depth: usize, name: &[u8]) -> Book
         settings,
         number: 0,
         updates: 0,
-        standing: Standing {
+        lifecycle: Lifecycle {
             state: first_state(dialect),
-            ever: false,
+            had_snapshot: false,
         },
     }
 }
@@ -123,7 +123,7 @@ pub fn join(bids: [u64; MAX_WORDS], asks: [u64; MAX_WORDS], header: Header) -> B
     ensures { λ r. ⌜ r ≡ bookOf bids asks header ⌝ }
 {
     let settings = header.settings;
-    let standing = header.standing;
+    let lifecycle = header.lifecycle;
     Book {
         bids: Levels {
             words: bids,
@@ -136,7 +136,7 @@ pub fn join(bids: [u64; MAX_WORDS], asks: [u64; MAX_WORDS], header: Header) -> B
         settings,
         number: header.number,
         updates: header.updates,
-        standing,
+        lifecycle,
     }
 }
 
@@ -151,17 +151,17 @@ impl Header {
         table: &[u32],
     ) -> Answered
         requires { ⌜ Good (bookOf (now bids) (now asks) self) × ShiftTable (now table) ⌝ }
-        ensures { λ r. ⌜ Told (hear (shows (bookOf (now (bids .entry)) (now (asks .entry)) self)) (now (s .entry))) (stepOf (now (bids .exit)) (now (asks .exit)) r) ⌝ }
+        ensures { λ r. ⌜ Received (receive (shows (bookOf (now (bids .entry)) (now (asks .entry)) self)) (now (s .entry))) (stepOf (now (bids .exit)) (now (asks .exit)) r) ⌝ }
     {
-        taking::hear(self, bids, asks, s, table)
+        taking::receive(self, bids, asks, s, table)
     }
 
     // How many bids and asks there are.
     pub fn counts(self, scope: Scope) -> Counts
         ensures { λ r. ⌜ CountsAnswered self scope r ⌝ }
     {
-        let standing = self.standing;
-        if stands(standing, scope) {
+        let lifecycle = self.lifecycle;
+        if stands(lifecycle, scope) {
             return Counts {
                 answer: Answer::Taken,
                 bids: self.bids,
@@ -169,7 +169,7 @@ impl Header {
             };
         }
         Counts {
-            answer: refusal(standing),
+            answer: refusal(lifecycle),
             bids: 0,
             asks: 0,
         }
@@ -182,21 +182,21 @@ impl Book {
         ensures { λ r. ⌜ r ≡ headerOf self ⌝ }
     {
         let settings = self.settings;
-        let standing = self.standing;
+        let lifecycle = self.lifecycle;
         Header {
             bids: self.bids.count,
             asks: self.asks.count,
             settings,
             number: self.number,
             updates: self.updates,
-            standing,
+            lifecycle,
         }
     }
 
     // The book after a message.
     pub fn take(self, s: &[u8]) -> Step
         requires { ⌜ Good self ⌝ }
-        ensures { λ r. ⌜ Told (hear (shows self) (now (s .entry))) r ⌝ }
+        ensures { λ r. ⌜ Received (receive (shows self) (now (s .entry))) r ⌝ }
     {
         let mut bids = self.bids.words;
         let mut asks = self.asks.words;
@@ -211,13 +211,13 @@ impl Book {
     }
 
     // How many bids and asks there are.
-    pub fn counts(self, scope: Scope) -> Counted
+    pub fn counts(self, scope: Scope) -> CountsReply
         requires { ⌜ Good self ⌝ }
         ensures { λ r. ⌜ AnswersCounts self scope r ⌝ }
     {
         let counts = self.header().counts(scope);
         let answer = counts.answer;
-        Counted {
+        CountsReply {
             book: self,
             answer,
             bids: counts.bids,
@@ -226,78 +226,78 @@ impl Book {
     }
 
     // Level i of a side, counted from 0 as best.
-    pub fn level(self, scope: Scope, side: Side, i: usize) -> Levelled
+    pub fn level(self, scope: Scope, side: Side, i: usize) -> LevelReply
         requires { ⌜ Good self ⌝ }
         ensures { λ r. ⌜ AnswersLevel self scope side i r ⌝ }
     {
-        let standing = self.standing;
-        if stands(standing, scope) {
+        let lifecycle = self.lifecycle;
+        if stands(lifecycle, scope) {
             return match level_in(self, side, i) {
-                Found::At(level) => Levelled {
+                MaybeLevel::At(level) => LevelReply {
                     book: self,
                     answer: Answer::Taken,
                     price: level::price_of(level),
                     size: level::size_of(level),
                 },
-                Found::Nothing => no_level(self, Answer::NoLevel),
+                MaybeLevel::Nothing => no_level(self, Answer::NoLevel),
             };
         }
-        no_level(self, refusal(standing))
+        no_level(self, refusal(lifecycle))
     }
 
     // The sequence number.
-    pub fn number(self, scope: Scope) -> Amounted
+    pub fn number(self, scope: Scope) -> NumberReply
         requires { ⌜ Good self ⌝ }
         ensures { λ r. ⌜ AnswersAmount self (whichNumber scope) r ⌝ }
     {
-        let standing = self.standing;
-        if stands(standing, scope) {
-            return Amounted {
+        let lifecycle = self.lifecycle;
+        if stands(lifecycle, scope) {
+            return NumberReply {
                 book: self,
                 answer: Answer::Taken,
-                amount: self.number,
+                value: self.number,
             };
         }
-        no_amount(self, refusal(standing))
+        no_value(self, refusal(lifecycle))
     }
 
     // How many updates were taken since the last snapshot.
-    pub fn updates(self, scope: Scope) -> Amounted
+    pub fn updates(self, scope: Scope) -> NumberReply
         requires { ⌜ Good self ⌝ }
         ensures { λ r. ⌜ AnswersAmount self (howManyUpdates scope) r ⌝ }
     {
-        let standing = self.standing;
-        if stands(standing, scope) {
-            return Amounted {
+        let lifecycle = self.lifecycle;
+        if stands(lifecycle, scope) {
+            return NumberReply {
                 book: self,
                 answer: Answer::Taken,
-                amount: self.updates,
+                value: self.updates,
             };
         }
-        no_amount(self, refusal(standing))
+        no_value(self, refusal(lifecycle))
     }
 
     // Writes the book as a snapshot at the start of the buffer; answers its length.
-    pub fn write(self, buffer: &mut [u8]) -> Amounted
+    pub fn write(self, buffer: &mut [u8]) -> NumberReply
         requires { ⌜ Good self ⌝ }
         ensures { λ r. ⌜ Wrote self (now (buffer .entry)) (now (buffer .exit)) r ⌝ }
     {
-        let standing = self.standing;
-        if stands(standing, Scope::Current) {
+        let lifecycle = self.lifecycle;
+        if stands(lifecycle, Scope::Current) {
             return match writing::lay(self, buffer) {
-                Written::To(n) => Amounted {
+                Written::To(n) => NumberReply {
                     book: self,
                     answer: Answer::Taken,
-                    amount: n as u64,
+                    value: n as u64,
                 },
-                Written::Full => no_amount(self, Answer::NoRoom),
+                Written::Full => no_value(self, Answer::NoRoom),
             };
         }
-        no_amount(self, refusal(standing))
+        no_value(self, refusal(lifecycle))
     }
 }
 
-fn level_in(book: Book, side: Side, i: usize) -> Found
+fn level_in(book: Book, side: Side, i: usize) -> MaybeLevel
     requires { ⌜ Good book ⌝ }
     ensures { λ r. ⌜ r ≡ levelIn book side i ⌝ }
 {
@@ -309,10 +309,10 @@ fn level_in(book: Book, side: Side, i: usize) -> Found
     }
 }
 
-fn no_level(book: Book, answer: Answer) -> Levelled
+fn no_level(book: Book, answer: Answer) -> LevelReply
     ensures { λ r. ⌜ r ≡ record { book = book; answer = answer; price = record { digits = 0; decimals = 0 }; size = record { digits = 0; decimals = 0 } } ⌝ }
 {
-    Levelled {
+    LevelReply {
         book,
         answer,
         price: Decimal {
@@ -326,12 +326,12 @@ fn no_level(book: Book, answer: Answer) -> Levelled
     }
 }
 
-fn no_amount(book: Book, answer: Answer) -> Amounted
-    ensures { λ r. ⌜ r ≡ record { book = book; answer = answer; amount = 0 } ⌝ }
+fn no_value(book: Book, answer: Answer) -> NumberReply
+    ensures { λ r. ⌜ r ≡ record { book = book; answer = answer; value = 0 } ⌝ }
 {
-    Amounted {
+    NumberReply {
         book,
         answer,
-        amount: 0,
+        value: 0,
     }
 }

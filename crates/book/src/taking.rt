@@ -3,15 +3,15 @@ ghost use mathlib.Core.Path.{_≡_};
 ghost use mathlib.Core.Bool.{_&&_, _||_, not, cond};
 ghost use mathlib.Core.List.{map};
 ghost use lib.Dec.{leb};
-ghost use Rattle.lifecycle.specs.Lifecycle.{statusOf, judgedUpdate, liveStanding, refusedStanding};
+ghost use Rattle.lifecycle.specs.Lifecycle.{statusOf, judgedUpdate, liveLifecycle, refusedLifecycle};
 ghost use Rattle.crc32.specs.Table.{ShiftTable};
 ghost use Rattle.level.specs.Words.{shown};
 ghost use Rattle.level.specs.Kept.{keptIn, held};
 ghost use Rattle.level.specs.declared.Side.the-variants.{Bids, Asks};
 ghost use Rattle.settings.specs.Settings.{isM};
 ghost use Rattle.sides.specs.Worked.{Sound, sideAfter};
-ghost use Rattle.reference.specs.Reference.{isShut, checksumOf, hear, oneMore};
-ghost use Rattle.book.specs.Shown.{shows, bookOf, stepOf, Good, Told};
+ghost use Rattle.reference.specs.Reference.{isShut, checksumOf, receive, oneMore};
+ghost use Rattle.book.specs.Shown.{shows, bookOf, stepOf, Good, Received};
 ghost use Rattle.message.specs.declared.Verdict.the-variants.{Passes};
 ghost use Rattle.book.specs.Taking.{Passed, SidesAfter, Tried, Ruled, Judged, JudgedWith, weighedSides, takenHeader, refusedHeader};
 use crate::Answered;
@@ -39,7 +39,7 @@ use text::either;
 const MAX_LEVELS: usize = 100;
 
 // The book after a message, in the words of its sides that are lent. A refusal gives the words back as they were.
-pub fn hear(
+pub fn receive(
     header: Header,
     bids: &mut [u64; MAX_WORDS],
     asks: &mut [u64; MAX_WORDS],
@@ -47,7 +47,7 @@ pub fn hear(
     table: &[u32],
 ) -> Answered
     requires { ⌜ Good (bookOf (now bids) (now asks) header) × ShiftTable (now table) ⌝ }
-    ensures { λ r. ⌜ Told (hear (shows (bookOf (now (bids .entry)) (now (asks .entry)) header)) (now (s .entry))) (stepOf (now (bids .exit)) (now (asks .exit)) r) ⌝ }
+    ensures { λ r. ⌜ Received (receive (shows (bookOf (now (bids .entry)) (now (asks .entry)) header)) (now (s .entry))) (stepOf (now (bids .exit)) (now (asks .exit)) r) ⌝ }
 {
     match judge(header, s) {
         Verdict::Fails(refusal) => Answered {
@@ -76,7 +76,7 @@ fn take_asks(
     table: &[u32],
 ) -> Answered
     requires { ⌜ Judged (bookOf (now bids) (now asks) header) (now s) (Passes outline) × ShiftTable (now table) × (outline .bids ≡ 0) ⌝ }
-    ensures { λ r. ⌜ Told (hear (shows (bookOf (now (bids .entry)) (now (asks .entry)) header)) (now (s .entry))) (stepOf (now (bids .exit)) (now (asks .exit)) r) ⌝ }
+    ensures { λ r. ⌜ Received (receive (shows (bookOf (now (bids .entry)) (now (asks .entry)) header)) (now (s .entry))) (stepOf (now (bids .exit)) (now (asks .exit)) r) ⌝ }
 {
     let last = *asks;
     let answered = try_entries(header, outline, bids, asks, s, table);
@@ -98,7 +98,7 @@ fn take_bids(
     table: &[u32],
 ) -> Answered
     requires { ⌜ Judged (bookOf (now bids) (now asks) header) (now s) (Passes outline) × ShiftTable (now table) × (outline .asks ≡ 0) ⌝ }
-    ensures { λ r. ⌜ Told (hear (shows (bookOf (now (bids .entry)) (now (asks .entry)) header)) (now (s .entry))) (stepOf (now (bids .exit)) (now (asks .exit)) r) ⌝ }
+    ensures { λ r. ⌜ Received (receive (shows (bookOf (now (bids .entry)) (now (asks .entry)) header)) (now (s .entry))) (stepOf (now (bids .exit)) (now (asks .exit)) r) ⌝ }
 {
     let last = *bids;
     let answered = try_entries(header, outline, bids, asks, s, table);
@@ -120,7 +120,7 @@ fn take_both(
     table: &[u32],
 ) -> Answered
     requires { ⌜ Judged (bookOf (now bids) (now asks) header) (now s) (Passes outline) × ShiftTable (now table) ⌝ }
-    ensures { λ r. ⌜ Told (hear (shows (bookOf (now (bids .entry)) (now (asks .entry)) header)) (now (s .entry))) (stepOf (now (bids .exit)) (now (asks .exit)) r) ⌝ }
+    ensures { λ r. ⌜ Received (receive (shows (bookOf (now (bids .entry)) (now (asks .entry)) header)) (now (s .entry))) (stepOf (now (bids .exit)) (now (asks .exit)) r) ⌝ }
 {
     let last_bids = *bids;
     let last_asks = *asks;
@@ -219,14 +219,14 @@ fn renew(header: Header, outline: Outline, bids: usize, asks: usize) -> Header
     ensures { λ r. ⌜ r ≡ takenHeader header outline bids asks ⌝ }
 {
     let settings = header.settings;
-    let standing = header.standing;
+    let lifecycle = header.lifecycle;
     Header {
         bids,
         asks,
         settings,
         number: outline.number,
         updates: updates_after(outline.snapshot, header.updates),
-        standing: live(standing, outline.snapshot),
+        lifecycle: live(lifecycle, outline.snapshot),
     }
 }
 
@@ -235,8 +235,8 @@ fn refuse(header: Header, answer: Answer) -> Header
     ensures { λ r. ⌜ r ≡ refusedHeader header answer ⌝ }
 {
     let mut after = header;
-    let standing = header.standing;
-    after.standing = refused(standing, answer);
+    let lifecycle = header.lifecycle;
+    after.lifecycle = refused(lifecycle, answer);
     after
 }
 
@@ -245,8 +245,8 @@ fn judge(header: Header, s: &[u8]) -> Verdict
     requires { ⌜ Ruled header ⌝ }
     ensures { λ r. ⌜ JudgedWith header (now (s .entry)) r ⌝ }
 {
-    let standing = header.standing;
-    let state = standing.state;
+    let lifecycle = header.lifecycle;
+    let state = lifecycle.state;
     if is_shut(state) {
         return Verdict::Fails(Answer::Shut);
     }
@@ -274,7 +274,10 @@ fn weigh<'a>(
     requires { ⌜ Sound (isM dialect) Bids (keptIn (now bids) («bid_side» .left)) × Sound (isM dialect) Asks (keptIn (now asks) («ask_side» .left)) × ShiftTable (now table) ⌝ }
     ensures { λ r. ⌜ r ≡ weighedSides outline dialect (sideAfter (now (bids .entry)) «bid_side») (sideAfter (now (asks .entry)) «ask_side») ⌝ }
 {
-    if both(outline.snapshot, either(bid_side.met, ask_side.met)) {
+    if both(
+        outline.snapshot,
+        either(bid_side.replaced, ask_side.replaced),
+    ) {
         return Answer::PriceTwice;
     }
     let over = either(MAX_LEVELS < bid_side.count, MAX_LEVELS < ask_side.count);

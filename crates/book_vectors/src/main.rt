@@ -193,29 +193,29 @@ fn tell_counts(book: Book, scope: Scope)
 fn tell_number(book: Book, scope: Scope)
     requires { ⌜ Good book ⌝ }
 {
-    let told = book.number(scope);
-    let answer = told.answer;
+    let reply = book.number(scope);
+    let answer = reply.answer;
     tell_answer(answer);
-    say(told.amount);
+    say(reply.value);
 }
 
 fn tell_updates(book: Book, scope: Scope)
     requires { ⌜ Good book ⌝ }
 {
-    let told = book.updates(scope);
-    let answer = told.answer;
+    let reply = book.updates(scope);
+    let answer = reply.answer;
     tell_answer(answer);
-    say(told.amount);
+    say(reply.value);
 }
 
 fn tell_level(book: Book, scope: Scope, side: Side, i: usize)
     requires { ⌜ Good book ⌝ }
 {
-    let told = book.level(scope, side, i);
-    let answer = told.answer;
+    let reply = book.level(scope, side, i);
+    let answer = reply.answer;
     tell_answer(answer);
-    let price = told.price;
-    let size = told.size;
+    let price = reply.price;
+    let size = reply.size;
     tell_decimal(price);
     write(b" ");
     tell_decimal(size);
@@ -253,10 +253,10 @@ fn tell_written(book: Book, n: usize)
 fn tell_room(book: Book, room: &mut [u8])
     requires { ⌜ Good book ⌝ }
 {
-    let told = book.write(room);
-    let answer = told.answer;
+    let reply = book.write(room);
+    let answer = reply.answer;
     tell_answer(answer);
-    say(told.amount);
+    say(reply.value);
     write(b" ");
     write(room);
 }
@@ -267,10 +267,10 @@ fn back(book: Book, line: &[u8]) -> Book
     ensures { λ r. ⌜ Good r ⌝ }
 {
     let mut room = dots();
-    let told = book.write(&mut room);
-    let answer = told.answer;
+    let reply = book.write(&mut room);
+    let answer = reply.answer;
     say(number_of(answer));
-    let n = told.amount as usize;
+    let n = reply.value as usize;
     if n < 1 {
         return book;
     }

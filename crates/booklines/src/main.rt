@@ -115,13 +115,13 @@ fn reply(opened: Book, s: &[u8], from: usize, output: &mut [u8], table: &[u32]) 
     let mut turns = u64::MAX;
     while turns > 0 {
         turns -= 1;
-        let heard = feed::hear_lines(book, &s[next..], table, output);
-        let written = heard.written;
+        let processed = feed::process_lines(book, &s[next..], table, output);
+        let written = processed.written;
         if written == 0 {
             break;
         }
-        book = heard.book;
-        next += heard.next;
+        book = processed.book;
+        next += processed.next;
         io::write_all(STDOUT_FILENO, &output[..written]);
     }
     Served {

@@ -25,7 +25,7 @@ use Rattle.level.specs.Kept.{maxLevels, maxWords}
 use Rattle.level.proofs.Stored.{length-levels}
 use Rattle.level.specs.declared.Level.{Level}
 use Rattle.text.specs.Text.{joined, colon}
-use Rattle.checksum.specs.Text.{kLevel, kText, kLevels, kChecksum, mLevel, interleaved, colonJoined, mText, mLevels, mChecksum}
+use Rattle.checksum.specs.Text.{kLevel, kChecksumText, kLevels, kChecksum, mLevel, interleaved, colonJoined, mChecksumText, mLevels, mChecksum}
 use Rattle.checksum.specs.Carried.{Carries, Made, MadeOf, summed}
 
 -- ---- a level that was made carries its piece
@@ -288,7 +288,7 @@ take-min {A} (suc n) (suc m) (x ∷ xs) = ap (λ (k : ℕ). take k (x ∷ xs)) m
 
 pub k-summed : (bids asks : List Level) → All (Carries kPiece) bids → All (Carries kPiece) asks →
     finish (summed (summed start (take kLevels asks)) (take kLevels bids)) ≡ kChecksum (map shown bids) (map shown asks)
-unfolding kChecksum kText kLevel kPiece crc
+unfolding kChecksum kChecksumText kLevel kPiece crc
 k-summed bids asks hb ha =
     ap finish
     (sym (summed-append (take kLevels asks) (take kLevels bids) start)
@@ -319,12 +319,12 @@ m-run [] h = absurd (not-suc-le-zero h)
 m-run (l ∷ ls) h = ap (run beforeColon) (colons l ls) ∙ ap (λ (s : ℕ). run s (colonJoined (map mLevel (l ∷ ls)))) to-start
 
 pub m-empty : mChecksum [] [] ≡ 0
-unfolding mChecksum mText colonJoined crc run
+unfolding mChecksum mChecksumText colonJoined crc run
 m-empty = ap (λ (l : List PriceLevel). crc (colonJoined (map mLevel l))) (none-left mLevels)
 
 pub m-summed : (bids asks : List Level) → 0 < length (interleaved mLevels bids asks) → All (Carries mPiece) bids → All (Carries mPiece) asks →
     finish (summed beforeColon (interleaved mLevels bids asks)) ≡ mChecksum (map shown bids) (map shown asks)
-unfolding mChecksum mText crc
+unfolding mChecksum mChecksumText crc
 m-summed bids asks some hb ha =
     ap finish
     (summed-run mPiece (interleaved mLevels bids asks) beforeColon (all-interleaved (Carries mPiece) mLevels bids asks hb ha)

@@ -11,7 +11,7 @@ use Rattle.decimal.specs.declared.Order.the-variants.{Equal}
 use Rattle.crc32_spec.specs.Crc.{bit, bits, step, run, crc}
 use Rattle.level.specs.Level.{PriceLevel}
 use Rattle.level.specs.Ranked.{All}
-use Rattle.checksum.specs.Text.{kLevel, kText, interleaved, colonJoined, mLevel, mText}
+use Rattle.checksum.specs.Text.{kLevel, kChecksumText, interleaved, colonJoined, mLevel, mChecksumText}
 
 -- A decimal and a level from their texts.
 unfoldable pub decimal : String → Number
@@ -36,8 +36,8 @@ Holds (is s digits decimals) = read (ascii s) ≡ reads (record { digits = digit
 Holds (passes s) = read (ascii s) ≡ reads (decimal s)
 Holds (refuses s) = read (ascii s) ≡ refused
 Holds (one-price s t) = order (decimal s) (decimal t) ≡ Equal
-Holds (k-text ask s) = kText 10 [] (ask ∷ []) ≡ ascii s
-Holds (m-text bids asks s) = mText 100 bids asks ≡ ascii s
+Holds (k-text ask s) = kChecksumText 10 [] (ask ∷ []) ≡ ascii s
+Holds (m-text bids asks s) = mChecksumText 100 bids asks ≡ ascii s
 Holds (sums-to s n) = crc (ascii s) ≡ n
 
 unfoldable pub table : List Case
@@ -59,5 +59,5 @@ table =
 
 pub checked-by-hand : All Holds table
 unfolding table All decimal level read prefix isWhole pointed fractional leading isDigit valueFrom text afterPoint fixed written significant significantIn
-    withoutPoint withoutZeros stripped value orderOf order joined kLevel kText interleaved colonJoined mLevel mText bit bits step run crc
+    withoutPoint withoutZeros stripped value orderOf order joined kLevel kChecksumText interleaved colonJoined mLevel mChecksumText bit bits step run crc
 checked-by-hand = (refl, (refl, (refl, (refl, (refl, (refl, (refl, (refl, (refl, (refl, (refl, (refl, (refl, tt)))))))))))))

@@ -18,11 +18,11 @@ kLevels = 10
 unfoldable pub kLevel : PriceLevel → List ℕ
 kLevel level = stripped (level .price) ++ stripped (level .size)
 
-unfoldable pub kText : ℕ → List PriceLevel → List PriceLevel → List ℕ
-kText n bids asks = joined (map kLevel (take n asks ++ take n bids))
+unfoldable pub kChecksumText : ℕ → List PriceLevel → List PriceLevel → List ℕ
+kChecksumText n bids asks = joined (map kLevel (take n asks ++ take n bids))
 
 unfoldable pub kChecksum : List PriceLevel → List PriceLevel → ℕ
-kChecksum bids asks = crc (kText kLevels bids asks)
+kChecksum bids asks = crc (kChecksumText kLevels bids asks)
 
 -- ---- M: first bid, first ask, second bid, second ask and on; a missing level is skipped. Joined by colons with none at the end.
 
@@ -43,8 +43,8 @@ colonJoined [] = []
 colonJoined (t ∷ []) = t
 colonJoined (t ∷ (u ∷ ts)) = t ++ (colon ∷ colonJoined (u ∷ ts))
 
-unfoldable pub mText : ℕ → List PriceLevel → List PriceLevel → List ℕ
-mText n bids asks = colonJoined (map mLevel (interleaved n bids asks))
+unfoldable pub mChecksumText : ℕ → List PriceLevel → List PriceLevel → List ℕ
+mChecksumText n bids asks = colonJoined (map mLevel (interleaved n bids asks))
 
 unfoldable pub mChecksum : List PriceLevel → List PriceLevel → ℕ
-mChecksum bids asks = crc (mText mLevels bids asks)
+mChecksum bids asks = crc (mChecksumText mLevels bids asks)

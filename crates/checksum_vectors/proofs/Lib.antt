@@ -1,2 +1,2 @@
 -- Laws of what the program keeps true.
-pub mod Fine
+pub mod Valid

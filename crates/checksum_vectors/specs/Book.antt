@@ -16,8 +16,8 @@ use Rattle.level.specs.declared.Side.{Side}
 use Rattle.level.specs.declared.Side.the-variants.{Bids, Asks}
 use Rattle.level.specs.declared.Level.{Level}
 use Rattle.level.specs.declared.Levels.{Levels}
-use Rattle.level.specs.declared.Found.{Found}
-use Rattle.level.specs.declared.Found.the-variants.{At, Nothing}
+use Rattle.level.specs.declared.MaybeLevel.{MaybeLevel}
+use Rattle.level.specs.declared.MaybeLevel.the-variants.{At, Nothing}
 use Rattle.checksum.specs.Carried.{Carries}
 use Rattle.checksum_vectors.specs.declared.Book.{Book}
 
@@ -25,29 +25,29 @@ abbrev pub pieceFor : Bool → Number → Number → List ℕ
 pieceFor true = mPiece
 pieceFor false = kPiece
 
-pub record FineSide (m : Bool) (side : Side) (levels : Levels) : Type 0 where
+pub record ValidSide (m : Bool) (side : Side) (levels : Levels) : Type 0 where
   pub good : Good side levels
   pub carried : All (Carries (pieceFor m)) (held levels)
 
-pub record Fine (b : Book) : Type 0 where
+pub record Valid (b : Book) : Type 0 where
   pub shallow : b .depth ≤ 100
-  pub bids : FineSide (b .m) Bids (b .bids)
-  pub asks : FineSide (b .m) Asks (b .asks)
+  pub bids : ValidSide (b .m) Bids (b .bids)
+  pub asks : ValidSide (b .m) Asks (b .asks)
 
 -- A level that was read, if one was.
-pub record FineLevel (m : Bool) (level : Level) : Type 0 where
+pub record ValidLevel (m : Bool) (level : Level) : Type 0 where
   pub within : Within (levelPrice level)
   pub carried : Carries (pieceFor m) level
 
-abbrev pub Readable : Bool → Found → Type 0
-Readable m (At level) = FineLevel m level
+abbrev pub Readable : Bool → MaybeLevel → Type 0
+Readable m (At level) = ValidLevel m level
 Readable m Nothing = Unit
 
 -- n entries at the front of three lists of 100 words.
-pub record Stored (m : Bool) (prices sizes rests : List ℕ) (n : ℕ) : Type 0 where
+pub record Stored (m : Bool) (prices sizes packs : List ℕ) (n : ℕ) : Type 0 where
   pub prices-long : length prices ≡ 100
   pub sizes-long : length sizes ≡ 100
-  pub rests-long : length rests ≡ 100
+  pub packs-long : length packs ≡ 100
   pub few : n ≤ 100
-  pub given : Given (take n prices) (take n sizes) (take n rests)
-  pub carried : All (IfSet (Carries (pieceFor m))) (entriesOf (take n prices) (take n sizes) (take n rests))
+  pub given : Given (take n prices) (take n sizes) (take n packs)
+  pub carried : All (IfSet (Carries (pieceFor m))) (entriesOf (take n prices) (take n sizes) (take n packs))

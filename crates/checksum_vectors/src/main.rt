@@ -1,6 +1,6 @@
 // Runs the lines of standard input on one book, and prints what the crates `side` and `checksum` make of each:
 //     K DEPTH, M DEPTH      a new book of the dialect
-//     b PRICE SIZE ..       the bids of one message: how many bids stood before the cut, and whether an entry met a level
+//     b PRICE SIZE ..       the bids of one message: how many bids stood before the cut, and whether an entry replaced a level
 //     a PRICE SIZE ..       the same for asks
 //     =                     every bid and ask, then the checksum
 // What is to come was worked out apart from the crates, by tools/checksum_vectors.py.
@@ -10,13 +10,13 @@ ghost use lib.ListN.{length};
 ghost use Rattle.decimal.specs.Decimal.{number};
 ghost use Rattle.decimal.specs.Limits.{Within};
 ghost use Rattle.checksum.specs.Carried.{Made};
-ghost use Rattle.checksum_vectors.specs.Book.{pieceFor, Fine, FineSide, Readable, Stored};
+ghost use Rattle.checksum_vectors.specs.Book.{pieceFor, Valid, ValidSide, Readable, Stored};
 use decimal::Decimal;
 use decimal::Parsed;
 use decimal::ParsedWhole;
-use level::Found;
 use level::Level;
 use level::Levels;
+use level::MaybeLevel;
 use level::Side;
 use libc::STDIN_FILENO;
 use libc::STDOUT_FILENO;
@@ -54,7 +54,7 @@ fn run_lines(s: &[u8]) {
 
 fn new_book(m: bool, depth: usize) -> Book
     requires { ⌜ depth ≤ 100 ⌝ }
-    ensures { λ r. ⌜ Fine r ⌝ }
+    ensures { λ r. ⌜ Valid r ⌝ }
 {
     Book {
         m: m,
@@ -65,8 +65,8 @@ fn new_book(m: bool, depth: usize) -> Book
 }
 
 fn run_line(book: Book, s: &[u8]) -> Book
-    requires { ⌜ Fine book ⌝ }
-    ensures { λ r. ⌜ Fine r ⌝ }
+    requires { ⌜ Valid book ⌝ }
+    ensures { λ r. ⌜ Valid r ⌝ }
 {
     if s.len() == 0 {
         say(b"no line\n");
@@ -90,8 +90,8 @@ fn run_line(book: Book, s: &[u8]) -> Book
 }
 
 fn with_bids(book: Book, s: &[u8]) -> Book
-    requires { ⌜ Fine book ⌝ }
-    ensures { λ r. ⌜ Fine r ⌝ }
+    requires { ⌜ Valid book ⌝ }
+    ensures { λ r. ⌜ Valid r ⌝ }
 {
     let bids = run_side(book.bids, Side::Bids, book.m, book.depth, s);
     let mut after = book;
@@ -100,8 +100,8 @@ fn with_bids(book: Book, s: &[u8]) -> Book
 }
 
 fn with_asks(book: Book, s: &[u8]) -> Book
-    requires { ⌜ Fine book ⌝ }
-    ensures { λ r. ⌜ Fine r ⌝ }
+    requires { ⌜ Valid book ⌝ }
+    ensures { λ r. ⌜ Valid r ⌝ }
 {
     let asks = run_side(book.asks, Side::Asks, book.m, book.depth, s);
     let mut after = book;
@@ -111,7 +111,7 @@ fn with_asks(book: Book, s: &[u8]) -> Book
 
 // A new book of the depth that a line gives, or 10 where it gives none up to 100.
 fn start(m: bool, s: &[u8]) -> Book
-    ensures { λ r. ⌜ Fine r ⌝ }
+    ensures { λ r. ⌜ Valid r ⌝ }
 {
     let depth = read_depth(s);
     if m {
@@ -143,13 +143,13 @@ fn read_depth(s: &[u8]) -> usize
 
 // A side after the entries of a line.
 fn run_side(levels: Levels, side: Side, m: bool, depth: usize, s: &[u8]) -> Levels
-    requires { ⌜ FineSide m side levels × (depth ≤ 100) ⌝ }
-    ensures { λ r. ⌜ FineSide m side r ⌝ }
+    requires { ⌜ ValidSide m side levels × (depth ≤ 100) ⌝ }
+    ensures { λ r. ⌜ ValidSide m side r ⌝ }
 {
     let mut prices = [0u64; 100];
     let mut sizes = [0u64; 100];
-    let mut rests = [0u64; 100];
-    let n = read_entries(s, m, &mut prices, &mut sizes, &mut rests);
+    let mut packs = [0u64; 100];
+    let n = read_entries(s, m, &mut prices, &mut sizes, &mut packs);
     let mut words = levels.words;
     let applied = side::apply(
         &mut words,
@@ -158,10 +158,10 @@ fn run_side(levels: Levels, side: Side, m: bool, depth: usize, s: &[u8]) -> Leve
         depth,
         &prices[..n],
         &sizes[..n],
-        &rests[..n],
+        &packs[..n],
     );
     say_number(applied.count as u64);
-    if applied.met {
+    if applied.replaced {
         say(b" 1\n");
     } else {
         say(b" 0\n");
@@ -178,10 +178,10 @@ fn read_entries(
     m: bool,
     prices: &mut [u64; 100],
     sizes: &mut [u64; 100],
-    rests: &mut [u64; 100],
+    packs: &mut [u64; 100],
 ) -> usize
-    requires { ⌜ (length (now prices) ≡ 100) × (length (now sizes) ≡ 100) × (length (now rests) ≡ 100) ⌝ }
-    ensures { λ r. ⌜ Stored m (now (prices .exit)) (now (sizes .exit)) (now (rests .exit)) r ⌝ }
+    requires { ⌜ (length (now prices) ≡ 100) × (length (now sizes) ≡ 100) × (length (now packs) ≡ 100) ⌝ }
+    ensures { λ r. ⌜ Stored m (now (prices .exit)) (now (sizes .exit)) (now (packs .exit)) r ⌝ }
 {
     let mut at = 1;
     let mut k = 0;
@@ -197,14 +197,14 @@ fn read_entries(
         let size_from = price_end + 1;
         let size_end = find(s, size_from, BLANK);
         match read_level(&s[price_from..price_end], &s[size_from..size_end], m) {
-            Found::At(level) => {
+            MaybeLevel::At(level) => {
                 prices[k] = level.price;
                 sizes[k] = level.size;
-                rests[k] = level::pack(level);
+                packs[k] = level::pack(level);
                 k += 1;
                 at = size_end;
             }
-            Found::Nothing => {
+            MaybeLevel::Nothing => {
                 return k;
             }
         }
@@ -212,22 +212,22 @@ fn read_entries(
     k
 }
 
-fn read_level(price: &[u8], size: &[u8], m: bool) -> Found
+fn read_level(price: &[u8], size: &[u8], m: bool) -> MaybeLevel
     ensures { λ r. ⌜ Readable m r ⌝ }
 {
     match decimal::parse(price) {
         Parsed::Number(p) => read_size(p, size, m),
-        Parsed::Refused => Found::Nothing,
+        Parsed::Refused => MaybeLevel::Nothing,
     }
 }
 
-fn read_size(price: Decimal, size: &[u8], m: bool) -> Found
+fn read_size(price: Decimal, size: &[u8], m: bool) -> MaybeLevel
     requires { ⌜ Within (number price) ⌝ }
     ensures { λ r. ⌜ Readable m r ⌝ }
 {
     match decimal::parse(size) {
-        Parsed::Number(z) => Found::At(make(price, z, m)),
-        Parsed::Refused => Found::Nothing,
+        Parsed::Number(z) => MaybeLevel::At(make(price, z, m)),
+        Parsed::Refused => MaybeLevel::Nothing,
     }
 }
 
@@ -242,7 +242,7 @@ fn make(price: Decimal, size: Decimal, m: bool) -> Level
 }
 
 fn show(book: Book)
-    requires { ⌜ Fine book ⌝ }
+    requires { ⌜ Valid book ⌝ }
 {
     say(b"bids");
     show_levels(book.bids);
@@ -254,7 +254,7 @@ fn show(book: Book)
 }
 
 fn sum_of(book: Book) -> u32
-    requires { ⌜ Fine book ⌝ }
+    requires { ⌜ Valid book ⌝ }
 {
     let bids = book.bids;
     let asks = book.asks;

@@ -5,7 +5,7 @@ use mathlib.Core.List.{List, [], _∷_, map}
 use denote.Ref.{now}
 use Rattle.decimal.specs.Decimal.{number as numberOf}
 use Rattle.answer.specs.declared.Answer.{Answer}
-use Rattle.reference.specs.Reference.{Reference, Value, nothing, counts, level, amount, Reply, Ask, message, howMany, levelAt, whichNumber, howManyUpdates, write, does, Call, run, final}
+use Rattle.reference.specs.Reference.{Reference, Value, nothing, counts, level, amount, Reply, Ask, message, howMany, levelAt, whichNumber, howManyUpdates, write, does, Call, repliesTo, final}
 use Rattle.reference.specs.Claims.{call}
 use Rattle.book.specs.Shown.{shows, Good}
 use Rattle.book.specs.declared.Book.{Book}
@@ -13,7 +13,7 @@ use Rattle.claims.specs.Calls.{Seen, seen, Made, no-call, a-message, a-c
 
 -- What was seen is the reference book's, and so is all that the book shows in the end.
 pub record AsReference (p : Reference) (cs : List Call) (rs : List Seen) (e : Book) : Type 0 where
-  pub replies : rs ≡ map seen (run p cs)
+  pub replies : rs ≡ map seen (repliesTo p cs)
   pub good : Good e
   pub ends : shows e ≡ final p cs
 
@@ -22,16 +22,16 @@ module _ (p : Reference) (ask : Ask) (buffer : List ℕ) (q : Reference) (a : An
   more : q ≡ does p ask buffer .after → a ≡ does p ask buffer .answer → v ≡ does p ask buffer .value → x ≡ does p ask buffer .buffer
       → (cs : List Call) (rs : List Seen) (e : Book) → AsReference q cs rs e
       → AsReference p (call ask buffer ∷ cs) (record { answer = a; value = v; buffer = x } ∷ rs) e
-  unfolding run final
+  unfolding repliesTo final
   more f g h i cs rs e r =
       record {
-        replies = ap₂ (λ (y : Seen) (z : List Seen). y ∷ z) (rw (g, h, i)) (r .replies ∙ ap (λ (y : Reference). map seen (run y cs)) f);
+        replies = ap₂ (λ (y : Seen) (z : List Seen). y ∷ z) (rw (g, h, i)) (r .replies ∙ ap (λ (y : Reference). map seen (repliesTo y cs)) f);
         good = r .good;
         ends = r .ends ∙ ap (λ (y : Reference). final y cs) f;
       }
 
 pub made : {b e : Book} {cs : List Call} {rs : List Seen} → Good b → Made b cs rs e → AsReference (shows b) cs rs e
-unfolding does run final
+unfolding does repliesTo final
 made g no-call = record { replies = refl; good = g; ends = refl }
 made {b} g (a-message {buffer = u} {r = r} {cs = cs} {rs = rs} κs s h k) =
     let t = h g in
@@ -46,15 +46,15 @@ made {b} g (a-level {scope = c} {side = d} {i = i} {buffer = u} {r = r} {cs = cs
     (made (subst Good (sym (t .book)) g) k)
 made {b} g (a-number {scope = c} {buffer = u} {r = r} {cs = cs} {rs = rs} κs h k) =
     let t = h g in
-    more (shows b) (whichNumber c) u (shows (r .book)) (r .answer) (amount (r .amount)) u (ap shows (t .book)) (t .answer u) (t .value u) refl cs rs _
+    more (shows b) (whichNumber c) u (shows (r .book)) (r .answer) (amount (r .value)) u (ap shows (t .book)) (t .answer u) (t .value u) refl cs rs _
     (made (subst Good (sym (t .book)) g) k)
 made {b} g (an-updates {scope = c} {buffer = u} {r = r} {cs = cs} {rs = rs} κs h k) =
     let t = h g in
-    more (shows b) (howManyUpdates c) u (shows (r .book)) (r .answer) (amount (r .amount)) u (ap shows (t .book)) (t .answer u) (t .value u) refl cs rs _
+    more (shows b) (howManyUpdates c) u (shows (r .book)) (r .answer) (amount (r .value)) u (ap shows (t .book)) (t .answer u) (t .value u) refl cs rs _
     (made (subst Good (sym (t .book)) g) k)
 made {b} g (a-write {r = r} {cs = cs} {rs = rs} κs u w h k) =
     let t = h g in
-    more (shows b) write (now u) (shows (r .book)) (r .answer) (amount (r .amount)) (now w) (ap shows (t .book)) (t .answer) (t .value) (t .buffer) cs rs _
+    more (shows b) write (now u) (shows (r .book)) (r .answer) (amount (r .value)) (now w) (ap shows (t .book)) (t .answer) (t .value) (t .buffer) cs rs _
     (made (subst Good (sym (t .book)) g) k)
 
 pub demand-3 : Demand-3

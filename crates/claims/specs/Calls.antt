@@ -9,14 +9,14 @@ use Rattle.decimal.specs.Decimal.{number as numberOf}
 use Rattle.answer.specs.declared.Answer.{Answer}
 use Rattle.settings.specs.declared.Dialect.{Dialect}
 use Rattle.level.specs.declared.Side.{Side}
-use Rattle.reference.specs.Reference.{opened, Value, nothing, counts, level, amount, Reply, message, howMany, levelAt, whichNumber, howManyUpdates, write, Call, run}
+use Rattle.reference.specs.Reference.{opened, Value, nothing, counts, level, amount, Reply, message, howMany, levelAt, whichNumber, howManyUpdates, write, Call, repliesTo}
 use Rattle.reference.specs.Claims.{call}
 use Rattle.reference.specs.declared.Scope.{Scope}
 use Rattle.book.specs.declared.Book.{Book}
 use Rattle.book.specs.declared.Step.{Step}
-use Rattle.book.specs.declared.Counted.{Counted}
-use Rattle.book.specs.declared.Levelled.{Levelled}
-use Rattle.book.specs.declared.Amounted.{Amounted}
+use Rattle.book.specs.declared.CountsReply.{CountsReply}
+use Rattle.book.specs.declared.LevelReply.{LevelReply}
+use Rattle.book.specs.declared.NumberReply.{NumberReply}
 use Rattle.book.proofs.open.Reads as opens
 use Rattle.book.proofs.Book.take.Reads as takes
 use Rattle.book.proofs.Book.counts.Reads as counters
@@ -41,26 +41,26 @@ pub data Made : Book → List Call → List Seen → Book → Type 0 where
   a-message : {b e : Book} {buffer : List ℕ} {r : Step} {cs : List Call} {rs : List Seen} (κs : Lfts 1) (s : RefT (List ℕ))
       → (takes.Asked κs (b, (s, tt)) → takes.Learnt κs (b, (s, tt)) r (b, (s, tt))) → Made (r .book) cs rs e
       → Made b (call (message (now s)) buffer ∷ cs) (record { answer = r .answer; value = nothing; buffer = buffer } ∷ rs) e
-  a-count : {b e : Book} {scope : Scope} {buffer : List ℕ} {r : Counted} {cs : List Call} {rs : List Seen} (κs : Lfts 0)
+  a-count : {b e : Book} {scope : Scope} {buffer : List ℕ} {r : CountsReply} {cs : List Call} {rs : List Seen} (κs : Lfts 0)
       → (counters.Asked κs (b, (scope, tt)) → counters.Learnt κs (b, (scope, tt)) r (b, (scope, tt))) → Made (r .book) cs rs e
       → Made b (call (howMany scope) buffer ∷ cs) (record { answer = r .answer; value = counts (r .bids) (r .asks); buffer = buffer } ∷ rs) e
-  a-level : {b e : Book} {scope : Scope} {side : Side} {i : ℕ} {buffer : List ℕ} {r : Levelled} {cs : List Call} {rs : List Seen} (κs : Lfts 0)
+  a-level : {b e : Book} {scope : Scope} {side : Side} {i : ℕ} {buffer : List ℕ} {r : LevelReply} {cs : List Call} {rs : List Seen} (κs : Lfts 0)
       → (levels.Asked κs (b, (scope, (side, (i, tt)))) → levels.Learnt κs (b, (scope, (side, (i, tt)))) r (b, (scope, (side, (i, tt))))) → Made (r .book) cs rs e
       → Made b (call (levelAt scope side i) buffer ∷ cs)
       (record { answer = r .answer; value = level (record { price = numberOf (r .price); size = numberOf (r .size) }); buffer = buffer } ∷ rs) e
-  a-number : {b e : Book} {scope : Scope} {buffer : List ℕ} {r : Amounted} {cs : List Call} {rs : List Seen} (κs : Lfts 0)
+  a-number : {b e : Book} {scope : Scope} {buffer : List ℕ} {r : NumberReply} {cs : List Call} {rs : List Seen} (κs : Lfts 0)
       → (numbers.Asked κs (b, (scope, tt)) → numbers.Learnt κs (b, (scope, tt)) r (b, (scope, tt))) → Made (r .book) cs rs e
-      → Made b (call (whichNumber scope) buffer ∷ cs) (record { answer = r .answer; value = amount (r .amount); buffer = buffer } ∷ rs) e
-  an-updates : {b e : Book} {scope : Scope} {buffer : List ℕ} {r : Amounted} {cs : List Call} {rs : List Seen} (κs : Lfts 0)
+      → Made b (call (whichNumber scope) buffer ∷ cs) (record { answer = r .answer; value = amount (r .value); buffer = buffer } ∷ rs) e
+  an-updates : {b e : Book} {scope : Scope} {buffer : List ℕ} {r : NumberReply} {cs : List Call} {rs : List Seen} (κs : Lfts 0)
       → (updates.Asked κs (b, (scope, tt)) → updates.Learnt κs (b, (scope, tt)) r (b, (scope, tt))) → Made (r .book) cs rs e
-      → Made b (call (howManyUpdates scope) buffer ∷ cs) (record { answer = r .answer; value = amount (r .amount); buffer = buffer } ∷ rs) e
-  a-write : {b e : Book} {r : Amounted} {cs : List Call} {rs : List Seen} (κs : Lfts 1) (u w : RefT (List ℕ))
+      → Made b (call (howManyUpdates scope) buffer ∷ cs) (record { answer = r .answer; value = amount (r .value); buffer = buffer } ∷ rs) e
+  a-write : {b e : Book} {r : NumberReply} {cs : List Call} {rs : List Seen} (κs : Lfts 1) (u w : RefT (List ℕ))
       → (writes.Asked κs (b, (u, tt)) → writes.Learnt κs (b, (u, tt)) r (b, (w, tt))) → Made (r .book) cs rs e
-      → Made b (call write (now u) ∷ cs) (record { answer = r .answer; value = amount (r .amount); buffer = now w } ∷ rs) e
+      → Made b (call write (now u) ∷ cs) (record { answer = r .answer; value = amount (r .value); buffer = now w } ∷ rs) e
 
 -- Every answer, level with its text, length, number and count, and every byte of every buffer is the reference book's. What the book is between two calls
 -- is what questions put there would be answered.
 abbrev pub Demand-3 : Type 0
 Demand-3 = (κs : Lfts 1) (dialect : Dialect) (depth : ℕ) (name : RefT (List ℕ)) (b e : Book) (cs : List Call) (rs : List Seen)
     → opens.Learnt κs (dialect, (depth, (name, tt))) b (dialect, (depth, (name, tt))) → Made b cs rs e
-    → rs ≡ map seen (run (opened (record { dialect = dialect; depth = depth; name = now name })) cs)
+    → rs ≡ map seen (repliesTo (opened (record { dialect = dialect; depth = depth; name = now name })) cs)

@@ -87,18 +87,18 @@ module _ (s : List ℕ) where
 
 -- ---- the same of what is told of an array: fair says that there are rows, and the rest speaks of them
 module _ (s : List ℕ) (e : ℕ) where
-  pub fair-rows : (y : Reading (List Row)) → summaryOf s e y .fair ≡ true → (rows : List Row) × (y ≡ reads rows)
+  pub fair-rows : (y : Reading (List Row)) → summaryOf s e y .«well_formed» ≡ true → (rows : List Row) × (y ≡ reads rows)
   unfolding summaryOf noEntries
   fair-rows (reads rows) h = (rows, refl)
   fair-rows refused h = absurd (true≢false (sym h))
 
-  pub unfair-rows : (y : Reading (List Row)) → summaryOf s e y .fair ≡ false → y ≡ refused
+  pub unfair-rows : (y : Reading (List Row)) → summaryOf s e y .«well_formed» ≡ false → y ≡ refused
   unfolding summaryOf
   unfair-rows (reads rows) h = absurd (true≢false h)
   unfair-rows refused h = refl
 
   pub rows-told : (rows : List Row) → summaryOf s e (reads rows)
-      ≡ record { end = e; fair = true; count = length rows; broken = anyBroken s rows; zero = anyZero s rows }
+      ≡ record { end = e; «well_formed» = true; count = length rows; broken = anyBroken s rows; zero = anyZero s rows }
   unfolding summaryOf
   rows-told rows = refl
 

@@ -22,11 +22,11 @@ use Rattle.json_tokens.proofs.Laws.{here, in-byte, string-yes}
 use Rattle.json.specs.Json.{Span}
 use Rattle.entries.specs.Places.{inner}
 use Rattle.entries.specs.Rows.{Row, entryFor, numberAt}
-use Rattle.entries.specs.Summary.{foundOf, priceSpan, sizeSpan, foundAt}
+use Rattle.entries.specs.Summary.{entryPlaceOf, priceSpan, sizeSpan, entryPlaceAt}
 use Rattle.entries.specs.Front.{EntryEnd}
 use Rattle.entries.specs.Decimals.{QuotedAt, TwoDecimals, NumberOf, EntryAt}
 use Rattle.entries.specs.Counting.{withNumbers, counted}
-use Rattle.entries.specs.declared.Found.{Found}
+use Rattle.entries.specs.declared.EntryPlace.{EntryPlace}
 use Rattle.entries.specs.declared.Entries.{Entries}
 use Rattle.entries.specs.declared.Amounts.{Amounts}
 use Rattle.entries.specs.declared.QuotedDecimal.{QuotedDecimal}
@@ -146,7 +146,7 @@ module _ (s : List ℕ) (at : ℕ) (opens : byteAt s at ≡ 91) (k : ℕ) (begin
   pub two-decimals : TwoDecimals s at (record { price = p .decimal; size = z .decimal; end = z .end })
   two-decimals =
       record {
-        found = record { end = z .end; fair = true; «price_from» = k; «price_to» = p .end; «size_from» = j; «size_to» = z .end };
+        found = record { end = z .end; «well_formed» = true; «price_from» = k; «price_to» = p .end; «size_from» = j; «size_to» = z .end };
         two = record { opens = opens; begins = begins; price = first .ends; comma = comma; size = second .ends; ends = refl };
         ends = refl;
         price = first .text;
@@ -157,23 +157,23 @@ module _ (s : List ℕ) (at : ℕ) (opens : byteAt s at ≡ 91) (k : ℕ) (begin
 
 module _ (entry : List ℕ → Span → Reading Row) (s : List ℕ) (at : ℕ) (a : Amounts) (d : TwoDecimals s at a) (e : ℕ) (fits : EntryEnd entry s (a .end) e)
     (more : e ≡ 0 → ⊥) where
-  abbrev found : Found
-  found = foundAt entry s at
+  abbrev found : EntryPlace
+  found = entryPlaceAt entry s at
 
-  found-is : found ≡ foundOf e (reads (record { price = priceSpan (d .found); size = sizeSpan (d .found) }))
+  found-is : found ≡ entryPlaceOf e (reads (record { price = priceSpan (d .found); size = sizeSpan (d .found) }))
   found-is = fits .some more at (d .found) (d .two) (d .ends)
 
   ends-at : found .end ≡ e
-  unfolding foundOf
-  ends-at = ap (λ (x : Found). x .end) found-is
+  unfolding entryPlaceOf
+  ends-at = ap (λ (x : EntryPlace). x .end) found-is
 
   price-reads : read (inner s (priceSpan found)) ≡ reads (number (a .price))
-  unfolding foundOf
-  price-reads = ap (λ (x : Found). read (inner s (priceSpan x))) found-is ∙ d .price
+  unfolding entryPlaceOf
+  price-reads = ap (λ (x : EntryPlace). read (inner s (priceSpan x))) found-is ∙ d .price
 
   size-reads : read (inner s (sizeSpan found)) ≡ reads (number (a .size))
-  unfolding foundOf
-  size-reads = ap (λ (x : Found). read (inner s (sizeSpan x))) found-is ∙ d .size
+  unfolding entryPlaceOf
+  size-reads = ap (λ (x : EntryPlace). read (inner s (sizeSpan x))) found-is ∙ d .size
 
   pub decimals-past : at < e
   decimals-past =
@@ -182,10 +182,10 @@ module _ (entry : List ℕ → Span → Reading Row) (s : List ℕ) (at : ℕ) (
       omega arith
 
   pub decimals-counted : (sum : Entries) → withNumbers sum e (number (a .price)) (number (a .size)) ≡ counted s sum found
-  unfolding foundOf
+  unfolding entryPlaceOf
   decimals-counted sum =
       ap (λ (n : ℕ). withNumbers sum n (number (a .price)) (number (a .size))) (sym ends-at)
-      ∙ counted-numbers s sum found (ap (λ (x : Found). x .fair) found-is) (number (a .price)) (number (a .size)) price-reads size-reads
+      ∙ counted-numbers s sum found (ap (λ (x : EntryPlace). x .«well_formed») found-is) (number (a .price)) (number (a .size)) price-reads size-reads
 
 -- ---- the number of a text, and the numbers of an entry
 
@@ -201,7 +201,7 @@ module _ (s : List ℕ) (a : Span) where
 pub entry-numbers : (m : Bool) (s : List ℕ) (at : ℕ) (a : Amounts) (d : TwoDecimals s at a) (e : ℕ) (fits : EntryEnd (entryFor m) s (a .end) e) (more : e ≡ 0 → ⊥)
     → EntryAt m s at (record { price = a .price; size = a .size; end = e })
 entry-numbers m s at a d e fits more =
-    let f = foundAt (entryFor m) s at in
+    let f = entryPlaceAt (entryFor m) s at in
     record {
       end = sym (ends-at (entryFor m) s at a d e fits more);
       price = number-read s (priceSpan f) (a .price) (price-reads (entryFor m) s at a d e fits more);

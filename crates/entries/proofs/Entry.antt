@@ -14,15 +14,15 @@ use Rattle.json_tokens.specs.Ends.{endOf}
 use Rattle.json_tokens.proofs.Laws.{end-at}
 use Rattle.json_tokens.proofs.Bounds.{bounds, end-broken, closing-in, separator-in}
 use lib.ListN.{length}
-use Rattle.json.specs.Json.{Span, item, ends, Items, items, noItems, next, before, onward, list, itemsEnd, elements, value}
+use Rattle.json.specs.Json.{Span, item, ends, Items, items, noItems, next, prepended, onward, list, itemsEnd, elements, value}
 use Rattle.json.proofs.Laws.{value-array, before-end, element-is, element-wrong, later-item, later-ends, later-wrong}
 use Rattle.json.proofs.Bounds.{value-in}
 use Rattle.json.proofs.Walk.{Walk, walk, walk-ends, walk-wrong, walk-is, walk-item}
 use Rattle.entries.specs.Places.{andThen, isString, contents, arrayAt}
 use Rattle.entries.specs.Rows.{Row, entryDepth, elementDepth, rowK, entryK, rowM, entryM, entryFor}
-use Rattle.entries.specs.Summary.{foundOf, priceSpan, sizeSpan, foundAt}
+use Rattle.entries.specs.Summary.{entryPlaceOf, priceSpan, sizeSpan, entryPlaceAt}
 use Rattle.entries.specs.Front.{Two, Front, RestEnd, endIn, EntryEnd, EndedAt}
-use Rattle.entries.specs.declared.Found.{Found}
+use Rattle.entries.specs.declared.EntryPlace.{EntryPlace}
 use Rattle.entries.proofs.Stops.{broken-at, one, string-is, close-no-comma, Stops, stops-first, stops-comma, stops-string, Halts, halt, past-string, past-first}
 
 -- ---- what both dialects want of the elements: two strings at the front
@@ -89,29 +89,29 @@ module _ (row : List ℕ → List Span → Reading Row) (s : List ℕ) (at : ℕ
   read-other to h = rw (ne-eqb (byteAt s at) 91 h)
 
 -- what is told of what an array holds
-foundIn : (List Span → Reading Row) → Items Span → Found
-foundIn row (items l e) = foundOf e (row l)
-foundIn row noItems = foundOf 0 refused
+foundIn : (List Span → Reading Row) → Items Span → EntryPlace
+foundIn row (items l e) = entryPlaceOf e (row l)
+foundIn row noItems = entryPlaceOf 0 refused
 
-found-array : (row : List ℕ → List Span → Reading Row) (s : List ℕ) (at : ℕ) → byteAt s at ≡ 91 → foundAt (readBy row) s at ≡ foundIn (row s) (whole s at)
-unfolding foundAt itemsEnd foundIn andThen contents
+found-array : (row : List ℕ → List Span → Reading Row) (s : List ℕ) (at : ℕ) → byteAt s at ≡ 91 → entryPlaceAt (readBy row) s at ≡ foundIn (row s) (whole s at)
+unfolding entryPlaceAt itemsEnd foundIn andThen contents
 found-array row s at h =
-    ap (λ (y : End). elim y [ At e ↦ foundOf e (readBy row s (record { from = at; to = e })) | Broken ↦ foundOf 0 refused ]) (value-array s at elementDepth h)
+    ap (λ (y : End). elim y [ At e ↦ entryPlaceOf e (readBy row s (record { from = at; to = e })) | Broken ↦ entryPlaceOf 0 refused ]) (value-array s at elementDepth h)
     ∙ go (whole s at) refl
   where
     go : (x : Items Span) → whole s at ≡ x
-        → elim (itemsEnd x) [ At e ↦ foundOf e (readBy row s (record { from = at; to = e })) | Broken ↦ foundOf 0 refused ] ≡ foundIn (row s) x
-    go (items l e) q = ap (foundOf e) (read-array row s at e h ∙ ap (rowOf (row s)) q)
+        → elim (itemsEnd x) [ At e ↦ entryPlaceOf e (readBy row s (record { from = at; to = e })) | Broken ↦ entryPlaceOf 0 refused ] ≡ foundIn (row s) x
+    go (items l e) q = ap (entryPlaceOf e) (read-array row s at e h ∙ ap (rowOf (row s)) q)
     go noItems q = refl
 
 -- a value that is no entry
 pub found-none : (entry : List ℕ → Span → Reading Row) (s : List ℕ) (at : ℕ) → ((to : ℕ) → entry s (record { from = at; to = to }) ≡ refused)
-    → foundOf (endOf (value entryDepth s at)) refused ≡ foundAt entry s at
-unfolding foundAt endOf
+    → entryPlaceOf (endOf (value entryDepth s at)) refused ≡ entryPlaceAt entry s at
+unfolding entryPlaceAt endOf
 found-none entry s at h = go (value entryDepth s at)
   where
-    go : (x : End) → foundOf (endOf x) refused ≡ elim x [ At e ↦ foundOf e (entry s (record { from = at; to = e })) | Broken ↦ foundOf 0 refused ]
-    go (At e) = ap (foundOf e) (sym (h e))
+    go : (x : End) → entryPlaceOf (endOf x) refused ≡ elim x [ At e ↦ entryPlaceOf e (entry s (record { from = at; to = e })) | Broken ↦ entryPlaceOf 0 refused ]
+    go (At e) = ap (entryPlaceOf e) (sym (h e))
     go Broken = refl
 
 -- ---- without two strings at the front, the value is an entry of neither dialect
@@ -137,10 +137,10 @@ module _ (s : List ℕ) (at : ℕ) where
 
     module _ (p q : ℕ) (b : p ≡ blanks s (at + 1)) (h : string s p ≡ At q) where
       after-price : (row : List Span → Reading Row) → Wants s row → Stops s (next (one s) 93 s false q) → rowOf row (whole s at) ≡ refused
-      unfolding contents andThen before
+      unfolding contents andThen prepended
       after-price row w stops =
           let a : Span = record { from = p; to = q } in
-          halt {answer = λ y. rowOf row (before a y)} (record { broken = refl; ended = λ e. w .single a; other = λ z l e n. w .second a z l n })
+          halt {answer = λ y. rowOf row (prepended a y)} (record { broken = refl; ended = λ e. w .single a; other = λ z l e n. w .second a z l n })
           (past-first s (rowOf row) (at + 1) p q b h) stops
 
       pub neither-comma : separator 44 s q ≡ Broken → Neither s at
@@ -155,20 +155,20 @@ unfolding endIn
 end-in zero n = absurd (n refl)
 end-in (suc r) n = refl
 
-module _ (s : List ℕ) (at : ℕ) (f : Found) (t : Two s at f) where
+module _ (s : List ℕ) (at : ℕ) (f : EntryPlace) (t : Two s at f) where
   abbrev price : Span
   price = priceSpan f
 
   abbrev size : Span
   size = sizeSpan f
 
-  abbrev told : ℕ → Found
-  told e = record { end = e; fair = true; «price_from» = f .«price_from»; «price_to» = f .«price_to»; «size_from» = f .«size_from»; «size_to» = f .«size_to» }
+  abbrev told : ℕ → EntryPlace
+  told e = record { end = e; «well_formed» = true; «price_from» = f .«price_from»; «price_to» = f .«price_to»; «size_from» = f .«size_from»; «size_to» = f .«size_to» }
 
   past-two : {R : Type 0} (answer : Items Span → R)
-      → Walk (one s) 93 s (λ (y : Items Span). answer (before price (before size y))) (f .end) (next (one s) 93 s false (f .end)) (answer (whole s at))
+      → Walk (one s) 93 s (λ (y : Items Span). answer (prepended price (prepended size y))) (f .end) (next (one s) 93 s false (f .end)) (answer (whole s at))
   past-two answer =
-      rw (t .ends) (past-string s (λ (y : Items Span). answer (before price y))
+      rw (t .ends) (past-string s (λ (y : Items Span). answer (prepended price y))
       (past-first s answer (at + 1) (f .«price_from») (f .«price_to») (t .begins) (t .price)) (f .«size_from») (f .«size_to») (t .comma) (t .size))
 
   price-is : isString s price ≡ true
@@ -178,8 +178,8 @@ module _ (s : List ℕ) (at : ℕ) (f : Found) (t : Two s at f) where
   size-is = string-is s (f .«size_from») (f .«size_to») (t .size)
 
   -- ---- dialect M: the array closes
-  pub m-is : (e : ℕ) → closing 93 s (f .end) ≡ At e → told e ≡ foundAt entryM s at
-  unfolding entryM foundIn foundOf rowM before
+  pub m-is : (e : ℕ) → closing 93 s (f .end) ≡ At e → told e ≡ entryPlaceAt entryM s at
+  unfolding entryM foundIn entryPlaceOf rowM prepended
   m-is e c =
       rw (price-is, size-is) refl
       ∙ walk-ends (one s) 93 s _ (past-two (foundIn (rowM s))) e (later-ends (one s) 93 s (f .end) e (close-no-comma s (f .end) e c) c)
@@ -187,13 +187,13 @@ module _ (s : List ℕ) (at : ℕ) (f : Found) (t : Two s at f) where
 
   -- any other element, or no bracket at all
   pub m-none : closing 93 s (f .end) ≡ Broken → (to : ℕ) → entryM s (record { from = at; to = to }) ≡ refused
-  unfolding entryM before contents andThen rowM onward
+  unfolding entryM prepended contents andThen rowM onward
   m-none c to = read-array rowM s at to (t .opens) ∙ go (separator 44 s (f .end)) refl
     where
       answer : Items Span → Reading Row
-      answer y = rowOf (rowM s) (before price (before size y))
+      answer y = rowOf (rowM s) (prepended price (prepended size y))
 
-      three : (a : Span) (y : Items Span) → answer (before a y) ≡ refused
+      three : (a : Span) (y : Items Span) → answer (prepended a y) ≡ refused
       three a (items l e) = refl
       three a noItems = refl
 
@@ -215,8 +215,8 @@ module _ (s : List ℕ) (at : ℕ) (f : Found) (t : Two s at f) where
       go Broken q = sym (walk-wrong (one s) 93 s answer w (later-wrong (one s) 93 s (f .end) q c)) ∙ none
 
   -- ---- dialect K: a third string, and the rest of the array
-  k-halts : Halts s (λ (y : Items Span). rowOf (rowK s) (before price (before size y)))
-  unfolding before contents andThen rowK
+  k-halts : Halts s (λ (y : Items Span). rowOf (rowK s) (prepended price (prepended size y)))
+  unfolding prepended contents andThen rowK
   k-halts = record { broken = refl; ended = λ e. refl; other = λ a l e h. rw (third-false (isString s price) (isString s size) (isString s a) h) }
 
   pub k-no-comma : separator 44 s (f .end) ≡ Broken → (to : ℕ) → entryK s (record { from = at; to = to }) ≡ refused
@@ -232,33 +232,33 @@ module _ (s : List ℕ) (at : ℕ) (f : Found) (t : Two s at f) where
     time = record { from = j; to = e }
 
     past-three : {R : Type 0} (answer : Items Span → R)
-        → Walk (one s) 93 s (λ (y : Items Span). answer (before price (before size (before time y)))) e (next (one s) 93 s false e) (answer (whole s at))
-    past-three answer = past-string s (λ (y : Items Span). answer (before price (before size y))) (past-two answer) j e q h
+        → Walk (one s) 93 s (λ (y : Items Span). answer (prepended price (prepended size (prepended time y)))) e (next (one s) 93 s false e) (answer (whole s at))
+    past-three answer = past-string s (λ (y : Items Span). answer (prepended price (prepended size y))) (past-two answer) j e q h
 
-    pub k-is : (r ≡ 0 → ⊥) → told r ≡ foundAt entryK s at
-    unfolding entryK list itemsEnd before foundIn foundOf rowK
+    pub k-is : (r ≡ 0 → ⊥) → told r ≡ entryPlaceAt entryK s at
+    unfolding entryK list itemsEnd prepended foundIn entryPlaceOf rowK
     k-is n =
         let w = past-three (foundIn (rowK s)) in
         go (list (one s) 93 s (suc (w .left)) false e) (rest (w .left) (w .enough) ∙ end-in r n) ∙ w .makes ∙ sym (found-array rowK s at (t .opens))
       where
-        go : (x : Items Span) → itemsEnd x ≡ At r → told r ≡ foundIn (rowK s) (before price (before size (before time x)))
+        go : (x : Items Span) → itemsEnd x ≡ At r → told r ≡ foundIn (rowK s) (prepended price (prepended size (prepended time x)))
         go (items l k) g = let z : r ≡ k = cc in rw (price-is, size-is, string-is s j e h, z)
         go noItems g = broken-at refl g
 
     pub k-none : r ≡ 0 → (to : ℕ) → entryK s (record { from = at; to = to }) ≡ refused
-    unfolding entryK list endIn itemsEnd before contents andThen
+    unfolding entryK list endIn itemsEnd prepended contents andThen
     k-none z to =
         let w = past-three (rowOf (rowK s)) in
         read-array rowK s at to (t .opens) ∙ sym (w .makes) ∙ go (list (one s) 93 s (suc (w .left)) false e) (rest (w .left) (w .enough) ∙ ap endIn z)
       where
-        go : (x : Items Span) → itemsEnd x ≡ Broken → rowOf (rowK s) (before price (before size (before time x))) ≡ refused
+        go : (x : Items Span) → itemsEnd x ≡ Broken → rowOf (rowK s) (prepended price (prepended size (prepended time x))) ≡ refused
         go (items l k) g = broken-at g refl
         go noItems g = refl
 
 -- ---- what is told of the front
-pub front-none : (s : List ℕ) (at : ℕ) (f : Found) → f ≡ foundOf 0 refused → Neither s at → Front s at f
-unfolding foundOf
-front-none s at f h n = record { two = λ g. absurd (true≢false (sym g ∙ ap (λ (x : Found). x .fair) h)); neither = λ g. n }
+pub front-none : (s : List ℕ) (at : ℕ) (f : EntryPlace) → f ≡ entryPlaceOf 0 refused → Neither s at → Front s at f
+unfolding entryPlaceOf
+front-none s at f h n = record { two = λ g. absurd (true≢false (sym g ∙ ap (λ (x : EntryPlace). x .«well_formed») h)); neither = λ g. n }
 
 -- ---- the rest of an array: r is the answer for all of it
 module _ (s : List ℕ) (i : ℕ) (r : End) (w : Walk (one s) 93 s itemsEnd i (next (one s) 93 s false i) r) where
@@ -295,7 +295,7 @@ module _ (s : List ℕ) (i : ℕ) (r : End) (w : Walk (one s) 93 s itemsEnd i (n
 
 -- an entry of dialect M ends with the bracket past its two strings
 pub m-end : (s : List ℕ) (at r : ℕ) → r ≡ endOf (closing 93 s at) → EntryEnd entryM s at r
-unfolding foundOf
+unfolding entryPlaceOf
 m-end s at r h =
     record {
       some = λ n from f two ends. sym (m-is s from f two r (ap (closing 93 s) ends ∙ end-at (closing 93 s at) r h n));
@@ -303,10 +303,10 @@ m-end s at r h =
     }
 
 -- an entry by its front and its end
-pub found-ended : (entry : List ℕ → Span → Reading Row) (s : List ℕ) (at : ℕ) (f : Found) → Two s at f → (e : ℕ) → EntryEnd entry s (f .end) e
-    → (r : Found) → EndedAt s at f e r → r ≡ foundAt entry s at
+pub found-ended : (entry : List ℕ → Span → Reading Row) (s : List ℕ) (at : ℕ) (f : EntryPlace) → Two s at f → (e : ℕ) → EntryEnd entry s (f .end) e
+    → (r : EntryPlace) → EndedAt s at f e r → r ≡ entryPlaceAt entry s at
 found-ended entry s at f two e fits r h = go (eqb e 0) refl
   where
-    go : (b : Bool) → eqb e 0 ≡ b → r ≡ foundAt entry s at
+    go : (b : Bool) → eqb e 0 ≡ b → r ≡ entryPlaceAt entry s at
     go true q = let z = eqb-true e 0 q in h .none z ∙ found-none entry s at (fits .none z at f two refl)
     go false q = let n = eqb-false e 0 q in h .some n ∙ sym (fits .some n at f two refl)

@@ -12,13 +12,13 @@ use Rattle.json_tokens.specs.Tokens.{End, At, Broken, blanks, closing, separato
 use Rattle.json_tokens.specs.Ends.{endOf}
 use Rattle.json_tokens.proofs.Laws.{end-at}
 use Rattle.json_tokens.proofs.Bounds.{bounds, end-broken, blanks-in, closing-in, separator-in}
-use Rattle.json.specs.Json.{Span, Items, items, noItems, next, before, onward, list, listOf, elements, value}
+use Rattle.json.specs.Json.{Span, Items, items, noItems, next, prepended, onward, list, listOf, elements, value}
 use Rattle.json.proofs.Laws.{element-is, element-wrong, first-ends, first-item, later-item, later-ends, later-wrong}
 use Rattle.entries.specs.Places.{andThen, all, contents, arrayAt}
 use Rattle.entries.specs.Rows.{Row, maxEntries, entryDepth, entriesAt}
-use Rattle.entries.specs.Summary.{foundOf, foundAt}
+use Rattle.entries.specs.Summary.{entryPlaceOf, entryPlaceAt}
 use Rattle.entries.specs.Arrays.{rowsOf, rowsAt, Loadable, firstAt}
-use Rattle.entries.specs.declared.Found.{Found}
+use Rattle.entries.specs.declared.EntryPlace.{EntryPlace}
 use Rattle.entries.proofs.Summary.{each}
 use Rattle.entries.proofs.Strings.{no-row, same-row}
 
@@ -93,8 +93,8 @@ module _ (entry : List ℕ → Span → Reading Row) (s : List ℕ) where
     reads-later : rowsIn x ≡ reads later
     both : rows ≡ row ∷ later
 
-  split : (a : Span) (x : Items Span) (rows : List Row) → rowsIn (before a x) ≡ reads rows → Split a x rows
-  unfolding before rowsIn all andThen
+  split : (a : Span) (x : Items Span) (rows : List Row) → rowsIn (prepended a x) ≡ reads rows → Split a x rows
+  unfolding prepended rowsIn all andThen
   split a (items l e) rows h = go (entry s a) refl (all (entry s) l) refl h
     where
       go : (y : Reading Row) → entry s a ≡ y → (z : Reading (List Row)) → all (entry s) l ≡ z → andThen y (λ b. andThen z (λ bs. reads (b ∷ bs))) ≡ reads rows → Split a (items l e) rows
@@ -123,29 +123,29 @@ module _ (entry : List ℕ → Span → Reading Row) (s : List ℕ) where
           (λ z. at-close q (closing 93 s e) refl, λ n. absurd (n k))
 
   -- what is found where an entry begins
-  pub record Here (rows : List Row) (g : Found) : Type 0 where
+  pub record Here (rows : List Row) (g : EntryPlace) : Type 0 where
     pub row : Row
     pub later : List Row
     pub both : rows ≡ row ∷ later
-    pub is-row : g ≡ foundOf (g .end) (reads row)
+    pub is-row : g ≡ entryPlaceOf (g .end) (reads row)
     pub onwards : (j : ℕ) → j ≡ endOf (separator 44 s (g .end)) → (j ≡ 0 → later ≡ []) × ((j ≡ 0 → ⊥) → Left j later)
 
-  pub left-here : (i : ℕ) (rows : List Row) → Left i rows → (g : Found) → g ≡ foundAt entry s i → Here rows g
-  unfolding onward rowsIn foundAt foundOf
+  pub left-here : (i : ℕ) (rows : List Row) → Left i rows → (g : EntryPlace) → g ≡ entryPlaceAt entry s i → Here rows g
+  unfolding onward rowsIn entryPlaceAt entryPlaceOf
   left-here i rows w g told = go (value entryDepth s i) refl
     where
       go : (x : End) → value entryDepth s i ≡ x → Here rows g
       go (At e) v =
           let a : Span = record { from = i; to = e } in
           let p = split a (list (each s) 93 s (w .steps) false e) rows (rw (element-is (value entryDepth s) i e v) at (w .rest)) in
-          let f : foundAt entry s i ≡ foundOf e (entry s a) = rw (v, foundAt) in
-          let r : g ≡ foundOf e (reads (p .row)) = told ∙ f ∙ ap (foundOf e) (p .reads-row) in
-          let n : g .end ≡ e = ap (λ (x : Found). x .end) r in
+          let f : entryPlaceAt entry s i ≡ entryPlaceOf e (entry s a) = rw (v, entryPlaceAt) in
+          let r : g ≡ entryPlaceOf e (reads (p .row)) = told ∙ f ∙ ap (entryPlaceOf e) (p .reads-row) in
+          let n : g .end ≡ e = ap (λ (x : EntryPlace). x .end) r in
           record {
             row = p .row;
             later = p .later;
             both = p .both;
-            is-row = r ∙ ap (λ (k : ℕ). foundOf k (reads (p .row))) (sym n);
+            is-row = r ∙ ap (λ (k : ℕ). entryPlaceOf k (reads (p .row))) (sym n);
             onwards = λ j h. past-comma (w .steps) e (p .later) (p .reads-later) j (h ∙ ap (λ (k : ℕ). endOf (separator 44 s k)) n);
           }
       go Broken v = no-row (rw (element-wrong (value entryDepth s) i v) at (w .rest))

@@ -12,7 +12,7 @@ use Rattle.decimal.specs.Digits.{Reading, refused}
 use Rattle.json_tokens.specs.Tokens.{End, At, Broken, blanks, closing, separator, string}
 use Rattle.json_tokens.proofs.Laws.{closing-no, separator-no, string-no}
 use Rattle.json_tokens.proofs.Bounds.{bounds, blanks-in, separator-in, string-in}
-use Rattle.json.specs.Json.{Span, Next, item, ends, wrong, Items, items, noItems, next, before, onward, element, elements, value}
+use Rattle.json.specs.Json.{Span, Next, item, ends, wrong, Items, items, noItems, next, prepended, onward, element, elements, value}
 use Rattle.json.proofs.Laws.{value-string, element-is, later-item, later-ends, later-wrong}
 use Rattle.json.proofs.Walk.{Walk, walk-start, walk-is, walk-item}
 use Rattle.entries.specs.Places.{isString}
@@ -98,10 +98,10 @@ pub record Halts (s : List ℕ) (answer : Items Span → Reading Row) : Type 0 w
 
 pub halt : {s : List ℕ} {answer : Items Span → Reading Row} → Halts s answer → {i : ℕ} {x : Next Span} {r : Reading Row}
     → Walk (one s) 93 s answer i x r → Stops s x → r ≡ refused
-unfolding onward before
+unfolding onward prepended
 halt {s} {answer} t {i} {x} {r} w stops = sym (w .makes) ∙ go (λ e. _) x stops
   where
-    past : (a : Span) → isString s a ≡ false → (y : Items Span) → answer (before a y) ≡ refused
+    past : (a : Span) → isString s a ≡ false → (y : Items Span) → answer (prepended a y) ≡ refused
     past a h (items l e) = t .other a l e h
     past a h noItems = t .broken
 
@@ -113,7 +113,7 @@ halt {s} {answer} t {i} {x} {r} w stops = sym (w .makes) ∙ go (λ e. _) x stop
 -- ---- past a string
 module _ (s : List ℕ) {R : Type 0} (answer : Items Span → R) where
   pub past-string : {i : ℕ} {r : R} → Walk (one s) 93 s answer i (next (one s) 93 s false i) r → (j e : ℕ) → separator 44 s i ≡ At j → string s j ≡ At e
-      → Walk (one s) 93 s (λ (y : Items Span). answer (before (record { from = j; to = e }) y)) e (next (one s) 93 s false e) r
+      → Walk (one s) 93 s (λ (y : Items Span). answer (prepended (record { from = j; to = e }) y)) e (next (one s) 93 s false e) r
   past-string {i} {r} w j e q h =
       let b = bounds j (separator-in s 44 i (omega arith)) q in
       let c = bounds e (string-in s j) h in
@@ -122,7 +122,7 @@ module _ (s : List ℕ) {R : Type 0} (answer : Items Span → R) where
 
   -- the first string of the array whose bracket ends at i
   pub past-first : (i j e : ℕ) → j ≡ blanks s i → string s j ≡ At e
-      → Walk (one s) 93 s (λ (y : Items Span). answer (before (record { from = j; to = e }) y)) e (next (one s) 93 s false e) (answer (elements (value elementDepth s) s i))
+      → Walk (one s) 93 s (λ (y : Items Span). answer (prepended (record { from = j; to = e }) y)) e (next (one s) 93 s false e) (answer (elements (value elementDepth s) s i))
   unfolding elements
   past-first i j e b h =
       let c = bounds e (string-in s j) h in

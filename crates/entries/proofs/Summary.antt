@@ -13,15 +13,15 @@ use Rattle.json_tokens.specs.Tokens.{End, At, Broken, blanks, closing, separato
 use Rattle.json_tokens.specs.Ends.{endOf}
 use Rattle.json_tokens.proofs.Laws.{end-at}
 use Rattle.json_tokens.proofs.Bounds.{bounds, end-broken, blanks-in, closing-in, separator-in}
-use Rattle.json.specs.Json.{Span, Next, item, Items, items, noItems, before, itemsEnd, element, elements, value}
+use Rattle.json.specs.Json.{Span, Next, item, Items, items, noItems, prepended, itemsEnd, element, elements, value}
 use Rattle.json.proofs.Laws.{value-array, element-is, element-wrong}
 use Rattle.json.proofs.Bounds.{value-in}
 use Rattle.json.proofs.Walk.{Walk, walk-empty, walk-start, walk-wrong, walk-on, walk-last, walk-broken}
 use Rattle.entries.specs.Places.{andThen, all, contents, arrayAt}
 use Rattle.entries.specs.Rows.{Row, entriesDepth, entryDepth, entriesAt, badPrice, badSize}
-use Rattle.entries.specs.Summary.{foundOf, priceSpan, sizeSpan, foundAt, zeroSize, anyBroken, anyZero, noEntries, summaryOf, summaryAt}
+use Rattle.entries.specs.Summary.{entryPlaceOf, priceSpan, sizeSpan, entryPlaceAt, zeroSize, anyBroken, anyZero, noEntries, summaryOf, summaryAt}
 use Rattle.entries.specs.Counting.{Laid, withRow, counted}
-use Rattle.entries.specs.declared.Found.{Found}
+use Rattle.entries.specs.declared.EntryPlace.{EntryPlace}
 use Rattle.entries.specs.declared.Entries.{Entries}
 use Rattle.entries.proofs.Strings.{StringAt, Sound}
 use Rattle.entries.proofs.Counting.{or-false, counted-row, counted-other, counted-unfair, counted-few}
@@ -32,11 +32,11 @@ each s = element (value entryDepth s)
 
 -- an array of no entries
 abbrev pub nothing : ℕ → Entries
-nothing e = record { end = e; fair = true; count = 0; broken = false; zero = false }
+nothing e = record { end = e; «well_formed» = true; count = 0; broken = false; zero = false }
 
 -- what was counted, of an array that ends at e
 abbrev pub ended : Entries → ℕ → Entries
-ended sum e = record { end = e; fair = sum .fair; count = sum .count; broken = sum .broken; zero = sum .zero }
+ended sum e = record { end = e; «well_formed» = sum .«well_formed»; count = sum .count; broken = sum .broken; zero = sum .zero }
 
 or-assoc : (a b c : Bool) → (a || (b || c)) ≡ ((a || b) || c)
 or-assoc true b c = refl
@@ -44,27 +44,27 @@ or-assoc false b c = refl
 
 -- ---- what was counted, with the rows that are left
 added : List ℕ → Entries → ℕ → Reading (List Row) → Entries
-added s sum e (reads rows) = record { end = e; fair = true; count = sum .count + length rows; broken = sum .broken || anyBroken s rows; zero = sum .zero || anyZero s rows }
+added s sum e (reads rows) = record { end = e; «well_formed» = true; count = sum .count + length rows; broken = sum .broken || anyBroken s rows; zero = sum .zero || anyZero s rows }
 added s sum e refused = noEntries e
 
 module _ (entry : List ℕ → Span → Reading Row) (s : List ℕ) where
   pub summaryIn : Entries → Items Span → Entries
-  summaryIn sum (items l e) = cond (sum .fair) (added s sum e (all (entry s) l)) (noEntries e)
+  summaryIn sum (items l e) = cond (sum .«well_formed») (added s sum e (all (entry s) l)) (noEntries e)
   summaryIn sum noItems = noEntries 0
 
   module _ (sum : Entries) (l : List Span) (e : ℕ) where
-    in-fair : sum .fair ≡ true → summaryIn sum (items l e) ≡ added s sum e (all (entry s) l)
+    in-fair : sum .«well_formed» ≡ true → summaryIn sum (items l e) ≡ added s sum e (all (entry s) l)
     unfolding summaryIn
     in-fair h = rw (h, summaryIn)
 
-    in-unfair : sum .fair ≡ false → summaryIn sum (items l e) ≡ noEntries e
+    in-unfair : sum .«well_formed» ≡ false → summaryIn sum (items l e) ≡ noEntries e
     unfolding summaryIn
     in-unfair h = rw (h, summaryIn)
 
   -- ---- one entry: the span a, found as f
   module _ (sum : Entries) (a : Span) where
-    abbrev f : Found
-    f = foundOf (a .to) (entry s a)
+    abbrev f : EntryPlace
+    f = entryPlaceOf (a .to) (entry s a)
 
     row-on : (r : Row) → entry s a ≡ reads r → (l : List Span) (e : ℕ)
         → added s sum e (all (entry s) (a ∷ l)) ≡ added s (withRow s sum (a .to) (r .price) (r .size)) e (all (entry s) l)
@@ -79,41 +79,41 @@ module _ (entry : List ℕ → Span → Reading Row) (s : List ℕ) where
             rw (n, b, z)
         go refused = refl
 
-    more-unfair : sum .fair ≡ false → (l : List Span) (e : ℕ) → summaryIn sum (items (a ∷ l) e) ≡ summaryIn (counted s sum f) (items l e)
+    more-unfair : sum .«well_formed» ≡ false → (l : List Span) (e : ℕ) → summaryIn sum (items (a ∷ l) e) ≡ summaryIn (counted s sum f) (items l e)
     unfolding noEntries
     more-unfair h l e =
         in-unfair sum (a ∷ l) e h
         ∙ sym (ap (λ (c : Entries). summaryIn c (items l e)) (counted-unfair s sum f h) ∙ in-unfair (noEntries (f .end)) l e refl)
 
-    more-other : sum .fair ≡ true → entry s a ≡ refused → (l : List Span) (e : ℕ) → summaryIn sum (items (a ∷ l) e) ≡ summaryIn (counted s sum f) (items l e)
-    unfolding noEntries foundOf all andThen added
+    more-other : sum .«well_formed» ≡ true → entry s a ≡ refused → (l : List Span) (e : ℕ) → summaryIn sum (items (a ∷ l) e) ≡ summaryIn (counted s sum f) (items l e)
+    unfolding noEntries entryPlaceOf all andThen added
     more-other h q l e =
         let y : added s sum e (all (entry s) (a ∷ l)) ≡ noEntries e = rw q in
         in-fair sum (a ∷ l) e h ∙ y
-        ∙ sym (ap (λ (c : Entries). summaryIn c (items l e)) (counted-other s sum f h (ap (λ (y : Reading Row). foundOf (a .to) y .fair) q))
+        ∙ sym (ap (λ (c : Entries). summaryIn c (items l e)) (counted-other s sum f h (ap (λ (y : Reading Row). entryPlaceOf (a .to) y .«well_formed») q))
         ∙ in-unfair (noEntries (f .end)) l e refl)
 
-    more-row : sum .fair ≡ true → (r : Row) → entry s a ≡ reads r → (l : List Span) (e : ℕ) → summaryIn sum (items (a ∷ l) e) ≡ summaryIn (counted s sum f) (items l e)
-    unfolding withRow foundOf
+    more-row : sum .«well_formed» ≡ true → (r : Row) → entry s a ≡ reads r → (l : List Span) (e : ℕ) → summaryIn sum (items (a ∷ l) e) ≡ summaryIn (counted s sum f) (items l e)
+    unfolding withRow entryPlaceOf
     more-row h r q l e =
         in-fair sum (a ∷ l) e h ∙ row-on r q l e
-        ∙ sym (ap (λ (y : Reading Row). summaryIn (counted s sum (foundOf (a .to) y)) (items l e)) q
-        ∙ ap (λ (c : Entries). summaryIn c (items l e)) (counted-row s sum (foundOf (a .to) (reads r)) h refl)
+        ∙ sym (ap (λ (y : Reading Row). summaryIn (counted s sum (entryPlaceOf (a .to) y)) (items l e)) q
+        ∙ ap (λ (c : Entries). summaryIn c (items l e)) (counted-row s sum (entryPlaceOf (a .to) (reads r)) h refl)
         ∙ in-fair (withRow s sum (a .to) (r .price) (r .size)) l e refl)
 
     -- the entry, and then the rest
-    pub summary-more : (x : Items Span) → summaryIn sum (before a x) ≡ summaryIn (counted s sum f) x
-    unfolding before summaryIn
-    summary-more (items l e) = go (sum .fair) refl (entry s a) refl
+    pub summary-more : (x : Items Span) → summaryIn sum (prepended a x) ≡ summaryIn (counted s sum f) x
+    unfolding prepended summaryIn
+    summary-more (items l e) = go (sum .«well_formed») refl (entry s a) refl
       where
-        go : (b : Bool) → sum .fair ≡ b → (y : Reading Row) → entry s a ≡ y → summaryIn sum (items (a ∷ l) e) ≡ summaryIn (counted s sum f) (items l e)
+        go : (b : Bool) → sum .«well_formed» ≡ b → (y : Reading Row) → entry s a ≡ y → summaryIn sum (items (a ∷ l) e) ≡ summaryIn (counted s sum f) (items l e)
         go true h (reads r) q = more-row h r q l e
         go true h refused q = more-other h q l e
         go false h y q = more-unfair h l e
     summary-more noItems = refl
 
     -- ---- the entry is the last
-    last-fair : (c : Entries) (e : ℕ) → c .fair ≡ true → summaryIn c (items [] e) ≡ ended c e
+    last-fair : (c : Entries) (e : ℕ) → c .«well_formed» ≡ true → summaryIn c (items [] e) ≡ ended c e
     unfolding all added anyBroken anyZero
     last-fair c e h =
         let n : c .count + 0 ≡ c .count = omega arith in
@@ -124,15 +124,15 @@ module _ (entry : List ℕ → Span → Reading Row) (s : List ℕ) where
     unfolding noEntries summaryIn
     last-none c e k h = rw h
 
-    last-counted : (e : ℕ) (b d : Bool) → sum .fair ≡ b → f .fair ≡ d → summaryIn (counted s sum f) (items [] e) ≡ ended (counted s sum f) e
+    last-counted : (e : ℕ) (b d : Bool) → sum .«well_formed» ≡ b → f .«well_formed» ≡ d → summaryIn (counted s sum f) (items [] e) ≡ ended (counted s sum f) e
     unfolding withRow
-    last-counted e true true h g = last-fair (counted s sum f) e (ap (λ (c : Entries). c .fair) (counted-row s sum f h g))
+    last-counted e true true h g = last-fair (counted s sum f) e (ap (λ (c : Entries). c .«well_formed») (counted-row s sum f h g))
     last-counted e true false h g = last-none (counted s sum f) e (f .end) (counted-other s sum f h g)
     last-counted e false d h g = last-none (counted s sum f) e (f .end) (counted-unfair s sum f h)
 
     pub summary-last : (e : ℕ) → summaryIn sum (items (a ∷ []) e) ≡ ended (counted s sum f) e
-    unfolding before
-    summary-last e = summary-more (items [] e) ∙ last-counted e (sum .fair) (f .fair) refl refl
+    unfolding prepended
+    summary-last e = summary-more (items [] e) ∙ last-counted e (sum .«well_formed») (f .«well_formed») refl refl
 
   -- ---- the value at a position
   module _ (at : ℕ) where
@@ -199,45 +199,45 @@ module _ (entry : List ℕ → Span → Reading Row) (s : List ℕ) where
             (end-broken e (omega arith) (closing-in s 93 (at + 1) (omega arith)) h z))
 
   -- ---- what is told of the entry at a position
-  module _ (i : ℕ) (g : Found) (told : g ≡ foundAt entry s i) where
+  module _ (i : ℕ) (g : EntryPlace) (told : g ≡ entryPlaceAt entry s i) where
     pub found-end : g .end ≡ endOf (value entryDepth s i)
-    unfolding foundAt endOf foundOf
-    found-end = ap (λ (x : Found). x .end) told ∙ go (value entryDepth s i)
+    unfolding entryPlaceAt endOf entryPlaceOf
+    found-end = ap (λ (x : EntryPlace). x .end) told ∙ go (value entryDepth s i)
       where
-        at-value : (e : ℕ) (y : Reading Row) → foundOf e y .end ≡ e
+        at-value : (e : ℕ) (y : Reading Row) → entryPlaceOf e y .end ≡ e
         at-value e (reads r) = refl
         at-value e refused = refl
 
-        go : (x : End) → (elim x as (λ y. Found) [ At e ↦ foundOf e (entry s (record { from = i; to = e })) | Broken ↦ foundOf 0 refused ]) .end ≡ endOf x
+        go : (x : End) → (elim x as (λ y. EntryPlace) [ At e ↦ entryPlaceOf e (entry s (record { from = i; to = e })) | Broken ↦ entryPlaceOf 0 refused ]) .end ≡ endOf x
         go (At e) = at-value e (entry s (record { from = i; to = e }))
         go Broken = refl
 
     -- a fair entry's price and size are strings
-    pub found-strings : Sound entry s → g .fair ≡ true
+    pub found-strings : Sound entry s → g .«well_formed» ≡ true
         → StringAt s (priceSpan g) × StringAt s (sizeSpan g)
-    unfolding foundAt foundOf
+    unfolding entryPlaceAt entryPlaceOf
     found-strings sound fair = go (value entryDepth s i) told
       where
-        at-value : (e : ℕ) (y : Reading Row) → entry s (record { from = i; to = e }) ≡ y → g ≡ foundOf e y
+        at-value : (e : ℕ) (y : Reading Row) → entry s (record { from = i; to = e }) ≡ y → g ≡ entryPlaceOf e y
             → StringAt s (priceSpan g) × StringAt s (sizeSpan g)
         at-value e (reads r) q h = rw h (sound (record { from = i; to = e }) r q)
-        at-value e refused q h = absurd (true≢false (sym fair ∙ ap (λ (x : Found). x .fair) h))
+        at-value e refused q h = absurd (true≢false (sym fair ∙ ap (λ (x : EntryPlace). x .«well_formed») h))
 
-        go : (x : End) → g ≡ elim x [ At e ↦ foundOf e (entry s (record { from = i; to = e })) | Broken ↦ foundOf 0 refused ]
+        go : (x : End) → g ≡ elim x [ At e ↦ entryPlaceOf e (entry s (record { from = i; to = e })) | Broken ↦ entryPlaceOf 0 refused ]
             → StringAt s (priceSpan g) × StringAt s (sizeSpan g)
         go (At e) h = at-value e (entry s (record { from = i; to = e })) refl h
-        go Broken h = absurd (true≢false (sym fair ∙ ap (λ (x : Found). x .fair) h))
+        go Broken h = absurd (true≢false (sym fair ∙ ap (λ (x : EntryPlace). x .«well_formed») h))
 
     pub found-laid : Sound entry s → Laid s g
     found-laid sound fair = let c = found-strings sound fair in ((c .0 .room, c .0 .inside), (c .1 .room, c .1 .inside))
 
-    found-is : (e : ℕ) → value entryDepth s i ≡ At e → g ≡ foundOf e (entry s (record { from = i; to = e }))
-    unfolding foundAt
-    found-is e v = told ∙ rw (v, foundAt)
+    found-is : (e : ℕ) → value entryDepth s i ≡ At e → g ≡ entryPlaceOf e (entry s (record { from = i; to = e }))
+    unfolding entryPlaceAt
+    found-is e v = told ∙ rw (v, entryPlaceAt)
 
-    pub found-broken : g .end ≡ 0 → g ≡ foundOf 0 refused
-    unfolding foundAt
-    found-broken z = told ∙ rw (end-broken (g .end) (omega arith) (value-in entryDepth s i) found-end z, foundAt)
+    pub found-broken : g .end ≡ 0 → g ≡ entryPlaceOf 0 refused
+    unfolding entryPlaceAt
+    found-broken z = told ∙ rw (end-broken (g .end) (omega arith) (value-in entryDepth s i) found-end z, entryPlaceAt)
 
     module _ (n : g .end ≡ 0 → ⊥) where
       ends-at : value entryDepth s i ≡ At (g .end)
@@ -260,7 +260,7 @@ module _ (entry : List ℕ → Span → Reading Row) (s : List ℕ) where
 
       module _ (n : g .end ≡ 0 → ⊥) where
         module _ (m : Entries) (c : m ≡ counted s sum g) where
-          counts : m ≡ counted s sum (foundOf (g .end) (entry s (here n)))
+          counts : m ≡ counted s sum (entryPlaceOf (g .end) (entry s (here n)))
           counts = c ∙ ap (counted s sum) (found-is (g .end) (ends-at n))
 
           pub each-few : sum .count ≤ i → m .count ≤ g .end

@@ -12,9 +12,9 @@ use Rattle.json_tokens.specs.Tokens.{At, string}
 use Rattle.json.specs.Json.{Span}
 use Rattle.entries.specs.Places.{inner}
 use Rattle.entries.specs.Rows.{entryFor, numberAt}
-use Rattle.entries.specs.Summary.{priceSpan, sizeSpan, foundAt}
+use Rattle.entries.specs.Summary.{priceSpan, sizeSpan, entryPlaceAt}
 use Rattle.entries.specs.Front.{Two}
-use Rattle.entries.specs.declared.Found.{Found}
+use Rattle.entries.specs.declared.EntryPlace.{EntryPlace}
 use Rattle.entries.specs.declared.Amounts.{Amounts}
 use Rattle.entries.specs.declared.QuotedDecimal.{QuotedDecimal}
 
@@ -27,7 +27,7 @@ pub record QuotedAt (s : List ℕ) (at : ℕ) (r : QuotedDecimal) : Type 0 where
 
 -- The array at a position begins with two strings, which are the decimals that r has; the second ends where r says.
 pub record TwoDecimals (s : List ℕ) (at : ℕ) (r : Amounts) : Type 0 where
-  pub found : Found
+  pub found : EntryPlace
   pub two : Two s at found
   pub ends : found .end ≡ r .end
   pub price : read (inner s (priceSpan found)) ≡ reads (number (r .price))
@@ -41,6 +41,6 @@ pub record NumberOf (s : List ℕ) (a : Span) (d : Decimal) : Type 0 where
 
 -- The price and the size of the entry that is found at a position, and its end.
 pub record EntryAt (m : Bool) (s : List ℕ) (at : ℕ) (r : Amounts) : Type 0 where
-  pub end : r .end ≡ foundAt (entryFor m) s at .end
-  pub price : NumberOf s (priceSpan (foundAt (entryFor m) s at)) (r .price)
-  pub size : NumberOf s (sizeSpan (foundAt (entryFor m) s at)) (r .size)
+  pub end : r .end ≡ entryPlaceAt (entryFor m) s at .end
+  pub price : NumberOf s (priceSpan (entryPlaceAt (entryFor m) s at)) (r .price)
+  pub size : NumberOf s (sizeSpan (entryPlaceAt (entryFor m) s at)) (r .size)

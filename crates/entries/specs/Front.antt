@@ -12,11 +12,11 @@ use Rattle.json_tokens.specs.Tokens.{End, At, Broken, blanks, separator, string
 use Rattle.json_tokens.specs.Ends.{endOf}
 use Rattle.json.specs.Json.{Span, list, itemsEnd, element, value}
 use Rattle.entries.specs.Rows.{Row, entryDepth, elementDepth, entryFor}
-use Rattle.entries.specs.Summary.{foundOf, priceSpan, sizeSpan, foundAt}
-use Rattle.entries.specs.declared.Found.{Found}
+use Rattle.entries.specs.Summary.{entryPlaceOf, priceSpan, sizeSpan, entryPlaceAt}
+use Rattle.entries.specs.declared.EntryPlace.{EntryPlace}
 
 -- An array begins at `at` with two strings, the second of which ends at f's end.
-pub record Two (s : List ℕ) (at : ℕ) (f : Found) : Type 0 where
+pub record Two (s : List ℕ) (at : ℕ) (f : EntryPlace) : Type 0 where
   pub opens : byteAt s at ≡ openArray
   pub begins : f .«price_from» ≡ blanks s (at + 1)
   pub price : string s (f .«price_from») ≡ At (f .«price_to»)
@@ -25,9 +25,9 @@ pub record Two (s : List ℕ) (at : ℕ) (f : Found) : Type 0 where
   pub ends : f .end ≡ f .«size_to»
 
 -- f tells whether two strings are there; without them the value is an entry of neither dialect.
-pub record Front (s : List ℕ) (at : ℕ) (f : Found) : Type 0 where
-  pub two : f .fair ≡ true → Two s at f
-  pub neither : f .fair ≡ false → (m : Bool) (to : ℕ) → entryFor m s (record { from = at; to = to }) ≡ refused
+pub record Front (s : List ℕ) (at : ℕ) (f : EntryPlace) : Type 0 where
+  pub two : f .«well_formed» ≡ true → Two s at f
+  pub neither : f .«well_formed» ≡ false → (m : Bool) (to : ℕ) → entryFor m s (record { from = at; to = to }) ≡ refused
 
 -- A number as an end: nothing ends at 0.
 unfoldable pub endIn : ℕ → End
@@ -40,10 +40,10 @@ RestEnd s at r = (n : ℕ) → length s ≤ n + at → itemsEnd (list (element (
 
 -- An entry whose two strings end at `at` ends at r; an r of 0 says that what follows is no entry's.
 pub record EntryEnd (entry : List ℕ → Span → Reading Row) (s : List ℕ) (at r : ℕ) : Type 0 where
-  pub some : (r ≡ 0 → ⊥) → (from : ℕ) (f : Found) → Two s from f → f .end ≡ at → foundAt entry s from ≡ foundOf r (reads (record { price = priceSpan f; size = sizeSpan f }))
-  pub none : r ≡ 0 → (from : ℕ) (f : Found) → Two s from f → f .end ≡ at → (to : ℕ) → entry s (record { from = from; to = to }) ≡ refused
+  pub some : (r ≡ 0 → ⊥) → (from : ℕ) (f : EntryPlace) → Two s from f → f .end ≡ at → entryPlaceAt entry s from ≡ entryPlaceOf r (reads (record { price = priceSpan f; size = sizeSpan f }))
+  pub none : r ≡ 0 → (from : ℕ) (f : EntryPlace) → Two s from f → f .end ≡ at → (to : ℕ) → entry s (record { from = from; to = to }) ≡ refused
 
 -- The entry at `at` whose front is f, if it ends at e; an e of 0 says that it is none.
-pub record EndedAt (s : List ℕ) (at : ℕ) (f : Found) (e : ℕ) (r : Found) : Type 0 where
-  pub some : (e ≡ 0 → ⊥) → r ≡ foundOf e (reads (record { price = priceSpan f; size = sizeSpan f }))
-  pub none : e ≡ 0 → r ≡ foundOf (endOf (value entryDepth s at)) refused
+pub record EndedAt (s : List ℕ) (at : ℕ) (f : EntryPlace) (e : ℕ) (r : EntryPlace) : Type 0 where
+  pub some : (e ≡ 0 → ⊥) → r ≡ entryPlaceOf e (reads (record { price = priceSpan f; size = sizeSpan f }))
+  pub none : e ≡ 0 → r ≡ entryPlaceOf (endOf (value entryDepth s at)) refused

@@ -11,26 +11,26 @@ use Rattle.json_tokens.specs.Tokens.{At, Broken}
 use Rattle.json.specs.Json.{Span, value}
 use Rattle.entries.specs.Places.{inner}
 use Rattle.entries.specs.Rows.{Row, entriesDepth, entryDepth, entriesAt, badPrice, badSize}
-use Rattle.entries.specs.declared.Found.{Found}
+use Rattle.entries.specs.declared.EntryPlace.{EntryPlace}
 use Rattle.entries.specs.declared.Entries.{Entries}
 
 -- ---- one entry
 
 -- The value ends at `end`, and is the entry that was read of it, or none.
-unfoldable pub foundOf : ℕ → Reading Row → Found
-foundOf end (reads r) = record { end = end; fair = true; «price_from» = r .price .from; «price_to» = r .price .to; «size_from» = r .size .from; «size_to» = r .size .to }
-foundOf end refused = record { end = end; fair = false; «price_from» = 0; «price_to» = 0; «size_from» = 0; «size_to» = 0 }
+unfoldable pub entryPlaceOf : ℕ → Reading Row → EntryPlace
+entryPlaceOf end (reads r) = record { end = end; «well_formed» = true; «price_from» = r .price .from; «price_to» = r .price .to; «size_from» = r .size .from; «size_to» = r .size .to }
+entryPlaceOf end refused = record { end = end; «well_formed» = false; «price_from» = 0; «price_to» = 0; «size_from» = 0; «size_to» = 0 }
 
 -- The texts of the price and the size that were found.
-abbrev pub priceSpan : Found → Span
+abbrev pub priceSpan : EntryPlace → Span
 priceSpan f = record { from = f .«price_from»; to = f .«price_to» }
 
-abbrev pub sizeSpan : Found → Span
+abbrev pub sizeSpan : EntryPlace → Span
 sizeSpan f = record { from = f .«size_from»; to = f .«size_to» }
 
 -- The value at a position as an entry; `entry` is K's or M's.
-unfoldable pub foundAt : (List ℕ → Span → Reading Row) → List ℕ → ℕ → Found
-foundAt entry s at = elim (value entryDepth s at) [ At e ↦ foundOf e (entry s (record { from = at; to = e })) | Broken ↦ foundOf 0 refused ]
+unfoldable pub entryPlaceAt : (List ℕ → Span → Reading Row) → List ℕ → ℕ → EntryPlace
+entryPlaceAt entry s at = elim (value entryDepth s at) [ At e ↦ entryPlaceOf e (entry s (record { from = at; to = e })) | Broken ↦ entryPlaceOf 0 refused ]
 
 -- ---- an array of entries
 
@@ -53,11 +53,11 @@ anyZero s (r ∷ l) = zeroSize s (r .size) || anyZero s l
 
 -- A value that is no array of entries.
 unfoldable pub noEntries : ℕ → Entries
-noEntries end = record { end = end; fair = false; count = 0; broken = false; zero = false }
+noEntries end = record { end = end; «well_formed» = false; count = 0; broken = false; zero = false }
 
 -- The value ends at `end`, and is an array of the entries that were read of it, or none.
 unfoldable pub summaryOf : List ℕ → ℕ → Reading (List Row) → Entries
-summaryOf s end (reads rows) = record { end = end; fair = true; count = length rows; broken = anyBroken s rows; zero = anyZero s rows }
+summaryOf s end (reads rows) = record { end = end; «well_formed» = true; count = length rows; broken = anyBroken s rows; zero = anyZero s rows }
 summaryOf s end refused = noEntries end
 
 -- The value at a position as an array of entries.

@@ -10,7 +10,7 @@
 // Example: the price of an entry of dialect K, `["5541.30","2.50700000","1534614248.123678"]`.
 //
 //     let found = entries::entry_at(s, at, false);
-//     if found.fair {
+//     if found.well_formed {
 //         let price = entries::parse_quoted(s, found.price_from, found.price_to);
 //         ..
 //     }
@@ -38,7 +38,7 @@ ghost use Rattle.json_tokens.specs.Ends.{endOf};
 ghost use Rattle.json.specs.Json.{value};
 ghost use Rattle.entries.specs.Places.{inner};
 ghost use Rattle.entries.specs.Rows.{entryDepth, entryK, entryFor, isBadPrice, isBadSize};
-ghost use Rattle.entries.specs.Summary.{foundOf, foundAt, isZeroSize, noEntries, summaryAt};
+ghost use Rattle.entries.specs.Summary.{entryPlaceOf, entryPlaceAt, isZeroSize, noEntries, summaryAt};
 ghost use Rattle.entries.specs.Arrays.{firstAt};
 ghost use Rattle.entries.specs.Counting.{Quoted, Placed, Laid, withNumbers, counted};
 ghost use Rattle.entries.specs.Front.{Front, RestEnd, EntryEnd, EndedAt};
@@ -55,7 +55,7 @@ const ENTRY_DEPTH: usize = ENTRIES_DEPTH - 1;
 const ELEMENT_DEPTH: usize = ENTRY_DEPTH - 1;
 
 // What stands at a position, as an entry.
-pub struct Found {
+pub struct EntryPlace {
     // Past the value, or 0 where it is not JSON.
     pub end: usize,
     // Where the texts of the price and the size lie, quotes included.
@@ -64,7 +64,7 @@ pub struct Found {
     pub size_from: usize,
     pub size_to: usize,
     // Whether the value is an entry. If not, the positions of the texts are 0.
-    pub fair: bool,
+    pub well_formed: bool,
 }
 
 // What stands at a position, as an array of entries.
@@ -73,7 +73,7 @@ pub struct Entries {
     pub end: usize,
     pub count: usize,
     // Whether the value is an array of entries. If not, the rest but for the end says nothing.
-    pub fair: bool,
+    pub well_formed: bool,
     // Whether some price is no decimal or zero, or some size is no decimal.
     pub broken: bool,
     // Whether some size is zero.
@@ -126,11 +126,11 @@ pub fn entries_at(s: &[u8], at: usize, m: bool) -> Entries
 }
 
 // The value at `at` as an entry.
-pub fn entry_at(s: &[u8], at: usize, m: bool) -> Found
-    ensures { λ r. ⌜ r ≡ foundAt (entryFor m) (now (s .entry)) at ⌝ }
+pub fn entry_at(s: &[u8], at: usize, m: bool) -> EntryPlace
+    ensures { λ r. ⌜ r ≡ entryPlaceAt (entryFor m) (now (s .entry)) at ⌝ }
 {
     let front = two_strings(s, at);
-    if front.fair {
+    if front.well_formed {
         if m {
             return ended_at(s, at, front, array_close_end(s, front.end));
         }
@@ -151,7 +151,7 @@ pub fn first_at(s: &[u8]) -> usize
 
 // The price and the size of the entry at `at`, and the position past it. Most often they are decimals, read on the way to its end.
 pub fn read_entry(s: &[u8], at: usize, m: bool) -> Amounts
-    requires { ⌜ Placed (now s) (foundAt (entryFor m) (now s) at) ⌝ }
+    requires { ⌜ Placed (now s) (entryPlaceAt (entryFor m) (now s) at) ⌝ }
     ensures { λ r. ⌜ EntryAt m (now (s .entry)) at r ⌝ }
 {
     let front = two_amounts(s, at);
@@ -207,7 +207,7 @@ pub fn is_bad_size(size: Parsed, snapshot: bool) -> bool
 // any other is found first. Where the value there is not JSON, the end is 0.
 fn next_entry(s: &[u8], at: usize, m: bool, sum: Entries) -> Entries
     requires { ⌜ sum .count ≤ at ⌝ }
-    ensures { λ r. ⌜ r ≡ counted (now (s .entry)) sum (foundAt (entryFor m) (now (s .entry)) at) ⌝ }
+    ensures { λ r. ⌜ r ≡ counted (now (s .entry)) sum (entryPlaceAt (entryFor m) (now (s .entry)) at) ⌝ }
 {
     let front = two_amounts(s, at);
     if 0 < front.end {
@@ -224,19 +224,19 @@ fn next_entry(s: &[u8], at: usize, m: bool, sum: Entries) -> Entries
 }
 
 // What was counted, and one entry more.
-fn counted(s: &[u8], sum: Entries, found: Found) -> Entries
+fn counted(s: &[u8], sum: Entries, found: EntryPlace) -> Entries
     requires { ⌜ Laid (now s) found × (sum .count + 1 ≤ found .end) ⌝ }
     ensures { λ r. ⌜ r ≡ counted (now (s .entry)) sum found ⌝ }
 {
     let end = found.end;
-    if sum.fair {
-        if found.fair {
+    if sum.well_formed {
+        if found.well_formed {
             let price = parse_quoted(s, found.price_from, found.price_to);
             let size = parse_quoted(s, found.size_from, found.size_to);
             let bad = either(is_bad_price(price), is_bad_size(size, false));
             return Entries {
                 end,
-                fair: true,
+                well_formed: true,
                 count: sum.count + 1,
                 broken: either(sum.broken, bad),
                 zero: either(sum.zero, is_zero_size(size)),
@@ -252,12 +252,12 @@ fn with_amounts(sum: Entries, front: Amounts, end: usize) -> Entries
     requires { ⌜ sum .count + 1 ≤ end ⌝ }
     ensures { λ r. ⌜ r ≡ withNumbers sum end (number (front .price)) (number (front .size)) ⌝ }
 {
-    if sum.fair {
+    if sum.well_formed {
         let price = front.price;
         let size = front.size;
         return Entries {
             end,
-            fair: true,
+            well_formed: true,
             count: sum.count + 1,
             broken: either(sum.broken, decimal::is_zero(price)),
             zero: either(sum.zero, decimal::is_zero(size)),
@@ -278,11 +278,11 @@ fn is_zero_size(size: Parsed) -> bool
 
 // What was counted of an array that ends at `end`.
 fn closed(sum: Entries, end: usize) -> Entries
-    ensures { λ r. ⌜ r ≡ record { end = end; fair = sum .fair; count = sum .count; broken = sum .broken; zero = sum .zero } ⌝ }
+    ensures { λ r. ⌜ r ≡ record { end = end; «well_formed» = sum .«well_formed»; count = sum .count; broken = sum .broken; zero = sum .zero } ⌝ }
 {
     Entries {
         end,
-        fair: sum.fair,
+        well_formed: sum.well_formed,
         count: sum.count,
         broken: sum.broken,
         zero: sum.zero,
@@ -291,11 +291,11 @@ fn closed(sum: Entries, end: usize) -> Entries
 
 // An array of no entries that ends at `end`.
 fn empty(end: usize) -> Entries
-    ensures { λ r. ⌜ r ≡ record { end = end; fair = true; count = 0; broken = false; zero = false } ⌝ }
+    ensures { λ r. ⌜ r ≡ record { end = end; «well_formed» = true; count = 0; broken = false; zero = false } ⌝ }
 {
     Entries {
         end,
-        fair: true,
+        well_formed: true,
         count: 0,
         broken: false,
         zero: false,
@@ -308,7 +308,7 @@ fn refused(end: usize) -> Entries
 {
     Entries {
         end,
-        fair: false,
+        well_formed: false,
         count: 0,
         broken: false,
         zero: false,
@@ -318,7 +318,7 @@ fn refused(end: usize) -> Entries
 // ---- one entry
 
 // The two strings that the array at `at` begins with, and where the second of them ends.
-fn two_strings(s: &[u8], at: usize) -> Found
+fn two_strings(s: &[u8], at: usize) -> EntryPlace
     ensures { λ r. ⌜ Front (now (s .entry)) at r ⌝ }
 {
     if byte_at(s, at) != OPEN_ARRAY {
@@ -337,9 +337,9 @@ fn two_strings(s: &[u8], at: usize) -> Found
     if size_to == 0 {
         return no_entry(0);
     }
-    Found {
+    EntryPlace {
         end: size_to,
-        fair: true,
+        well_formed: true,
         price_from,
         price_to,
         size_from,
@@ -392,22 +392,22 @@ fn rest_end(s: &[u8], at: usize) -> usize
 }
 
 // The value at `at`, which is no entry.
-fn passed_over(s: &[u8], at: usize) -> Found
-    ensures { λ r. ⌜ r ≡ foundOf (endOf (value entryDepth (now (s .entry)) at)) refused ⌝ }
+fn passed_over(s: &[u8], at: usize) -> EntryPlace
+    ensures { λ r. ⌜ r ≡ entryPlaceOf (endOf (value entryDepth (now (s .entry)) at)) refused ⌝ }
 {
     no_entry(value_end(s, at, ENTRY_DEPTH))
 }
 
 // The entry at `at` that has this front and ends at `end`; an end of 0 says that it is none, and the value is passed over.
-fn ended_at(s: &[u8], at: usize, front: Found, end: usize) -> Found
+fn ended_at(s: &[u8], at: usize, front: EntryPlace, end: usize) -> EntryPlace
     ensures { λ r. ⌜ EndedAt (now (s .entry)) at front end r ⌝ }
 {
     if end == 0 {
         return passed_over(s, at);
     }
-    Found {
+    EntryPlace {
         end,
-        fair: true,
+        well_formed: true,
         price_from: front.price_from,
         price_to: front.price_to,
         size_from: front.size_from,
@@ -416,12 +416,12 @@ fn ended_at(s: &[u8], at: usize, front: Found, end: usize) -> Found
 }
 
 // A value that ends at `end` and is no entry.
-fn no_entry(end: usize) -> Found
-    ensures { λ r. ⌜ r ≡ foundOf end refused ⌝ }
+fn no_entry(end: usize) -> EntryPlace
+    ensures { λ r. ⌜ r ≡ entryPlaceOf end refused ⌝ }
 {
-    Found {
+    EntryPlace {
         end,
-        fair: false,
+        well_formed: false,
         price_from: 0,
         price_to: 0,
         size_from: 0,
@@ -433,7 +433,7 @@ fn no_entry(end: usize) -> Found
 
 // The price and the size of the entry at `at`, whatever its strings hold.
 fn any_entry(s: &[u8], at: usize, m: bool) -> Amounts
-    requires { ⌜ Placed (now s) (foundAt (entryFor m) (now s) at) ⌝ }
+    requires { ⌜ Placed (now s) (entryPlaceAt (entryFor m) (now s) at) ⌝ }
     ensures { λ r. ⌜ EntryAt m (now (s .entry)) at r ⌝ }
 {
     let found = entry_at(s, at, m);

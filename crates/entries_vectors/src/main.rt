@@ -7,7 +7,7 @@
 //
 // Other lines are headings. What is to come was worked out apart from the crate, by tools/entries_vectors.py.
 use entries::Entries;
-use entries::Found;
+use entries::EntryPlace;
 use libc::STDIN_FILENO;
 use libc::STDOUT_FILENO;
 use lines::LINE_END;
@@ -60,9 +60,9 @@ fn line(s: &[u8]) {
     }
 }
 
-fn tell_entry(s: &[u8], found: Found) {
+fn tell_entry(s: &[u8], found: EntryPlace) {
     end(found.end);
-    if found.fair {
+    if found.well_formed {
         part(s, found.price_from, found.price_to);
         part(s, found.size_from, found.size_to);
     }
@@ -70,7 +70,7 @@ fn tell_entry(s: &[u8], found: Found) {
 
 fn tell_entries(sum: Entries) {
     end(sum.end);
-    if sum.fair {
+    if sum.well_formed {
         write(b" entries ");
         io::print_decimal(STDOUT_FILENO, sum.count as u64);
     }

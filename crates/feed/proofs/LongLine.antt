@@ -8,14 +8,14 @@ use borrow.Author.Tests.{lt-leb, leb-true, leb-false, ltb-true}
 use lib.Dec.{leb, ltb, eqb}
 use lib.ListN.{length, take, drop, length-drop}
 use lib.Seq.{take-all, length-take-le}
-use Rattle.lines.specs.Lines.{before}
+use Rattle.lines.specs.Lines.{bytesBefore}
 use Rattle.decimal.specs.Digits.{Reading, reads, refused}
 use Rattle.decimal.specs.Whole.{readWhole, maxWholeNumber}
 use Rattle.decimal.proofs.Scan.{whole-long}
 use Rattle.decimal.proofs.WholeNumber.{whole-wrong}
-use Rattle.settings.specs.Settings.{Terms, shut, goodDepth, goodName, good, kept}
+use Rattle.settings.specs.Settings.{Config, shut, goodDepth, goodName, good, kept}
 use Rattle.settings.specs.declared.Dialect.{Dialect}
-use Rattle.line_text.specs.Opening.{blank, dialectOf, withDepth, depthAndName, lineOne}
+use Rattle.line_text.specs.Opening.{space, dialectOf, withDepth, depthAndName, lineOne}
 use Rattle.reference.specs.Reference.{opened}
 use Rattle.feed.specs.Feed.{carried}
 
@@ -43,37 +43,37 @@ no-depth dialect name e = ap (λ (x : Reading ℕ). good (withDepth dialect x na
 -- a depth of too many digits, or a name of too many bytes
 bad-depth : (dialect : Dialect) (s : List ℕ) → 36 < length s → good (depthAndName dialect s) ≡ false
 unfolding depthAndName
-bad-depth dialect s h = at (ltb (before blank s) (length s)) refl
+bad-depth dialect s h = at (ltb (bytesBefore space s) (length s)) refl
   where
-    depth : (b : Bool) → leb (before blank s) maxWholeNumber ≡ b → before blank s < length s →
-        good (withDepth dialect (readWhole (take (before blank s) s)) (drop (suc (before blank s)) s)) ≡ false
+    depth : (b : Bool) → leb (bytesBefore space s) maxWholeNumber ≡ b → bytesBefore space s < length s →
+        good (withDepth dialect (readWhole (take (bytesBefore space s) s)) (drop (suc (bytesBefore space s)) s)) ≡ false
     depth true e l =
-        let k : before blank s ≤ maxWholeNumber = leb-true (before blank s) maxWholeNumber e in
-        let n = length-drop (suc (before blank s)) s in
+        let k : bytesBefore space s ≤ maxWholeNumber = leb-true (bytesBefore space s) maxWholeNumber e in
+        let n = length-drop (suc (bytesBefore space s)) s in
         let g = h in
-        long-bad dialect (readWhole (take (before blank s) s)) (drop (suc (before blank s)) s) (omega arith)
+        long-bad dialect (readWhole (take (bytesBefore space s) s)) (drop (suc (bytesBefore space s)) s) (omega arith)
     depth false e l =
-        let k : maxWholeNumber < before blank s = leb-false (before blank s) maxWholeNumber e in
-        let n : length (take (before blank s) s) ≡ before blank s = length-take-le (before blank s) s (omega arith) in
-        no-depth dialect (drop (suc (before blank s)) s) (whole-wrong (take (before blank s) s) (whole-long maxWholeNumber (take (before blank s) s) (omega arith)))
+        let k : maxWholeNumber < bytesBefore space s = leb-false (bytesBefore space s) maxWholeNumber e in
+        let n : length (take (bytesBefore space s) s) ≡ bytesBefore space s = length-take-le (bytesBefore space s) s (omega arith) in
+        no-depth dialect (drop (suc (bytesBefore space s)) s) (whole-wrong (take (bytesBefore space s) s) (whole-long maxWholeNumber (take (bytesBefore space s) s) (omega arith)))
 
-    at : (b : Bool) → ltb (before blank s) (length s) ≡ b → good (depthAndName dialect s) ≡ false
+    at : (b : Bool) → ltb (bytesBefore space s) (length s) ≡ b → good (depthAndName dialect s) ≡ false
     at true e =
         rw (e, depthAndName)
-        (depth (leb (before blank s) maxWholeNumber) refl (ltb-true (before blank s) (length s) e))
+        (depth (leb (bytesBefore space s) maxWholeNumber) refl (ltb-true (bytesBefore space s) (length s) e))
     at false e = rw (e, depthAndName) shut-bad
 
 pub bad-line : (line : List ℕ) → 38 < length line → good (lineOne line) ≡ false
 unfolding lineOne
 bad-line [] h = absurd (omega (arith, h))
 bad-line (letter ∷ []) h = shut-bad
-bad-line (letter ∷ (c ∷ s)) h = at (eqb c blank) refl
+bad-line (letter ∷ (c ∷ s)) h = at (eqb c space) refl
   where
-    at : (b : Bool) → eqb c blank ≡ b → good (lineOne (letter ∷ (c ∷ s))) ≡ false
+    at : (b : Bool) → eqb c space ≡ b → good (lineOne (letter ∷ (c ∷ s))) ≡ false
     at true e = rw (e, lineOne) (bad-depth (dialectOf letter) s (let l = h in omega arith))
     at false e = rw (e, lineOne) shut-bad
 
-opened-bad : (t u : Terms) → good t ≡ false → good u ≡ false → opened t ≡ opened u
+opened-bad : (t u : Config) → good t ≡ false → good u ≡ false → opened t ≡ opened u
 unfolding opened kept
 opened-bad t u e f = rw (e, f)
 

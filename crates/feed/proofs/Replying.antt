@@ -8,15 +8,15 @@ use native.Mathlib.Omega.{arith}
 use lib.ListN.{length, take, drop, length-drop}
 use lib.Seq.{take-all}
 use Rattle.line_text.specs.Reply.{replyText}
-use Rattle.answer.specs.Answers.{number, isTaken}
+use Rattle.answer.specs.Answers.{answerNumber, isTaken}
 use Rattle.answer.specs.declared.Answer.{Answer}
 use Rattle.answer.specs.declared.Answer.the-variants.{Taken, NoSnapshot}
 use Rattle.answer.specs.declared.Answer.the-variants as answer·
-use Rattle.reference.specs.Reference.{Status, shut, waiting, live, isShut, isLive, Reference, hear, Value, counts, stands, asked, ifTaken, howMany, does}
-use Rattle.book.specs.Shown.{shows, Told, AnswersCounts}
+use Rattle.reference.specs.Reference.{Status, shut, waiting, live, isShut, isLive, Reference, receive, Value, counts, stands, asked, ifTaken, howMany, does}
+use Rattle.book.specs.Shown.{shows, Received, AnswersCounts}
 use Rattle.reference.specs.declared.Scope.the-variants.{Current}
 use Rattle.book.specs.declared.Step.{Step}
-use Rattle.book.specs.declared.Counted.{Counted}
+use Rattle.book.specs.declared.CountsReply.{CountsReply}
 use Rattle.feed.specs.Feed.{replyTo}
 
 -- the answer to a question on current levels
@@ -39,8 +39,8 @@ module _ (answer : Answer) (m n : ℕ) where
   unfolding replyText
   dashes bids asks = refl
 
-  by-status : (status : Status) (bids asks : ℕ) → counts bids asks ≡ counted status m n → replyText answer (eqb (number (askedOf status)) 0) bids asks ≡ replyText answer (isLive status) m n
-  unfolding askedOf counted isShut isLive number ifTaken isTaken
+  by-status : (status : Status) (bids asks : ℕ) → counts bids asks ≡ counted status m n → replyText answer (eqb (answerNumber (askedOf status)) 0) bids asks ≡ replyText answer (isLive status) m n
+  unfolding askedOf counted isShut isLive answerNumber ifTaken isTaken
   by-status shut bids asks v = dashes bids asks
   by-status waiting bids asks v = dashes bids asks
   by-status live bids asks v =
@@ -49,11 +49,11 @@ module _ (answer : Answer) (m n : ℕ) where
       ap₂ (replyText answer true) b a
 
 -- the number of the answer to the question says whether the book is live
-pub reply-is : (p : Reference) (line : List ℕ) {step : Step} {r : Counted} → Told (hear p line) step → AnswersCounts (step .book) Current r → {n : ℕ} → n ≡ number (r .answer) →
-    replyText (step .answer) (eqb n 0) (r .bids) (r .asks) ≡ replyTo (hear p line)
+pub reply-is : (p : Reference) (line : List ℕ) {step : Step} {r : CountsReply} → Received (receive p line) step → AnswersCounts (step .book) Current r → {n : ℕ} → n ≡ answerNumber (r .answer) →
+    replyText (step .answer) (eqb n 0) (r .bids) (r .asks) ≡ replyTo (receive p line)
 reply-is p line {step} {r} told levels e =
     let q : Reference = shows (step .book) in
-    ap (λ (k : ℕ). replyText (step .answer) (eqb k 0) (r .bids) (r .asks)) (e ∙ ap number (levels .answer [] ∙ same-answer q))
+    ap (λ (k : ℕ). replyText (step .answer) (eqb k 0) (r .bids) (r .asks)) (e ∙ ap answerNumber (levels .answer [] ∙ same-answer q))
     ∙ by-status (step .answer) (length (q .bids)) (length (q .asks)) (q .status) (r .bids) (r .asks) (levels .value [] ∙ same-value q)
     ∙ ap₂ reply (told .answer) (told .same)
   where

@@ -10,9 +10,9 @@ use Rattle.decimal.specs.Buffer.{overlaid}
 use Rattle.lines.specs.Lines.{linesOf, complete, unfinished}
 use Rattle.line_text.specs.Opening.{lineOne}
 use Rattle.line_text.specs.Reply.{replyText}
-use Rattle.reference.specs.Reference.{Reference, opened, isLive, After, hear}
+use Rattle.reference.specs.Reference.{Reference, opened, isLive, After, receive}
 use Rattle.book.specs.Shown.{Good, shows}
-use Rattle.feed.specs.declared.Heard.{Heard}
+use Rattle.feed.specs.declared.Processed.{Processed}
 
 -- ---- the whole text
 
@@ -21,7 +21,7 @@ replyTo a = replyText (a .answer) (isLive (a .book .status)) (length (a .book .b
 
 unfoldable pub replies : Reference → List (List ℕ) → List ℕ
 replies p [] = []
-replies p (line ∷ ls) = replyTo (hear p line) ++ replies (hear p line .book) ls
+replies p (line ∷ ls) = replyTo (receive p line) ++ replies (receive p line .book) ls
 
 unfoldable pub session : List (List ℕ) → List ℕ
 session [] = []
@@ -48,16 +48,16 @@ pub record Progress : Type 0 where
   pub past : ℕ
   pub left : List (List ℕ)
 
-unfoldable pub hearing : List (List ℕ) → Reference → List ℕ → ℕ → Progress
-hearing [] p buffer at = record { book = p; buffer = buffer; past = at; left = [] }
-hearing (line ∷ ls) p buffer at =
+unfoldable pub processing : List (List ℕ) → Reference → List ℕ → ℕ → Progress
+processing [] p buffer at = record { book = p; buffer = buffer; past = at; left = [] }
+processing (line ∷ ls) p buffer at =
     cond (leb (at + maxReply) (length buffer))
-    (hearing ls (hear p line .book) (overlaid buffer at (replyTo (hear p line))) (at + length (replyTo (hear p line))))
+    (processing ls (receive p line .book) (overlaid buffer at (replyTo (receive p line))) (at + length (replyTo (receive p line))))
     (record { book = p; buffer = buffer; past = at; left = line ∷ ls })
 
-pub record HeardLines (s : List ℕ) (p : Reference) (before : List ℕ) (r : Heard) (after : List ℕ) : Type 0 where
+pub record ProcessedLines (s : List ℕ) (p : Reference) (before : List ℕ) (r : Processed) (after : List ℕ) : Type 0 where
   pub good : Good (r .book)
   pub within : r .next ≤ length s
   pub room : r .written ≤ length before
-  pub same : record { book = shows (r .book); buffer = after; past = r .written; left = complete (drop (r .next) s) } ≡ hearing (complete s) p before 0
+  pub same : record { book = shows (r .book); buffer = after; past = r .written; left = complete (drop (r .next) s) } ≡ processing (complete s) p before 0
   pub rest : unfinished (drop (r .next) s) ≡ unfinished s

@@ -1,11 +1,11 @@
 // A feed: line 1 opens a book, and every later line is a message to it.
 //
 //     let mut book = feed::open(first_line);
-//     let heard = feed::hear_lines(book, text, table, buffer);     // the replies are &buffer[..heard.written], what is left is &text[heard.next..]
+//     let heard = feed::process_lines(book, text, table, buffer);     // the replies are &buffer[..heard.written], what is left is &text[heard.next..]
 ghost use Rattle.crc32.specs.Table.{ShiftTable};
 ghost use Rattle.line_text.specs.Opening.{lineOne};
 ghost use Rattle.book.specs.Shown.{Good, Opened, shows};
-ghost use Rattle.feed.specs.Feed.{HeardLines};
+ghost use Rattle.feed.specs.Feed.{ProcessedLines};
 use book::Book;
 use book::join;
 use line_text::MAX_REPLY;
@@ -14,7 +14,7 @@ use lines::find;
 use reference::Scope;
 
 // A book after some lines: where the next line begins, and how many bytes of replies were laid.
-pub struct Heard {
+pub struct Processed {
     pub book: Book,
     pub next: usize,
     pub written: usize,
@@ -32,9 +32,9 @@ pub fn open(line: &[u8]) -> Book
 
 // Hands a book the lines that end in a text, as long as the buffer has room for the longest reply, and lays the
 // replies into it from its front. Checksums are summed by way of the table, which `crc32::fill_table` filled; one of no entries will do.
-pub fn hear_lines(book: Book, s: &[u8], table: &[u32], buffer: &mut [u8]) -> Heard
+pub fn process_lines(book: Book, s: &[u8], table: &[u32], buffer: &mut [u8]) -> Processed
     requires { ⌜ Good book × ShiftTable (now table) ⌝ }
-    ensures { λ r. ⌜ HeardLines (now (s .entry)) (shows book) (now (buffer .entry)) r (now (buffer .exit)) ⌝ }
+    ensures { λ r. ⌜ ProcessedLines (now (s .entry)) (shows book) (now (buffer .entry)) r (now (buffer .exit)) ⌝ }
 {
     let mut bids = book.bids.words;
     let mut asks = book.asks.words;
@@ -44,7 +44,7 @@ pub fn hear_lines(book: Book, s: &[u8], table: &[u32], buffer: &mut [u8]) -> Hea
     while MAX_REPLY <= buffer.len() - written {
         let end = find(s, next, LINE_END);
         if s.len() <= end {
-            return Heard {
+            return Processed {
                 book: join(bids, asks, header),
                 next,
                 written,
@@ -59,7 +59,7 @@ pub fn hear_lines(book: Book, s: &[u8], table: &[u32], buffer: &mut [u8]) -> Hea
         written = line_text::write_reply(answer, live, counts.bids, counts.asks, buffer, written);
         next = end + 1;
     }
-    Heard {
+    Processed {
         book: join(bids, asks, header),
         next,
         written,

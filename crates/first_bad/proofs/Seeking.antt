@@ -15,10 +15,10 @@ use Rattle.json_tokens.proofs.Bounds.{bounds, separator-in}
 use Rattle.json.specs.Json.{Span}
 use Rattle.entries.specs.Places.{inner}
 use Rattle.entries.specs.Rows.{Row, isBadPrice, isBadSize, badPrice, badSize, badTexts}
-use Rattle.entries.specs.Summary.{foundOf, priceSpan, sizeSpan, foundAt}
+use Rattle.entries.specs.Summary.{entryPlaceOf, priceSpan, sizeSpan, entryPlaceAt}
 use Rattle.entries.specs.Arrays.{rowsAt, Loadable, firstAt}
 use Rattle.entries.specs.Counting.{Placed}
-use Rattle.entries.specs.declared.Found.{Found}
+use Rattle.entries.specs.declared.EntryPlace.{EntryPlace}
 use Rattle.entries.proofs.Strings.{Sound}
 use Rattle.entries.proofs.Summary.{found-broken, found-laid, found-past}
 use Rattle.entries.proofs.Rows.{Left, first-left, Here, left-here}
@@ -41,7 +41,7 @@ module _ (entry : List ℕ → Span → Reading Row) (s : List ℕ) (snapshot : 
   unfolding placeOf badTexts
   seeking-end g z = sym (g .same ∙ ap (λ (x : List Row). placeOf (badTexts snapshot s x)) (g .over z))
 
-  module _ {at : ℕ} (g : Seeking entry s snapshot at) (n : 0 < at) (f : Found) (told : f ≡ foundAt entry s at) where
+  module _ {at : ℕ} (g : Seeking entry s snapshot at) (n : 0 < at) (f : EntryPlace) (told : f ≡ entryPlaceAt entry s at) where
     here : Here entry s (g .left) f
     here = left-here entry s at (g .left) (g .on (λ z. omega arith)) f told
 
@@ -52,12 +52,12 @@ module _ (entry : List ℕ → Span → Reading Row) (s : List ℕ) (snapshot : 
     size = sizeSpan f
 
     pub seeking-placed : Sound entry s → Placed s f
-    unfolding foundOf
-    seeking-placed sound = found-laid entry s at f told sound (ap (λ (x : Found). x .fair) (here .is-row))
+    unfolding entryPlaceOf
+    seeking-placed sound = found-laid entry s at f told sound (ap (λ (x : EntryPlace). x .«well_formed») (here .is-row))
 
     row-is : here .row ≡ record { price = price; size = size }
-    unfolding foundOf
-    row-is = sym (ap (λ (x : Found). record { price = priceSpan x; size = sizeSpan x }) (here .is-row))
+    unfolding entryPlaceOf
+    row-is = sym (ap (λ (x : EntryPlace). record { price = priceSpan x; size = sizeSpan x }) (here .is-row))
 
     left-is : g .left ≡ record { price = price; size = size } ∷ here .later
     left-is = here .both ∙ ap (λ (r : Row). r ∷ here .later) row-is
@@ -82,10 +82,10 @@ module _ (entry : List ℕ → Span → Reading Row) (s : List ℕ) (snapshot : 
 
     -- the next entry begins further on
     ends : (at < f .end) × (f .end ≤ length s)
-    unfolding foundOf
+    unfolding entryPlaceOf
     ends =
-        let fair = ap (λ (x : Found). x .fair) (here .is-row) in
-        found-past entry s at f told (λ z. true≢false (sym fair ∙ ap (λ (x : Found). x .fair) (found-broken entry s at f told z)))
+        let fair = ap (λ (x : EntryPlace). x .«well_formed») (here .is-row) in
+        found-past entry s at f told (λ z. true≢false (sym fair ∙ ap (λ (x : EntryPlace). x .«well_formed») (found-broken entry s at f told z)))
 
     pub inside : at ≤ length s
     inside = let e = ends in omega arith

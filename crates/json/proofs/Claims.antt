@@ -9,7 +9,7 @@ use lib.ListN.{length}
 use borrow.Author.Tests.{eqb-true, eq-eqb}
 use Rattle.json_tokens.specs.Tokens.{End, At, Broken, blanks, closing, separator, string, ended}
 use Rattle.json_tokens.proofs.Bounds.{bounds, blanks-in, closing-in, separator-in, string-in}
-use Rattle.json.specs.Json.{Next, item, ends, wrong, Items, items, noItems, next, before, onward, list, listOf, element, member, elements, members, value, maxDepth, text}
+use Rattle.json.specs.Json.{Next, item, ends, wrong, Items, items, noItems, next, prepended, onward, list, listOf, element, member, elements, members, value, maxDepth, text}
 use Rattle.json.specs.Names.{means, holds, hasBackslash}
 use Rattle.json.specs.Claims.{Ends-within, In-order, end, then, Is-element, Is-member, Elements-in-order, Members-in-order, Reading, One-reading, One-name, Backslash-no-name}
 use Rattle.json.proofs.Laws.{text-ends, text-broken}
@@ -37,8 +37,8 @@ module _ {A : Type 0} (s : List ℕ) (is : A → ℕ → ℕ → Type 0) where
   sooner lo i l (ends e) (finished f p m) = finished e (omega arith) m
   sooner lo i l wrong h = nothing
 
-  past : (lo from e : ℕ) (a : A) → lo ≤ from → from < e → is a from e → (x : Items A) → Laid s is e x → Laid s is lo (before a x)
-  unfolding before
+  past : (lo from e : ℕ) (a : A) → lo ≤ from → from < e → is a from e → (x : Items A) → Laid s is e x → Laid s is lo (prepended a x)
+  unfolding prepended
   past lo from e a p q h (items l hi) (laid m f o n) = laid (a ∷ l) hi (then lo from e a l p q h o) n
   past lo from e a p q h noItems w = broken
 

@@ -10,7 +10,7 @@ use Rattle.json_tokens.specs.Tokens.{At, Broken, blanks, closing, separator, st
 use Rattle.json_tokens.specs.Ends.{endOf}
 use Rattle.json_tokens.proofs.Laws.{end-at}
 use Rattle.json_tokens.proofs.Bounds.{bounds, end-broken, blanks-in, closing-in, separator-in, string-in}
-use Rattle.json.specs.Json.{Span, Pair, Next, item, wrong, Items, items, noItems, before, listOf, element, member, value}
+use Rattle.json.specs.Json.{Span, Pair, Next, item, wrong, Items, items, noItems, prepended, listOf, element, member, value}
 use Rattle.json.specs.Fold.{foldFrom, foldedIn}
 use Rattle.json.proofs.Laws.{element-is, element-wrong, member-is, member-no-name, member-no-colon, member-no-value}
 use Rattle.json.proofs.Bounds.{value-in}
@@ -38,8 +38,8 @@ module _ {A S R : Type 0} (o : Loop A S R) where
   abbrev pub made : S → Items A → R
   made st x = foldedIn (o .step) (o .close) (o .bad) st x
 
-  made-more : (st : S) (a : A) (x : Items A) → made st (before a x) ≡ made (o .step st a) x
-  unfolding foldedIn before foldFrom
+  made-more : (st : S) (a : A) (x : Items A) → made st (prepended a x) ≡ made (o .step st a) x
+  unfolding foldedIn prepended foldFrom
   made-more st a (items l e) = refl
   made-more st a noItems = refl
 

@@ -9,7 +9,7 @@ use borrow.Author.Tests.{ne-eqb}
 use Rattle.text.specs.Text.{byteAt}
 use Rattle.json_tokens.specs.Tokens.{End, At, Broken, andThen, blanks, closing, separator, string, scalar, ended}
 use Rattle.json_tokens.proofs.Laws.{scalar-string}
-use Rattle.json.specs.Json.{Next, item, ends, wrong, Items, items, noItems, next, before, itemsEnd, element, member, elements, members, value, text}
+use Rattle.json.specs.Json.{Next, item, ends, wrong, Items, items, noItems, next, prepended, itemsEnd, element, member, elements, members, value, text}
 use Rattle.json.specs.Ends.{memberEnd}
 
 -- ---- a value, by its first byte
@@ -59,8 +59,8 @@ module _ {A : Type 0} (one : ℕ → Next A) (close : ℕ) (s : List ℕ) (i : �
   unfolding next
   later-wrong h q = rw (h, q, next)
 
-pub before-end : {A : Type 0} (a : A) (x : Items A) → itemsEnd (before a x) ≡ itemsEnd x
-unfolding itemsEnd before
+pub before-end : {A : Type 0} (a : A) (x : Items A) → itemsEnd (prepended a x) ≡ itemsEnd x
+unfolding itemsEnd prepended
 before-end a (items l e) = refl
 before-end a noItems = refl
 

@@ -10,7 +10,7 @@ use lib.Seq.{take-nil}
 use lib.Dec.{eqb}
 use borrow.Author.Tests.{eq-eqb, ne-eqb, eqb-true}
 use Rattle.text.specs.Text.{byteAt}
-use Rattle.json_tokens.specs.Tokens.{End, At, Broken, andThen, prefix, word}
+use Rattle.json_tokens.specs.Tokens.{End, At, Broken, andThen, startsWith, literal}
 use Rattle.json_tokens.proofs.Laws.{here, past, by-place, then-at, then-broken, word-nil, word-cons, word-other, word-append}
 use Rattle.json_tokens.proofs.Bounds.{word-is}
 use Rattle.json.specs.Json.{Span}
@@ -45,17 +45,17 @@ module _ (s : List ℕ) (from to : ℕ) (name : List ℕ) where
   abbrev span : Span
   span = record { from = from; to = to }
 
-  quoted : byteAt s from ≡ 34 → word (34 ∷ (name ++ (34 ∷ []))) s from ≡ andThen (word name s (from + 1)) (word (34 ∷ []) s)
+  quoted : byteAt s from ≡ 34 → literal (34 ∷ (name ++ (34 ∷ []))) s from ≡ andThen (literal name s (from + 1)) (literal (34 ∷ []) s)
   quoted q = word-cons s from 34 (name ++ (34 ∷ [])) (omega arith) q ∙ word-append name (34 ∷ []) s (from + 1)
 
-  at-end : (e : ℕ) → byteAt s from ≡ 34 → word name s (from + 1) ≡ At e → byteAt s e ≡ 34 → word (34 ∷ (name ++ (34 ∷ []))) s from ≡ At (e + 1)
-  at-end e q h r = quoted q ∙ then-at (word (34 ∷ []) s) h ∙ word-cons s e 34 [] (omega arith) r ∙ word-nil s (e + 1)
+  at-end : (e : ℕ) → byteAt s from ≡ 34 → literal name s (from + 1) ≡ At e → byteAt s e ≡ 34 → literal (34 ∷ (name ++ (34 ∷ []))) s from ≡ At (e + 1)
+  at-end e q h r = quoted q ∙ then-at (literal (34 ∷ []) s) h ∙ word-cons s e 34 [] (omega arith) r ∙ word-nil s (e + 1)
 
-  means-broken : word (34 ∷ (name ++ (34 ∷ []))) s from ≡ Broken → means s (record { from = from; to = to }) name ≡ false
+  means-broken : literal (34 ∷ (name ++ (34 ∷ []))) s from ≡ Broken → means s (record { from = from; to = to }) name ≡ false
   unfolding means
   means-broken h = rw (h, means)
 
-  means-at : (e : ℕ) → word (34 ∷ (name ++ (34 ∷ []))) s from ≡ At e → means s (record { from = from; to = to }) name ≡ eqb e to
+  means-at : (e : ℕ) → literal (34 ∷ (name ++ (34 ∷ []))) s from ≡ At e → means s (record { from = from; to = to }) name ≡ eqb e to
   unfolding means
   means-at e h = rw (h, means)
 
@@ -63,12 +63,12 @@ module _ (s : List ℕ) (from to : ℕ) (name : List ℕ) where
   means-no-quote n = means-broken (word-other s from 34 (name ++ (34 ∷ [])) n)
 
   module _ (q : byteAt s from ≡ 34) where
-    pub means-other : word name s (from + 1) ≡ Broken → means s (record { from = from; to = to }) name ≡ false
-    means-other h = means-broken (quoted q ∙ then-broken (word (34 ∷ []) s) h)
+    pub means-other : literal name s (from + 1) ≡ Broken → means s (record { from = from; to = to }) name ≡ false
+    means-other h = means-broken (quoted q ∙ then-broken (literal (34 ∷ []) s) h)
 
-    module _ (e : ℕ) (h : word name s (from + 1) ≡ At e) where
+    module _ (e : ℕ) (h : literal name s (from + 1) ≡ At e) where
       pub means-longer : (byteAt s e ≡ 34 → ⊥) → means s (record { from = from; to = to }) name ≡ false
-      means-longer n = means-broken (quoted q ∙ then-at (word (34 ∷ []) s) h ∙ word-other s e 34 [] n)
+      means-longer n = means-broken (quoted q ∙ then-at (literal (34 ∷ []) s) h ∙ word-other s e 34 [] n)
 
       pub means-yes : byteAt s e ≡ 34 → e + 1 ≡ to → means s (record { from = from; to = to }) name ≡ true
       means-yes r t = means-at (e + 1) (at-end e q h r) ∙ eq-eqb (e + 1) to t
@@ -78,32 +78,32 @@ module _ (s : List ℕ) (from to : ℕ) (name : List ℕ) where
 
 -- ---- a short name, one byte at a time
 module _ (s : List ℕ) (n w i : ℕ) where
-  pub spelled-ends : n ≡ 0 → word (spelled n w) s i ≡ At i
-  unfolding spelled word prefix
+  pub spelled-ends : n ≡ 0 → literal (spelled n w) s i ≡ At i
+  unfolding spelled literal startsWith
   spelled-ends z = rw z
 
   module _ (h : 0 < n) where
     more-left : n ≡ suc (n - 1)
     more-left = omega arith
 
-    pub spelled-past : length s ≤ i → word (spelled n w) s i ≡ Broken
-    unfolding spelled word prefix
+    pub spelled-past : length s ≤ i → literal (spelled n w) s i ≡ Broken
+    unfolding spelled literal startsWith
     spelled-past g = rw (more-left, drop-of-length-le s g)
 
-    pub spelled-on : i < length s → getD s i 0 ≡ w % 256 → word (spelled n w) s i ≡ word (spelled (n - 1) (w / 256)) s (i + 1)
-    unfolding spelled word prefix byteAt
-    spelled-on g e = ap (λ k. word (spelled k w) s i) more-left ∙ rw (here s i g, eq-eqb _ _ e, prefix)
+    pub spelled-on : i < length s → getD s i 0 ≡ w % 256 → literal (spelled n w) s i ≡ literal (spelled (n - 1) (w / 256)) s (i + 1)
+    unfolding spelled literal startsWith byteAt
+    spelled-on g e = ap (λ k. literal (spelled k w) s i) more-left ∙ rw (here s i g, eq-eqb _ _ e, startsWith)
 
-    pub spelled-off : i < length s → (getD s i 0 ≡ w % 256 → ⊥) → word (spelled n w) s i ≡ Broken
-    unfolding spelled word prefix byteAt
-    spelled-off g e = ap (λ k. word (spelled k w) s i) more-left ∙ rw (here s i g, ne-eqb _ _ e, prefix)
+    pub spelled-off : i < length s → (getD s i 0 ≡ w % 256 → ⊥) → literal (spelled n w) s i ≡ Broken
+    unfolding spelled literal startsWith byteAt
+    spelled-off g e = ap (λ k. literal (spelled k w) s i) more-left ∙ rw (here s i g, ne-eqb _ _ e, startsWith)
 
 -- ---- a string that means a name is the name between quotes
 pub means-part : (s : List ℕ) (a : Span) (name : List ℕ) → means s a name ≡ true → part s a ≡ 34 ∷ (name ++ (34 ∷ []))
 unfolding means part
-means-part s a name h = go (word (34 ∷ (name ++ (34 ∷ []))) s (a .from)) refl h
+means-part s a name h = go (literal (34 ∷ (name ++ (34 ∷ []))) s (a .from)) refl h
   where
-    go : (x : End) → word (34 ∷ (name ++ (34 ∷ []))) s (a .from) ≡ x → elim x [ At e ↦ eqb e (a .to) | Broken ↦ false ] ≡ true
+    go : (x : End) → literal (34 ∷ (name ++ (34 ∷ []))) s (a .from) ≡ x → elim x [ At e ↦ eqb e (a .to) | Broken ↦ false ] ≡ true
         → take (a .to - a .from) (drop (a .from) s) ≡ 34 ∷ (name ++ (34 ∷ []))
     go (At e) p h = sym (word-is (34 ∷ (name ++ (34 ∷ []))) s (a .from) (a .to) (p ∙ ap At (eqb-true e (a .to) h)))
     go Broken p h = absurd (true≢false (sym h))

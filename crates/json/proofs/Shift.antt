@@ -10,7 +10,7 @@ use lib.ListN.{length, drop, length-drop}
 use Rattle.json_tokens.specs.Tokens.{End, At, Broken, blanks, closing, separator}
 use Rattle.json_tokens.proofs.Bounds.{bounds, blanks-in, separator-in}
 use Rattle.json_tokens.proofs.Shift.{shifted, Shifts, both, neither, shifts-is, shifts-if, past-one, byte-shift, blanks-shift, closing-shift, separator-shift, string-shift, scalar-shift}
-use Rattle.json.specs.Json.{Span, Pair, Next, item, ends, wrong, Items, items, noItems, next, before, onward, list, listOf, itemsEnd, element, member, elements, members, value}
+use Rattle.json.specs.Json.{Span, Pair, Next, item, ends, wrong, Items, items, noItems, next, prepended, onward, list, listOf, itemsEnd, element, member, elements, members, value}
 use Rattle.json.proofs.Ends.{Tells, elements-tell, members-tell}
 
 -- a part of the text, and a member, k bytes later
@@ -90,8 +90,8 @@ module _ {A : Type 0} (k : ℕ) (s : List ℕ) (move : A → A) (one other : ℕ
       go (both {x} {e} h) = rw h (same e)
       go neither = none (closing-shift k s close i)
 
-  before-shift : {a b : A} {x y : Items A} → a ≡ move b → ItemsShifts k move x y → ItemsShifts k move (before a x) (before b y)
-  unfolding before
+  before-shift : {a b : A} {x y : Items A} → a ≡ move b → ItemsShifts k move x y → ItemsShifts k move (prepended a x) (prepended b y)
+  unfolding prepended
   before-shift {a} {b} h (both-items {l} {m} p q) = both-items (ap (λ (v : A). v ∷ l) h ∙ ap (λ (r : List A). move b ∷ r) p) q
   before-shift h no-items = no-items
 

@@ -9,7 +9,7 @@ use Prim.Native.Nat.{ℕ, suc, _+_, _-_, _≤_, _<_}
 use native.Mathlib.Omega.{arith}
 use lib.ListN.{length}
 use Rattle.json_tokens.specs.Tokens.{At, Broken, blanks, closing, separator}
-use Rattle.json.specs.Json.{Next, item, ends, wrong, Items, items, noItems, next, before, onward, list, listOf}
+use Rattle.json.specs.Json.{Next, item, ends, wrong, Items, items, noItems, next, prepended, onward, list, listOf}
 use Rattle.json.proofs.Laws.{first-ends, first-item, later-item, later-ends, later-wrong}
 
 module _ {A R : Type 0} (one : ℕ → Next A) (close : ℕ) (s : List ℕ) where
@@ -37,7 +37,7 @@ module _ {A R : Type 0} (one : ℕ → Next A) (close : ℕ) (s : List ℕ) wher
       walk-is y i l h = let n = w .enough in record { left = w .left; enough = omega arith; makes = rw h at (w .makes) }
 
       -- past the item a, which ends at e
-      pub walk-item : (a : A) (e : ℕ) → x ≡ item a e → at < e → e ≤ length s → Walk (λ (y : Items A). answer (before a y)) e (next one close s false e) r
+      pub walk-item : (a : A) (e : ℕ) → x ≡ item a e → at < e → e ≤ length s → Walk (λ (y : Items A). answer (prepended a y)) e (next one close s false e) r
       unfolding list onward
       walk-item a e h l m =
           let n = w .enough in
@@ -45,7 +45,7 @@ module _ {A R : Type 0} (one : ℕ → Next A) (close : ℕ) (s : List ℕ) wher
           record {
             left = w .left - 1;
             enough = omega arith;
-            makes = ap (λ (y : ℕ). answer (before a (list one close s y false e))) (sym k) ∙ sym (ap answer (rw (h, onward))) ∙ w .makes;
+            makes = ap (λ (y : ℕ). answer (prepended a (list one close s y false e))) (sym k) ∙ sym (ap answer (rw (h, onward))) ∙ w .makes;
           }
 
 -- ---- the same as a loop has it that goes from item to item: it stands where an item is to begin
@@ -59,19 +59,19 @@ module _ {A R : Type 0} (one : ℕ → Next A) (close : ℕ) (s : List ℕ) (ans
 
   -- an item a from i to e, and what follows it
   module _ {i : ℕ} {r : R} (w : Walk one close s answer i (one i) r) (a : A) (e : ℕ) (h : one i ≡ item a e) (l : i < e) (m : e ≤ length s) where
-    past : Walk one close s (λ (y : Items A). answer (before a y)) e (next one close s false e) r
+    past : Walk one close s (λ (y : Items A). answer (prepended a y)) e (next one close s false e) r
     past = walk-item one close s answer w a e h l m
 
     -- a comma: the next item begins at j
-    pub walk-on : (j : ℕ) → e ≤ j → separator 44 s e ≡ At j → (rest : Items A → R) → ((x : Items A) → answer (before a x) ≡ rest x) → Walk one close s rest j (one j) r
+    pub walk-on : (j : ℕ) → e ≤ j → separator 44 s e ≡ At j → (rest : Items A → R) → ((x : Items A) → answer (prepended a x) ≡ rest x) → Walk one close s rest j (one j) r
     walk-on j o q rest p =
-        let v = walk-is one close s (λ (y : Items A). answer (before a y)) past (one j) j o (later-item one close s e j q) in
+        let v = walk-is one close s (λ (y : Items A). answer (prepended a y)) past (one j) j o (later-item one close s e j q) in
         record { left = v .left; enough = v .enough; makes = sym (p _) ∙ v .makes }
 
     pub walk-last : (k : ℕ) → separator 44 s e ≡ Broken → closing close s e ≡ At k → answer (items (a ∷ []) k) ≡ r
-    unfolding before
-    walk-last k q c = walk-ends one close s (λ (y : Items A). answer (before a y)) past k (later-ends one close s e k q c)
+    unfolding prepended
+    walk-last k q c = walk-ends one close s (λ (y : Items A). answer (prepended a y)) past k (later-ends one close s e k q c)
 
     pub walk-broken : separator 44 s e ≡ Broken → closing close s e ≡ Broken → answer noItems ≡ r
-    unfolding before
-    walk-broken q c = walk-wrong one close s (λ (y : Items A). answer (before a y)) past (later-wrong one close s e q c)
+    unfolding prepended
+    walk-broken q c = walk-wrong one close s (λ (y : Items A). answer (prepended a y)) past (later-wrong one close s e q c)

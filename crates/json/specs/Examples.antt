@@ -6,8 +6,8 @@ use mathlib.Core.Bool.{Bool, true, false}
 use Prim.Native.Nat.{ℕ}
 use Rattle.text.specs.Text.{byteAt, isDigit}
 use Rattle.json_tokens.specs.Bytes.{blank, hexDigit, escaped}
-use Rattle.json_tokens.specs.Tokens.{andThen, run, blanks, digits, someDigits, closing, separator, chars, escape, hexes, stringRest, string, minus, sign, int, fraction, exponent, number, prefix, word, scalar, ended}
-use Rattle.json.specs.Json.{items, next, before, onward, list, listOf, itemsEnd, element, member, elements, members, value, text}
+use Rattle.json_tokens.specs.Tokens.{andThen, skipWhile, blanks, digits, someDigits, closing, separator, chars, escape, hexes, stringRest, string, minus, sign, int, fraction, exponent, jsonNumber, startsWith, literal, scalar, ended}
+use Rattle.json.specs.Json.{items, next, prepended, onward, list, listOf, itemsEnd, element, member, elements, members, value, text}
 
 -- what `text` says of each, in order
 abbrev texts : List (List ℕ)
@@ -46,7 +46,7 @@ each [] = []
 each (s ∷ l) = text s ∷ each l
 
 all-texts : each texts ≡ answers
-unfolding byteAt blank isDigit hexDigit escaped andThen run blanks digits someDigits closing separator chars escape hexes stringRest string minus sign int fraction exponent number prefix word scalar ended next before onward list listOf itemsEnd element member elements members value text
+unfolding byteAt blank isDigit hexDigit escaped andThen skipWhile blanks digits someDigits closing separator chars escape hexes stringRest string minus sign int fraction exponent jsonNumber startsWith literal scalar ended next prepended onward list listOf itemsEnd element member elements members value text
 all-texts = refl
 
 -- {"a":1, "as" : [2]}
@@ -55,5 +55,5 @@ object = 123 ∷ 34 ∷ 97 ∷ 34 ∷ 58 ∷ 49 ∷ 44 ∷ 32 ∷ 34 ∷ 97 ∷ 
 
 object-members : members (value 15 object) object 1 ≡
     items (record { name = record { from = 1; to = 4 }; value = record { from = 5; to = 6 } } ∷ record { name = record { from = 8; to = 12 }; value = record { from = 15; to = 18 } } ∷ []) 19
-unfolding byteAt blank isDigit hexDigit escaped andThen run blanks digits someDigits closing separator chars escape hexes stringRest string minus sign int fraction exponent number prefix word scalar ended next before onward list listOf itemsEnd element member elements members value
+unfolding byteAt blank isDigit hexDigit escaped andThen skipWhile blanks digits someDigits closing separator chars escape hexes stringRest string minus sign int fraction exponent jsonNumber startsWith literal scalar ended next prepended onward list listOf itemsEnd element member elements members value
 object-members = refl

@@ -38,13 +38,13 @@ unfoldable pub next : {A : Type 0} → (ℕ → Next A) → ℕ → List ℕ →
 next one close s true i = elim (closing close s i) [ At e ↦ ends e | Broken ↦ one (blanks s i) ]
 next one close s false i = elim (separator comma s i) [ At j ↦ one j | Broken ↦ elim (closing close s i) [ At e ↦ ends e | Broken ↦ wrong ] ]
 
-unfoldable pub before : {A : Type 0} → A → Items A → Items A
-before a (items l e) = items (a ∷ l) e
-before a noItems = noItems
+unfoldable pub prepended : {A : Type 0} → A → Items A → Items A
+prepended a (items l e) = items (a ∷ l) e
+prepended a noItems = noItems
 
 -- what was found, and then what the rest of the list holds
 unfoldable pub onward : {A : Type 0} → (ℕ → Items A) → Next A → Items A
-onward rest (item a e) = before a (rest e)
+onward rest (item a e) = prepended a (rest e)
 onward rest (ends e) = items [] e
 onward rest wrong = noItems
 

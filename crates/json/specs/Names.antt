@@ -7,7 +7,7 @@ use mathlib.Core.Bool.{Bool, false, _||_}
 use lib.ListN.{take, drop}
 use lib.Dec.{eqb}
 use Rattle.json_tokens.specs.Bytes.{quote, backslash}
-use Rattle.json_tokens.specs.Tokens.{At, Broken, word}
+use Rattle.json_tokens.specs.Tokens.{At, Broken, literal}
 use Rattle.json.specs.Json.{Span}
 
 -- the bytes of a part
@@ -16,7 +16,7 @@ part s a = take (a .to - a .from) (drop (a .from) s)
 
 -- the string at a, quotes included, means the name: a quote, the bytes of the name, a quote
 unfoldable pub means : List ℕ → Span → List ℕ → Bool
-means s a name = elim (word (quote ∷ (name ++ (quote ∷ []))) s (a .from)) [ At e ↦ eqb e (a .to) | Broken ↦ false ]
+means s a name = elim (literal (quote ∷ (name ++ (quote ∷ []))) s (a .from)) [ At e ↦ eqb e (a .to) | Broken ↦ false ]
 
 unfoldable pub holds : ℕ → List ℕ → Bool
 holds c [] = false

@@ -31,7 +31,7 @@ use json_tokens::string_end;
 use json_tokens::word_end;
 use text::byte_at;
 ghost use mathlib.Core.Path.{_≡_};
-ghost use Rattle.json_tokens.specs.Tokens.{word};
+ghost use Rattle.json_tokens.specs.Tokens.{literal};
 ghost use Rattle.json_tokens.specs.Ends.{endOf};
 ghost use Rattle.json.specs.Json.{itemsEnd, elements, members, value};
 ghost use Rattle.json.specs.Ends.{memberEnd};
@@ -139,12 +139,12 @@ pub fn is_name(s: &[u8], from: usize, to: usize, name: &[u8]) -> bool
 }
 
 // Past the bytes of a short name.
-fn short_name_end(s: &[u8], at: usize, name: u64, length: usize) -> usize
-    ensures { λ r. ⌜ r ≡ endOf (word (spelled length name) (now (s .entry)) at) ⌝ }
+fn short_name_end(s: &[u8], at: usize, name: u64, count: usize) -> usize
+    ensures { λ r. ⌜ r ≡ endOf (literal (spelled count name) (now (s .entry)) at) ⌝ }
 {
     let mut i = at;
     let mut rest = name;
-    let mut left = length;
+    let mut left = count;
     while 0 < left {
         if s.len() <= i {
             return 0;
@@ -161,11 +161,11 @@ fn short_name_end(s: &[u8], at: usize, name: u64, length: usize) -> usize
 
 // The same as `is_name` for a name of at most eight bytes, given as one number, the first byte the lowest: a byte string is
 // laid on the stack at each use, and a number is not. `as` is 97 + 115 * 256, with a length of 2.
-pub fn is_short_name(s: &[u8], from: usize, to: usize, name: u64, length: usize) -> bool
-    ensures { λ r. ⌜ r ≡ means (now (s .entry)) (record { from = from; to = to }) (spelled length name) ⌝ }
+pub fn is_short_name(s: &[u8], from: usize, to: usize, name: u64, count: usize) -> bool
+    ensures { λ r. ⌜ r ≡ means (now (s .entry)) (record { from = from; to = to }) (spelled count name) ⌝ }
 {
     if byte_at(s, from) == QUOTE {
-        let e = short_name_end(s, from + 1, name, length);
+        let e = short_name_end(s, from + 1, name, count);
         if e == 0 {
             false
         } else if byte_at(s, e) == QUOTE {

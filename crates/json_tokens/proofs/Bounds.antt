@@ -10,7 +10,7 @@ use lib.Dec.{ltb, eqb}
 use borrow.Author.Tests.{eqb-true}
 use Rattle.text.specs.Text.{byteAt, isDigit}
 use Rattle.json_tokens.specs.Bytes.{blank, hexDigit, escaped}
-use Rattle.json_tokens.specs.Tokens.{End, At, Broken, andThen, run, blanks, digits, someDigits, closing, separator, chars, escape, hexes, stringRest, string, minus, sign, int, fraction, exponent, number, prefix, word, scalar}
+use Rattle.json_tokens.specs.Tokens.{End, At, Broken, andThen, skipWhile, blanks, digits, someDigits, closing, separator, chars, escape, hexes, stringRest, string, minus, sign, int, fraction, exponent, jsonNumber, startsWith, literal, scalar}
 use Rattle.json_tokens.specs.Ends.{endOf}
 use Rattle.json_tokens.proofs.Laws.{in-digit, in-byte, digits-on}
 
@@ -49,13 +49,13 @@ in-then f (within e l h) g = in-sub l (omega arith) (g e l h)
 in-then f none g = none
 
 -- ---- over the text from i on
-pub run-in : (p : ℕ → Bool) (t : List ℕ) (i : ℕ) → (i ≤ run p t i) × (run p t i ≤ i + length t)
-unfolding run
+pub run-in : (p : ℕ → Bool) (t : List ℕ) (i : ℕ) → (i ≤ skipWhile p t i) × (skipWhile p t i ≤ i + length t)
+unfolding skipWhile
 run-in p [] i = (omega arith, omega arith)
 run-in p (c ∷ t) i = go (p c) (run-in p t (i + 1))
   where
-    go : (b : Bool) → (i + 1 ≤ run p t (i + 1)) × (run p t (i + 1) ≤ i + 1 + length t)
-        → (i ≤ elim b [ true ↦ run p t (i + 1) | false ↦ i ]) × (elim b [ true ↦ run p t (i + 1) | false ↦ i ] ≤ i + suc (length t))
+    go : (b : Bool) → (i + 1 ≤ skipWhile p t (i + 1)) × (skipWhile p t (i + 1) ≤ i + 1 + length t)
+        → (i ≤ elim b [ true ↦ skipWhile p t (i + 1) | false ↦ i ]) × (elim b [ true ↦ skipWhile p t (i + 1) | false ↦ i ] ≤ i + suc (length t))
     go true h = (omega arith, omega arith)
     go false h = (omega arith, omega arith)
 
@@ -83,8 +83,8 @@ mutual
   hexes-in (c ∷ t) zero i = in-if (hexDigit c) (step t i (chars-in t (i + 1))) none
   hexes-in (c ∷ t) (suc m) i = in-if (hexDigit c) (step t i (hexes-in t m (i + 1))) none
 
-prefix-in : (w t : List ℕ) (i : ℕ) → In (i + length w) (i + length t) (prefix w t i)
-unfolding prefix
+prefix-in : (w t : List ℕ) (i : ℕ) → In (i + length w) (i + length t) (startsWith w t i)
+unfolding startsWith
 prefix-in [] t i = within i (omega arith) (omega arith)
 prefix-in (c ∷ w) [] i = none
 prefix-in (c ∷ w) (d ∷ t) i = in-if (eqb d c) (in-sub (omega arith) (omega arith) (prefix-in w t (i + 1))) none
@@ -117,11 +117,11 @@ module _ (s : List ℕ) where
   string-in i = in-if (eqb (byteAt s i) 34) (in-sub (omega arith) (omega arith) (rest-in (i + 1))) none
 
   -- a word ends as many bytes on as it has
-  pub word-from : (w : List ℕ) (i : ℕ) → In (i + length w) (i + length (drop i s)) (word w s i)
-  unfolding word
+  pub word-from : (w : List ℕ) (i : ℕ) → In (i + length w) (i + length (drop i s)) (literal w s i)
+  unfolding literal
   word-from w i = prefix-in w (drop i s) i
 
-  word-in : (w : List ℕ) (i : ℕ) → 0 < length w → Within s i (word w s i)
+  word-in : (w : List ℕ) (i : ℕ) → 0 < length w → Within s i (literal w s i)
   word-in w i p = inner i (in-sub (omega arith) (omega arith) (word-from w i))
 
   pub closing-in : (c i : ℕ) → 0 < c → Within s i (closing c s i)
@@ -181,8 +181,8 @@ module _ (s : List ℕ) where
       let m = sign-in (i + 1) in
       in-if (eqb (byteAt s i) 101 || eqb (byteAt s i) 69) (in-sub (omega arith) (omega arith) (some-in (sign s (i + 1)))) (within i (omega arith) l)
 
-  pub number-in : (i : ℕ) → Within s i (number s i)
-  unfolding number
+  pub number-in : (i : ℕ) → Within s i (jsonNumber s i)
+  unfolding jsonNumber
   number-in i = in-then (exponent s) (in-then (fraction s) (int-minus-in i) (λ e l h. fraction-in e h)) (λ e l h. exponent-in e h)
 
   pub scalar-in : (i : ℕ) → Within s i (scalar s i)
@@ -194,14 +194,14 @@ module _ (s : List ℕ) where
       (in-if (eqb (byteAt s i) 110) (word-in _ i (omega arith)) (number-in i))))
 
 -- ---- a word that stands at i is the text from there on
-prefix-is : (w t : List ℕ) (i e : ℕ) → prefix w t i ≡ At e → w ≡ take (e - i) t
-unfolding prefix
+prefix-is : (w t : List ℕ) (i e : ℕ) → startsWith w t i ≡ At e → w ≡ take (e - i) t
+unfolding startsWith
 prefix-is [] t i e h = let z : i ≡ e = cc in let n : 0 ≡ e - i = omega arith in ap (λ k. take k t) n
 prefix-is (c ∷ w) [] i e h = let z : _≡_ {A = ℕ} 0 1 = cc in absurd (omega arith)
 prefix-is (c ∷ w) (d ∷ t) i e h = go (eqb d c) refl (λ p. prefix-is w t (i + 1) e p) h
   where
-    go : (b : Bool) → eqb d c ≡ b → (prefix w t (i + 1) ≡ At e → w ≡ take (e - (i + 1)) t)
-        → elim b [ true ↦ prefix w t (i + 1) | false ↦ Broken ] ≡ At e → (c ∷ w) ≡ take (e - i) (d ∷ t)
+    go : (b : Bool) → eqb d c ≡ b → (startsWith w t (i + 1) ≡ At e → w ≡ take (e - (i + 1)) t)
+        → elim b [ true ↦ startsWith w t (i + 1) | false ↦ Broken ] ≡ At e → (c ∷ w) ≡ take (e - i) (d ∷ t)
     go true q ih h =
         let b = bounds e (prefix-in w t (i + 1)) h in
         let n : e - i ≡ suc (e - (i + 1)) = omega arith in
@@ -209,6 +209,6 @@ prefix-is (c ∷ w) (d ∷ t) i e h = go (eqb d c) refl (λ p. prefix-is w t (i 
         ap (λ x. x ∷ w) (sym z) ∙ ap (λ y. d ∷ y) (ih h) ∙ ap (λ k. take k (d ∷ t)) (sym n)
     go false q ih h = let z : _≡_ {A = ℕ} 0 1 = cc in absurd (omega arith)
 
-pub word-is : (w s : List ℕ) (i e : ℕ) → word w s i ≡ At e → w ≡ take (e - i) (drop i s)
-unfolding word
+pub word-is : (w s : List ℕ) (i e : ℕ) → literal w s i ≡ At e → w ≡ take (e - i) (drop i s)
+unfolding literal
 word-is w s i e h = prefix-is w (drop i s) i e h

@@ -14,7 +14,7 @@ use lib.Dec.{ltb, eqb}
 use borrow.Author.Tests.{eq-eqb, ne-eqb, lt-ltb, le-ltb}
 use Rattle.text.specs.Text.{byteAt, isDigit}
 use Rattle.json_tokens.specs.Bytes.{blank, hexDigit, escaped}
-use Rattle.json_tokens.specs.Tokens.{End, At, Broken, andThen, run, blanks, digits, someDigits, closing, separator, chars, escape, hexes, stringRest, string, minus, sign, int, fraction, exponent, number, prefix, word, scalar}
+use Rattle.json_tokens.specs.Tokens.{End, At, Broken, andThen, skipWhile, blanks, digits, someDigits, closing, separator, chars, escape, hexes, stringRest, string, minus, sign, int, fraction, exponent, jsonNumber, startsWith, literal, scalar}
 use Rattle.json_tokens.specs.Ends.{endOf, fourHex}
 
 -- ---- an end as a number
@@ -85,13 +85,13 @@ module _ (s : List ℕ) (i : ℕ) where
 
 -- ---- runs
 module _ (p : ℕ → Bool) (none : p 0 ≡ false) (s : List ℕ) (i : ℕ) where
-  pub run-on : p (byteAt s i) ≡ true → run p (drop i s) i ≡ run p (drop (i + 1) s) (i + 1)
-  unfolding run
-  run-on h = rw (here s i (in-kind p none s i h), h, run)
+  pub run-on : p (byteAt s i) ≡ true → skipWhile p (drop i s) i ≡ skipWhile p (drop (i + 1) s) (i + 1)
+  unfolding skipWhile
+  run-on h = rw (here s i (in-kind p none s i h), h, skipWhile)
 
-  pub run-stops : p (byteAt s i) ≡ false → run p (drop i s) i ≡ i
-  unfolding run
-  run-stops h = by-place s i (λ l. rw (here s i l, h, run)) (λ g. rw (drop-of-length-le s g))
+  pub run-stops : p (byteAt s i) ≡ false → skipWhile p (drop i s) i ≡ i
+  unfolding skipWhile
+  run-stops h = by-place s i (λ l. rw (here s i l, h, skipWhile)) (λ g. rw (drop-of-length-le s g))
 
 module _ (s : List ℕ) (i : ℕ) where
   pub blanks-on : blank (byteAt s i) ≡ true → blanks s i ≡ blanks s (i + 1)
@@ -305,59 +305,59 @@ module _ (s : List ℕ) (i : ℕ) where
   unfolding exponent
   exponent-none n m = rw (ne-eqb _ _ n, ne-eqb _ _ m, exponent)
 
-  pub number-is : (j k : ℕ) → int s (minus s i) ≡ At j → fraction s j ≡ At k → number s i ≡ exponent s k
-  unfolding number
+  pub number-is : (j k : ℕ) → int s (minus s i) ≡ At j → fraction s j ≡ At k → jsonNumber s i ≡ exponent s k
+  unfolding jsonNumber
   number-is j k p q = then-at (exponent s) (then-at (fraction s) p ∙ q)
 
-  pub number-no-int : int s (minus s i) ≡ Broken → number s i ≡ Broken
-  unfolding number
+  pub number-no-int : int s (minus s i) ≡ Broken → jsonNumber s i ≡ Broken
+  unfolding jsonNumber
   number-no-int p = then-broken (exponent s) (then-broken (fraction s) p)
 
-  pub number-no-fraction : (j : ℕ) → int s (minus s i) ≡ At j → fraction s j ≡ Broken → number s i ≡ Broken
-  unfolding number
+  pub number-no-fraction : (j : ℕ) → int s (minus s i) ≡ At j → fraction s j ≡ Broken → jsonNumber s i ≡ Broken
+  unfolding jsonNumber
   number-no-fraction j p q = then-broken (exponent s) (then-at (fraction s) p ∙ q)
 
 -- ---- a step of a word
 module _ (w s : List ℕ) (k i : ℕ) where
-  pub word-ends : length w ≤ k → prefix (drop k w) (drop i s) i ≡ At i
-  unfolding prefix
+  pub word-ends : length w ≤ k → startsWith (drop k w) (drop i s) i ≡ At i
+  unfolding startsWith
   word-ends h = rw (drop-of-length-le w h)
 
-  pub word-past : k < length w → length s ≤ i → prefix (drop k w) (drop i s) i ≡ Broken
-  unfolding prefix
+  pub word-past : k < length w → length s ≤ i → startsWith (drop k w) (drop i s) i ≡ Broken
+  unfolding startsWith
   word-past h g = rw (here w k h, drop-of-length-le s g)
 
-  pub word-on : k < length w → i < length s → getD s i 0 ≡ getD w k 0 → prefix (drop k w) (drop i s) i ≡ prefix (drop (k + 1) w) (drop (i + 1) s) (i + 1)
-  unfolding prefix byteAt
-  word-on h g e = rw (here w k h, here s i g, eq-eqb _ _ e, prefix)
+  pub word-on : k < length w → i < length s → getD s i 0 ≡ getD w k 0 → startsWith (drop k w) (drop i s) i ≡ startsWith (drop (k + 1) w) (drop (i + 1) s) (i + 1)
+  unfolding startsWith byteAt
+  word-on h g e = rw (here w k h, here s i g, eq-eqb _ _ e, startsWith)
 
-  pub word-off : k < length w → i < length s → (getD s i 0 ≡ getD w k 0 → ⊥) → prefix (drop k w) (drop i s) i ≡ Broken
-  unfolding prefix byteAt
-  word-off h g n = rw (here w k h, here s i g, ne-eqb _ _ n, prefix)
+  pub word-off : k < length w → i < length s → (getD s i 0 ≡ getD w k 0 → ⊥) → startsWith (drop k w) (drop i s) i ≡ Broken
+  unfolding startsWith byteAt
+  word-off h g n = rw (here w k h, here s i g, ne-eqb _ _ n, startsWith)
 
 -- ---- a word, by its first byte
 module _ (s : List ℕ) (i : ℕ) where
-  pub word-nil : word [] s i ≡ At i
-  unfolding word prefix
+  pub word-nil : literal [] s i ≡ At i
+  unfolding literal startsWith
   word-nil = refl
 
-  pub word-cons : (c : ℕ) (w : List ℕ) → 0 < c → byteAt s i ≡ c → word (c ∷ w) s i ≡ word w s (i + 1)
-  unfolding word prefix
-  word-cons c w p h = rw (here s i (in-byte s i c p h), eq-eqb _ _ h, prefix)
+  pub word-cons : (c : ℕ) (w : List ℕ) → 0 < c → byteAt s i ≡ c → literal (c ∷ w) s i ≡ literal w s (i + 1)
+  unfolding literal startsWith
+  word-cons c w p h = rw (here s i (in-byte s i c p h), eq-eqb _ _ h, startsWith)
 
-  pub word-other : (c : ℕ) (w : List ℕ) → (byteAt s i ≡ c → ⊥) → word (c ∷ w) s i ≡ Broken
-  unfolding word prefix
-  word-other c w n = by-place s i (λ l. rw (here s i l, ne-eqb _ _ n, prefix)) (λ g. rw (drop-of-length-le s g))
+  pub word-other : (c : ℕ) (w : List ℕ) → (byteAt s i ≡ c → ⊥) → literal (c ∷ w) s i ≡ Broken
+  unfolding literal startsWith
+  word-other c w n = by-place s i (λ l. rw (here s i l, ne-eqb _ _ n, startsWith)) (λ g. rw (drop-of-length-le s g))
 
 -- two words, one after the other
-pub word-append : (v w s : List ℕ) (i : ℕ) → word (v ++ w) s i ≡ andThen (word v s i) (word w s)
-unfolding word andThen prefix
+pub word-append : (v w s : List ℕ) (i : ℕ) → literal (v ++ w) s i ≡ andThen (literal v s i) (literal w s)
+unfolding literal andThen startsWith
 word-append [] w s i = refl
 word-append (c ∷ v) w s i = by-place s i (λ l. rw (here s i l) (go (eqb (byteAt s i) c) (word-append v w s (i + 1)))) (λ g. rw (drop-of-length-le s g))
   where
-    go : (b : Bool) → word (v ++ w) s (i + 1) ≡ andThen (word v s (i + 1)) (word w s)
-        → elim b [ true ↦ prefix (v ++ w) (drop (i + 1) s) (i + 1) | false ↦ Broken ]
-        ≡ andThen (elim b [ true ↦ prefix v (drop (i + 1) s) (i + 1) | false ↦ Broken ]) (word w s)
+    go : (b : Bool) → literal (v ++ w) s (i + 1) ≡ andThen (literal v s (i + 1)) (literal w s)
+        → elim b [ true ↦ startsWith (v ++ w) (drop (i + 1) s) (i + 1) | false ↦ Broken ]
+        ≡ andThen (elim b [ true ↦ startsWith v (drop (i + 1) s) (i + 1) | false ↦ Broken ]) (literal w s)
     go true ih = ih
     go false ih = refl
 
@@ -367,18 +367,18 @@ module _ (s : List ℕ) (i : ℕ) where
   unfolding scalar
   scalar-string h = rw (h, scalar)
 
-  pub scalar-true : byteAt s i ≡ 116 → scalar s i ≡ word (116 ∷ 114 ∷ 117 ∷ 101 ∷ []) s i
+  pub scalar-true : byteAt s i ≡ 116 → scalar s i ≡ literal (116 ∷ 114 ∷ 117 ∷ 101 ∷ []) s i
   unfolding scalar
   scalar-true h = rw (h, h, scalar)
 
-  pub scalar-false : byteAt s i ≡ 102 → scalar s i ≡ word (102 ∷ 97 ∷ 108 ∷ 115 ∷ 101 ∷ []) s i
+  pub scalar-false : byteAt s i ≡ 102 → scalar s i ≡ literal (102 ∷ 97 ∷ 108 ∷ 115 ∷ 101 ∷ []) s i
   unfolding scalar
   scalar-false h = rw (h, h, h, scalar)
 
-  pub scalar-null : byteAt s i ≡ 110 → scalar s i ≡ word (110 ∷ 117 ∷ 108 ∷ 108 ∷ []) s i
+  pub scalar-null : byteAt s i ≡ 110 → scalar s i ≡ literal (110 ∷ 117 ∷ 108 ∷ 108 ∷ []) s i
   unfolding scalar
   scalar-null h = rw (h, h, h, h, scalar)
 
-  pub scalar-number : (byteAt s i ≡ 34 → ⊥) → (byteAt s i ≡ 116 → ⊥) → (byteAt s i ≡ 102 → ⊥) → (byteAt s i ≡ 110 → ⊥) → scalar s i ≡ number s i
+  pub scalar-number : (byteAt s i ≡ 34 → ⊥) → (byteAt s i ≡ 116 → ⊥) → (byteAt s i ≡ 102 → ⊥) → (byteAt s i ≡ 110 → ⊥) → scalar s i ≡ jsonNumber s i
   unfolding scalar
   scalar-number a b c d = rw (ne-eqb _ _ a, ne-eqb _ _ b, ne-eqb _ _ c, ne-eqb _ _ d, scalar)

@@ -10,7 +10,7 @@ use lib.Seq.{drop-drop, getD-drop}
 use lib.Dec.{eqb, ltb}
 use Rattle.text.specs.Text.{byteAt, isDigit}
 use Rattle.json_tokens.specs.Bytes.{blank, hexDigit, escaped}
-use Rattle.json_tokens.specs.Tokens.{End, At, Broken, andThen, run, blanks, digits, someDigits, closing, separator, chars, escape, hexes, stringRest, string, minus, sign, int, fraction, exponent, number, prefix, word, scalar}
+use Rattle.json_tokens.specs.Tokens.{End, At, Broken, andThen, skipWhile, blanks, digits, someDigits, closing, separator, chars, escape, hexes, stringRest, string, minus, sign, int, fraction, exponent, jsonNumber, startsWith, literal, scalar}
 
 -- an end, k bytes later
 unfoldable pub shifted : ℕ → End → End
@@ -60,10 +60,10 @@ module _ (k : ℕ) where
   place-if {b} {c} v w h p q = rw h (place-on v w c p q)
 
   -- ---- over a text that is at k + i in one count, and at i in the other
-  run-shift : (p : ℕ → Bool) (t : List ℕ) (i : ℕ) → run p t (k + i) ≡ k + run p t i
-  unfolding run
+  run-shift : (p : ℕ → Bool) (t : List ℕ) (i : ℕ) → skipWhile p t (k + i) ≡ k + skipWhile p t i
+  unfolding skipWhile
   run-shift p [] i = refl
-  run-shift p (c ∷ t) i = place-on (run p t (i + 1)) i (p c) (ap (run p t) (past-one i) ∙ run-shift p t (i + 1)) refl
+  run-shift p (c ∷ t) i = place-on (skipWhile p t (i + 1)) i (p c) (ap (skipWhile p t) (past-one i) ∙ run-shift p t (i + 1)) refl
 
   mutual
     unfolding chars
@@ -86,8 +86,8 @@ module _ (k : ℕ) where
     hexes-shift (c ∷ t) zero i = shifts-on (hexDigit c) (rw (past-one i) (chars-shift t (i + 1))) neither
     hexes-shift (c ∷ t) (suc m) i = shifts-on (hexDigit c) (rw (past-one i) (hexes-shift t m (i + 1))) neither
 
-  prefix-shift : (w t : List ℕ) (i : ℕ) → Shifts k (prefix w t (k + i)) (prefix w t i)
-  unfolding prefix
+  prefix-shift : (w t : List ℕ) (i : ℕ) → Shifts k (startsWith w t (k + i)) (startsWith w t i)
+  unfolding startsWith
   prefix-shift [] t i = both refl
   prefix-shift (c ∷ w) [] i = neither
   prefix-shift (c ∷ w) (d ∷ t) i = shifts-on (eqb d c) (rw (past-one i) (prefix-shift w t (i + 1))) neither
@@ -109,11 +109,11 @@ module _ (k : ℕ) (s : List ℕ) where
 
   pub blanks-shift : (i : ℕ) → blanks s (k + i) ≡ k + blanks t i
   unfolding blanks
-  blanks-shift i = ap (λ (x : List ℕ). run blank x (k + i)) (from-shift i) ∙ run-shift k blank (drop i t) i
+  blanks-shift i = ap (λ (x : List ℕ). skipWhile blank x (k + i)) (from-shift i) ∙ run-shift k blank (drop i t) i
 
   digits-shift : (i : ℕ) → digits s (k + i) ≡ k + digits t i
   unfolding digits
-  digits-shift i = ap (λ (x : List ℕ). run isDigit x (k + i)) (from-shift i) ∙ run-shift k isDigit (drop i t) i
+  digits-shift i = ap (λ (x : List ℕ). skipWhile isDigit x (k + i)) (from-shift i) ∙ run-shift k isDigit (drop i t) i
 
   some-shift : (i : ℕ) → Shifts k (someDigits s (k + i)) (someDigits t i)
   unfolding someDigits
@@ -167,16 +167,16 @@ module _ (k : ℕ) (s : List ℕ) where
       (rw (past-one k i, sign-shift (i + 1)) (some-shift (sign t (i + 1))))
       (both refl)
 
-  pub number-shift : (i : ℕ) → Shifts k (number s (k + i)) (number t i)
-  unfolding number
+  pub number-shift : (i : ℕ) → Shifts k (jsonNumber s (k + i)) (jsonNumber t i)
+  unfolding jsonNumber
   number-shift i =
       shifts-then k (exponent s) (exponent t)
       (shifts-then k (fraction s) (fraction t) (rw (minus-shift i) (int-shift (minus t i))) fraction-shift)
       exponent-shift
 
   -- ---- words, and any value that is no array and no object
-  pub word-shift : (w : List ℕ) (i : ℕ) → Shifts k (word w s (k + i)) (word w t i)
-  unfolding word
+  pub word-shift : (w : List ℕ) (i : ℕ) → Shifts k (literal w s (k + i)) (literal w t i)
+  unfolding literal
   word-shift w i = rw (from-shift i) (prefix-shift k w (drop i t) i)
 
   pub scalar-shift : (i : ℕ) → Shifts k (scalar s (k + i)) (scalar t i)

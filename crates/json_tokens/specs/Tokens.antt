@@ -20,17 +20,17 @@ andThen (At e) next = next e
 andThen Broken next = Broken
 
 -- ---- runs of bytes of one kind. `run p t i`: the position past the bytes that pass p; t is the text from i on
-unfoldable pub run : (ℕ → Bool) → List ℕ → ℕ → ℕ
-run p [] i = i
-run p (c ∷ t) i = elim (p c) [ true ↦ run p t (i + 1) | false ↦ i ]
+unfoldable pub skipWhile : (ℕ → Bool) → List ℕ → ℕ → ℕ
+skipWhile p [] i = i
+skipWhile p (c ∷ t) i = elim (p c) [ true ↦ skipWhile p t (i + 1) | false ↦ i ]
 
 -- ws
 unfoldable pub blanks : List ℕ → ℕ → ℕ
-blanks s i = run blank (drop i s) i
+blanks s i = skipWhile blank (drop i s) i
 
 -- *DIGIT
 unfoldable pub digits : List ℕ → ℕ → ℕ
-digits s i = run isDigit (drop i s) i
+digits s i = skipWhile isDigit (drop i s) i
 
 -- 1*DIGIT
 unfoldable pub someDigits : List ℕ → ℕ → End
@@ -98,17 +98,17 @@ unfoldable pub exponent : List ℕ → ℕ → End
 exponent s i = elim (eqb (byteAt s i) 101 || eqb (byteAt s i) 69) [ true ↦ someDigits s (sign s (i + 1)) | false ↦ At i ]
 
 -- number = [ minus ] int [ frac ] [ exp ]
-unfoldable pub number : List ℕ → ℕ → End
-number s i = andThen (andThen (int s (minus s i)) (fraction s)) (exponent s)
+unfoldable pub jsonNumber : List ℕ → ℕ → End
+jsonNumber s i = andThen (andThen (int s (minus s i)) (fraction s)) (exponent s)
 
 -- ---- literal names: the bytes w stand at the front of t, the text from i on
-unfoldable pub prefix : List ℕ → List ℕ → ℕ → End
-prefix [] t i = At i
-prefix (c ∷ w) [] i = Broken
-prefix (c ∷ w) (d ∷ t) i = elim (eqb d c) [ true ↦ prefix w t (i + 1) | false ↦ Broken ]
+unfoldable pub startsWith : List ℕ → List ℕ → ℕ → End
+startsWith [] t i = At i
+startsWith (c ∷ w) [] i = Broken
+startsWith (c ∷ w) (d ∷ t) i = elim (eqb d c) [ true ↦ startsWith w t (i + 1) | false ↦ Broken ]
 
-unfoldable pub word : List ℕ → List ℕ → ℕ → End
-word w s i = prefix w (drop i s) i
+unfoldable pub literal : List ℕ → List ℕ → ℕ → End
+literal w s i = startsWith w (drop i s) i
 
 -- ---- a value that is no array and no object: its first byte tells which
 unfoldable pub scalar : List ℕ → ℕ → End
@@ -116,10 +116,10 @@ scalar s i =
     elim (eqb (byteAt s i) quote) [
       | true ↦ string s i
       | false ↦ elim (eqb (byteAt s i) 116) [
-        | true ↦ word (116 ∷ 114 ∷ 117 ∷ 101 ∷ []) s i
+        | true ↦ literal (116 ∷ 114 ∷ 117 ∷ 101 ∷ []) s i
         | false ↦ elim (eqb (byteAt s i) 102) [
-          | true ↦ word (102 ∷ 97 ∷ 108 ∷ 115 ∷ 101 ∷ []) s i
-          | false ↦ elim (eqb (byteAt s i) 110) [ true ↦ word (110 ∷ 117 ∷ 108 ∷ 108 ∷ []) s i | false ↦ number s i ]
+          | true ↦ literal (102 ∷ 97 ∷ 108 ∷ 115 ∷ 101 ∷ []) s i
+          | false ↦ elim (eqb (byteAt s i) 110) [ true ↦ literal (110 ∷ 117 ∷ 108 ∷ 108 ∷ []) s i | false ↦ jsonNumber s i ]
         ]
       ]
     ]

@@ -16,7 +16,7 @@ ghost use lib.ListN.{length};
 ghost use Rattle.text.specs.Text.{colon};
 ghost use Rattle.json_tokens.specs.Bytes.{comma, closeArray, closeObject, blank, hexDigit, escaped};
 ghost use Rattle.json_tokens.specs.Ends.{unescaped};
-ghost use Rattle.json_tokens.specs.Tokens.{blanks, digits, someDigits, closing, separator, stringRest, string, minus, sign, int, fraction, exponent, number, word, scalar, ended};
+ghost use Rattle.json_tokens.specs.Tokens.{blanks, digits, someDigits, closing, separator, stringRest, string, minus, sign, int, fraction, exponent, jsonNumber, literal, scalar, ended};
 ghost use Rattle.json_tokens.specs.Ends.{endOf, fourHex};
 ghost use Rattle.json_tokens.specs.Words.{twoAt, fourAt, wordAt, specialBytes, CharEnd};
 
@@ -396,7 +396,7 @@ fn exponent_end(s: &[u8], at: usize) -> usize
 
 // Past a number.
 pub fn number_end(s: &[u8], at: usize) -> usize
-    ensures { λ r. ⌜ r ≡ endOf (number (now (s .entry)) at) ⌝ }
+    ensures { λ r. ⌜ r ≡ endOf (jsonNumber (now (s .entry)) at) ⌝ }
 {
     let j = int_end(s, skip_minus(s, at));
     if j == 0 {
@@ -411,7 +411,7 @@ pub fn number_end(s: &[u8], at: usize) -> usize
 
 // Past the bytes of w.
 pub fn word_end(s: &[u8], at: usize, w: &[u8]) -> usize
-    ensures { λ r. ⌜ r ≡ endOf (word (now (w .entry)) (now (s .entry)) at) ⌝ }
+    ensures { λ r. ⌜ r ≡ endOf (literal (now (w .entry)) (now (s .entry)) at) ⌝ }
 {
     let mut k = 0;
     let mut i = at;

@@ -12,18 +12,18 @@ use Rattle.entries.specs.Rows.{Row, entriesAt}
 use Rattle.entries.specs.Summary.{noEntries, summaryOf}
 use Rattle.entries.specs.declared.Entries.{Entries}
 use Rattle.layout.specs.Layout.{Printed, printed, unprinted, Listed, Layout, listedAt, laid}
-use Rattle.layout.specs.Told.{flagsOf, isListed, isBroken, hasZero, notListed, listingOf, listingFrom, noOutline, outlineOf, isPrinted, sumOf, anyBad, isBad, outlineFrom}
-use Rattle.layout.specs.declared.Listing.{Listing}
+use Rattle.layout.specs.Scan.{flagsOf, isListed, isBroken, hasZero, notEntryArray, entryArrayOf, entryArrayFrom, noOutline, outlineOf, isPrinted, sumOf, anyBad, isBad, outlineFrom}
+use Rattle.layout.specs.declared.EntryArray.{EntryArray}
 use Rattle.layout.specs.declared.Outline.{Outline}
 
 module _ (at : ℕ) (e : Entries) where
-  pub listing-fair : (flags : ℕ) → flags ≡ flagsOf (e .broken) (e .zero) → e .fair ≡ true → record { at = at; count = e .count; flags = flags } ≡ listingFrom at e
-  unfolding listingFrom
-  listing-fair flags f h = sym (rw (h, listingFrom, f))
+  pub listing-fair : (flags : ℕ) → flags ≡ flagsOf (e .broken) (e .zero) → e .«well_formed» ≡ true → record { at = at; count = e .count; flags = flags } ≡ entryArrayFrom at e
+  unfolding entryArrayFrom
+  listing-fair flags f h = sym (rw (h, entryArrayFrom, f))
 
-  pub listing-unfair : e .fair ≡ false → notListed ≡ listingFrom at e
-  unfolding listingFrom
-  listing-unfair h = sym (rw (h, listingFrom))
+  pub listing-unfair : e .«well_formed» ≡ false → notEntryArray ≡ entryArrayFrom at e
+  unfolding entryArrayFrom
+  listing-unfair h = sym (rw (h, entryArrayFrom))
 
 -- Flags say what they are made of.
 listed-flags : (broken zero : Bool) → isListed (flagsOf broken zero) ≡ true
@@ -46,16 +46,16 @@ zero-flags true true = refl
 
 -- The listing of a value is made of the summary of it.
 pub listing-of : (entry : List ℕ → Span → Reading Row) (s : List ℕ) (a : Span) (e : ℕ)
-    → listingFrom (a .from) (summaryOf s e (entriesAt entry s a)) ≡ listingOf s (listedAt entry s a)
-unfolding listedAt listingFrom summaryOf noEntries listingOf andThen
+    → entryArrayFrom (a .from) (summaryOf s e (entriesAt entry s a)) ≡ entryArrayOf s (listedAt entry s a)
+unfolding listedAt entryArrayFrom summaryOf noEntries entryArrayOf andThen
 listing-of entry s a e = go (entriesAt entry s a)
   where
-    go : (x : Reading (List Row)) → listingFrom (a .from) (summaryOf s e x) ≡ listingOf s (andThen x (λ rows. reads (record { at = a .from; rows = rows })))
+    go : (x : Reading (List Row)) → entryArrayFrom (a .from) (summaryOf s e x) ≡ entryArrayOf s (andThen x (λ rows. reads (record { at = a .from; rows = rows })))
     go (reads rows) = refl
     go refused = refl
 
 -- Whether a side breaks a rule of decimals.
-module _ (snapshot : Bool) (l : Listing) where
+module _ (snapshot : Bool) (l : EntryArray) where
   pub bad-broken : isBroken (l .flags) ≡ true → true ≡ isBad snapshot l
   unfolding isBad
   bad-broken h = sym (rw (h, isBad))
@@ -68,10 +68,10 @@ module _ (snapshot : Bool) (l : Listing) where
   unfolding isBad
   bad-update h g = sym (rw (h, g, isBad))
 
-module _ (snapshot : Bool) (b a : Listing) (sent : Bool) (sum number : ℕ) where
+module _ (snapshot : Bool) (b a : EntryArray) (sent : Bool) (sum number : ℕ) where
   pub outline-fair : isListed (b .flags) ≡ true → isListed (a .flags) ≡ true → (x y z : Bool) → x ≡ isBad snapshot b → y ≡ isBad snapshot a → z ≡ (x || y)
       → record {
-        fair = true;
+        «well_formed» = true;
         snapshot = snapshot;
         «bids_at» = b .at;
         bids = b .count;
@@ -96,8 +96,8 @@ module _ (snapshot : Bool) (b a : Listing) (sent : Bool) (sum number : ℕ) wher
 
 -- The outline of a layout is made of the listings of its sides.
 pub outline-of : (s : List ℕ) (snapshot : Bool) (p : Printed) (n : ℕ) (b a : Reading Listed)
-    → outlineFrom snapshot (listingOf s b) (listingOf s a) (isPrinted p) (sumOf p) n ≡ outlineOf s (laid snapshot p n b a)
-unfolding outlineFrom listingOf laid andThen outlineOf isBad anyBad
+    → outlineFrom snapshot (entryArrayOf s b) (entryArrayOf s a) (isPrinted p) (sumOf p) n ≡ outlineOf s (laid snapshot p n b a)
+unfolding outlineFrom entryArrayOf laid andThen outlineOf isBad anyBad
 outline-of s snapshot p n (reads b) (reads a) = simp (listed-flags, broken-flags, zero-flags)
 outline-of s snapshot p n (reads b) refused = simp listed-flags
 outline-of s snapshot p n refused a = refl

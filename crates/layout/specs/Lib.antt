@@ -1,5 +1,5 @@
 -- In reading order: how deep a message nests; what is read of it; what one walk over it tells, in numbers; how often members have one of our names.
 pub mod Depths
 pub mod Layout
-pub mod Told
-pub mod Marks
+pub mod Scan
+pub mod MemberSpans

@@ -4,8 +4,8 @@ use entries::Entries;
 use json::MAX_DEPTH;
 use text::either;
 ghost use mathlib.Core.Path.{_≡_};
-ghost use Rattle.layout.specs.Marks.{fewMore, unmarked, more, emptySlot};
-ghost use Rattle.layout.specs.Told.{notListed, nothingListed, listingFrom, flagsOf, isListed, isBroken, hasZero, isBad, outlineFrom, noOutline, noFrame};
+ghost use Rattle.layout.specs.MemberSpans.{fewMore, noMemberSpan, withMemberSpan, noEntryMember};
+ghost use Rattle.layout.specs.Scan.{notEntryArray, absentEntryArray, entryArrayFrom, flagsOf, isListed, isBroken, hasZero, isBad, outlineFrom, noOutline, notFramed};
 
 // How deep arrays and objects may nest in an item of the message (an element in K, a member in M), and in an item of that, as a
 // side's array of entries is one.
@@ -14,7 +14,7 @@ pub const ITEM_DEPTH: usize = MAX_DEPTH - 1;
 pub const SIDE_DEPTH: usize = ITEM_DEPTH - 1;
 
 // The entries of one side.
-pub struct Listing {
+pub struct EntryArray {
     // Where the array of entries begins, or 0 where the message has none for this side.
     pub at: usize,
     pub count: usize,
@@ -34,7 +34,7 @@ pub struct Outline {
     pub number: u64,
     pub checksum: u32,
     // Whether the layout is right. If not, the rest says nothing.
-    pub fair: bool,
+    pub well_formed: bool,
     pub snapshot: bool,
     // Whether some price or size breaks a rule of decimals.
     pub bad: bool,
@@ -42,7 +42,7 @@ pub struct Outline {
     pub printed: bool,
 }
 
-pub struct Told {
+pub struct Scan {
     // Past the message's value, or 0 where it is not JSON.
     pub end: usize,
     pub outline: Outline,
@@ -55,7 +55,7 @@ pub struct Told {
 }
 
 // How often a member of one name was met, and where the value of the last one lies.
-pub struct Mark {
+pub struct MemberSpan {
     // 0, 1, or 2 for more often.
     pub times: usize,
     pub from: usize,
@@ -63,31 +63,31 @@ pub struct Mark {
 }
 
 // How often a member of one name was met, and what is told of the entries that the last one holds.
-pub struct Slot {
+pub struct EntryMember {
     // 0, 1, or 2 for more often.
     pub times: usize,
-    pub listing: Listing,
+    pub listing: EntryArray,
 }
 
 // The array of entries at `at`, of which the entries are told.
-pub fn listing_at(at: usize, entries: Entries) -> Listing
-    ensures { λ r. ⌜ r ≡ listingFrom at entries ⌝ }
+pub fn entry_array_at(at: usize, entries: Entries) -> EntryArray
+    ensures { λ r. ⌜ r ≡ entryArrayFrom at entries ⌝ }
 {
-    if entries.fair {
-        return Listing {
+    if entries.well_formed {
+        return EntryArray {
             at,
             count: entries.count,
             flags: flags_of(entries.broken, entries.zero),
         };
     }
-    not_listed()
+    not_entry_array()
 }
 
 // A value that is no array of entries.
-fn not_listed() -> Listing
-    ensures { λ r. ⌜ r ≡ notListed ⌝ }
+fn not_entry_array() -> EntryArray
+    ensures { λ r. ⌜ r ≡ notEntryArray ⌝ }
 {
-    Listing {
+    EntryArray {
         at: 0,
         count: 0,
         flags: 0,
@@ -95,10 +95,10 @@ fn not_listed() -> Listing
 }
 
 // The entries of a side that has no array.
-pub fn no_listing() -> Listing
-    ensures { λ r. ⌜ r ≡ nothingListed ⌝ }
+pub fn absent_entry_array() -> EntryArray
+    ensures { λ r. ⌜ r ≡ absentEntryArray ⌝ }
 {
-    Listing {
+    EntryArray {
         at: 0,
         count: 0,
         flags: 1,
@@ -108,8 +108,8 @@ pub fn no_listing() -> Listing
 // The layout of a message of these entries, if they are entries.
 pub fn outline_of(
     snapshot: bool,
-    bids: Listing,
-    asks: Listing,
+    bids: EntryArray,
+    asks: EntryArray,
     printed: bool,
     checksum: u32,
     number: u64,
@@ -119,7 +119,7 @@ pub fn outline_of(
     if is_listed(bids.flags) {
         if is_listed(asks.flags) {
             return Outline {
-                fair: true,
+                well_formed: true,
                 snapshot,
                 bids_at: bids.at,
                 bids: bids.count,
@@ -136,7 +136,7 @@ pub fn outline_of(
     no_outline()
 }
 
-fn is_bad(snapshot: bool, side: Listing) -> bool
+fn is_bad(snapshot: bool, side: EntryArray) -> bool
     ensures { λ r. ⌜ r ≡ isBad snapshot side ⌝ }
 {
     if is_broken(side.flags) {
@@ -182,7 +182,7 @@ pub fn no_outline() -> Outline
     ensures { λ r. ⌜ r ≡ noOutline ⌝ }
 {
     Outline {
-        fair: false,
+        well_formed: false,
         snapshot: false,
         bids_at: 0,
         bids: 0,
@@ -196,10 +196,10 @@ pub fn no_outline() -> Outline
 }
 
 // A value that ends at `end` and has not the dialect's outer form.
-pub fn untold(end: usize) -> Told
-    ensures { λ r. ⌜ r ≡ noFrame end ⌝ }
+pub fn not_framed(end: usize) -> Scan
+    ensures { λ r. ⌜ r ≡ notFramed end ⌝ }
 {
-    Told {
+    Scan {
         end,
         framed: false,
         escaped: false,
@@ -208,10 +208,10 @@ pub fn untold(end: usize) -> Told
     }
 }
 
-pub fn no_mark() -> Mark
-    ensures { λ r. ⌜ r ≡ unmarked ⌝ }
+pub fn no_member_span() -> MemberSpan
+    ensures { λ r. ⌜ r ≡ noMemberSpan ⌝ }
 {
-    Mark {
+    MemberSpan {
         times: 0,
         from: 0,
         to: 0,
@@ -219,30 +219,30 @@ pub fn no_mark() -> Mark
 }
 
 // One more member, whose value lies from `from` to `to`.
-pub fn marked(mark: Mark, from: usize, to: usize) -> Mark
-    ensures { λ r. ⌜ r ≡ more mark (record { from = from; to = to }) ⌝ }
+pub fn with_member_span(mark: MemberSpan, from: usize, to: usize) -> MemberSpan
+    ensures { λ r. ⌜ r ≡ withMemberSpan mark (record { from = from; to = to }) ⌝ }
 {
-    Mark {
+    MemberSpan {
         times: few_more(mark.times),
         from,
         to,
     }
 }
 
-pub fn no_slot() -> Slot
-    ensures { λ r. ⌜ r ≡ emptySlot ⌝ }
+pub fn no_entry_member() -> EntryMember
+    ensures { λ r. ⌜ r ≡ noEntryMember ⌝ }
 {
-    Slot {
+    EntryMember {
         times: 0,
-        listing: not_listed(),
+        listing: not_entry_array(),
     }
 }
 
 // One more member, which holds these entries.
-pub fn slotted(slot: Slot, listing: Listing) -> Slot
+pub fn with_entry_array(slot: EntryMember, listing: EntryArray) -> EntryMember
     ensures { λ r. ⌜ r ≡ record { times = fewMore (slot .times); listing = listing } ⌝ }
 {
-    Slot {
+    EntryMember {
         times: few_more(slot.times),
         listing,
     }

@@ -10,8 +10,8 @@ use Rattle.level.specs.declared.Side.{Side}
 use Rattle.level.specs.declared.Side.the-variants.{Bids, Asks}
 use Rattle.level.specs.declared.Level.{Level}
 use Rattle.level.specs.declared.Levels.{Levels}
-use Rattle.level.specs.declared.Found.{Found}
-use Rattle.level.specs.declared.Found.the-variants.{At, Nothing}
+use Rattle.level.specs.declared.MaybeLevel.{MaybeLevel}
+use Rattle.level.specs.declared.MaybeLevel.the-variants.{At, Nothing}
 use Rattle.level.specs.Words.{levelsIn}
 use Rattle.level.specs.Kept.{maxLevels, maxWords, held, levelAt, Good, Empty}
 use Rattle.level.proofs.Stored.{length-levels}

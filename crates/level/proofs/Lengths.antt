@@ -9,7 +9,7 @@ use lib.ListN.{length}
 use lib.Seq.{take-all}
 use Rattle.decimal.specs.Decimal.{Number, value}
 use Rattle.level.specs.declared.Side.{Side}
-use Rattle.level.specs.Side.{Edit, sets, removes, before, without, apply, applyAll, place, ranked}
+use Rattle.level.specs.Side.{Edit, sets, removes, nearer, without, apply, applyAll, place, ranked}
 use Rattle.level.specs.Ranked.{afterMessage}
 
 module _ {A : Type 0} (priceOf : A → Number) where
@@ -21,7 +21,7 @@ module _ {A : Type 0} (priceOf : A → Number) where
   unfolding place
   length-place side x [] = refl
   length-place side x (y ∷ s) =
-      place-cond x y s (place priceOf side x s) (before side (value (priceOf y)) (value (priceOf x))) (length-place side x s)
+      place-cond x y s (place priceOf side x s) (nearer side (value (priceOf y)) (value (priceOf x))) (length-place side x s)
 
   pub length-ranked : (side : Side) (s : List A) → length (ranked priceOf side s) ≡ length s
   unfolding ranked

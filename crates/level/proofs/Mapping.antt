@@ -11,8 +11,8 @@ use Rattle.level.specs.declared.Side.{Side}
 use Rattle.level.specs.declared.Level.{Level}
 use Rattle.level.specs.Level.{PriceLevel, shownPrice}
 use Rattle.level.specs.Words.{levelPrice, shown}
-use Rattle.level.specs.Side.{Edit, sets, removes, before, without, apply, applyAll, place, ranked}
-use Rattle.level.specs.Ranked.{standing, afterMessage, named, meets, met, mapEdit}
+use Rattle.level.specs.Side.{Edit, sets, removes, nearer, without, apply, applyAll, place, ranked}
+use Rattle.level.specs.Ranked.{standing, afterMessage, named, replaces, replaced, mapEdit}
 
 map-take : {A B : Type 0} (f : A → B) (n : ℕ) (s : List A) → map f (take n s) ≡ take n (map f s)
 map-take f zero s = refl
@@ -71,13 +71,13 @@ module _ {A B : Type 0} (priceA : A → Number) (priceB : B → Number) (f : A �
   map-standing v [] = refl
   map-standing v (x ∷ s) = rw (same x, map-standing v s)
 
-  map-meets : (e : Edit A) (s : List A) → meets priceB (mapEdit f e) (map f s) ≡ meets priceA e s
-  unfolding meets mapEdit
+  map-meets : (e : Edit A) (s : List A) → replaces priceB (mapEdit f e) (map f s) ≡ replaces priceA e s
+  unfolding replaces mapEdit
   map-meets (sets x) s = rw (same x, map-standing (value (priceA x)) s)
   map-meets (removes p) s = refl
 
-  pub map-met : (es : List (Edit A)) (s : List A) → met priceB (map (mapEdit f) es) (map f s) ≡ met priceA es s
-  unfolding met
+  pub map-met : (es : List (Edit A)) (s : List A) → replaced priceB (map (mapEdit f) es) (map f s) ≡ replaced priceA es s
+  unfolding replaced
   map-met [] s = refl
   map-met (e ∷ es) s = rw (map-meets e s, ← map-apply e s, map-met es (apply priceA e s))
 
@@ -93,5 +93,5 @@ shown-afterMessage = map-afterMessage levelPrice shownPrice shown shown-price
 pub shown-count : (es : List (Edit Level)) (s : List Level) → length (applyAll shownPrice (map (mapEdit shown) es) (map shown s)) ≡ length (applyAll levelPrice es s)
 shown-count = map-count levelPrice shownPrice shown shown-price
 
-pub shown-met : (es : List (Edit Level)) (s : List Level) → met shownPrice (map (mapEdit shown) es) (map shown s) ≡ met levelPrice es s
+pub shown-met : (es : List (Edit Level)) (s : List Level) → replaced shownPrice (map (mapEdit shown) es) (map shown s) ≡ replaced levelPrice es s
 shown-met = map-met levelPrice shownPrice shown shown-price

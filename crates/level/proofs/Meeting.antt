@@ -10,8 +10,8 @@ use native.Mathlib.Nat.{le-of-suc-le-suc, not-suc-le-zero}
 use borrow.Author.Tests.{eqb-true, eqb-false, eq-eqb, ne-eqb}
 use Rattle.decimal.specs.Decimal.{Number, value}
 use Rattle.level.specs.declared.Side.{Side}
-use Rattle.level.specs.Side.{Edit, sets, removes, before, names, namesTwice, without, apply, place, ranked}
-use Rattle.level.specs.Ranked.{All, standing, named, meets, met, IsSet}
+use Rattle.level.specs.Side.{Edit, sets, removes, nearer, names, namesTwice, without, apply, place, ranked}
+use Rattle.level.specs.Ranked.{All, standing, named, replaces, replaced, IsSet}
 use Rattle.level.proofs.Ranking.{applyRanked, commute}
 
 or-swap : (a b c : Bool) → (a || (b || c)) ≡ (b || (a || c))
@@ -60,7 +60,7 @@ module _ {A : Type 0} (priceOf : A → Number) where
   standing-place : (side : Side) (v : ℕ) (x : A) (s : List A) → standing priceOf v (place priceOf side x s) ≡ (eqb (key x) v || standing priceOf v s)
   unfolding standing place
   standing-place side v x [] = refl
-  standing-place side v x (y ∷ s) = place-cond side v x y s (before side (key y) (key x)) (standing-place side v x s)
+  standing-place side v x (y ∷ s) = place-cond side v x y s (nearer side (key y) (key x)) (standing-place side v x s)
 
   pub standing-ranked : (side : Side) (v : ℕ) (s : List A) → standing priceOf v (ranked priceOf side s) ≡ standing priceOf v s
   unfolding standing ranked
@@ -68,18 +68,18 @@ module _ {A : Type 0} (priceOf : A → Number) where
   standing-ranked side v (x ∷ s) =
       standing-place side v x (ranked priceOf side s) ∙ ap (λ (b : Bool). eqb (key x) v || b) (standing-ranked side v s)
 
-  meets-ranked : (side : Side) (e : Edit A) (s : List A) → meets priceOf e s ≡ meets priceOf e (ranked priceOf side s)
-  unfolding meets
+  meets-ranked : (side : Side) (e : Edit A) (s : List A) → replaces priceOf e s ≡ replaces priceOf e (ranked priceOf side s)
+  unfolding replaces
   meets-ranked side (sets x) s = sym (standing-ranked side (key x) s)
   meets-ranked side (removes p) s = refl
 
-  -- `met` on a side that is ranked after each entry
+  -- `replaced` on a side that is ranked after each entry
   unfoldable pub metRanked : Side → List (Edit A) → List A → Bool
   metRanked side [] s = false
-  metRanked side (e ∷ es) s = meets priceOf e s || metRanked side es (applyRanked priceOf side e s)
+  metRanked side (e ∷ es) s = replaces priceOf e s || metRanked side es (applyRanked priceOf side e s)
 
-  pub met-ranked : (side : Side) (es : List (Edit A)) (s : List A) → met priceOf es s ≡ metRanked side es (ranked priceOf side s)
-  unfolding met metRanked
+  pub met-ranked : (side : Side) (es : List (Edit A)) (s : List A) → replaced priceOf es s ≡ metRanked side es (ranked priceOf side s)
+  unfolding replaced metRanked
   met-ranked side [] s = refl
   met-ranked side (e ∷ es) s = rw (met-ranked side es (apply priceOf e s), commute priceOf side e s, meets-ranked side e s)
 
@@ -117,8 +117,8 @@ module _ {A : Type 0} (priceOf : A → Number) where
   any-none (p ∷ ps) = any-none ps
 
   met-sets : (es : List (Edit A)) (s : List A) → All IsSet es
-      → met priceOf es s ≡ (anyStanding (map (named priceOf) es) s || namesTwice (map (named priceOf) es))
-  unfolding All IsSet met meets apply named anyStanding namesTwice
+      → replaced priceOf es s ≡ (anyStanding (map (named priceOf) es) s || namesTwice (map (named priceOf) es))
+  unfolding All IsSet replaced replaces apply named anyStanding namesTwice
   met-sets [] s a = refl
   met-sets (sets x ∷ es) s a =
       rw (met-sets es (x ∷ without priceOf (key x) s) (a .1), any-set (map (named priceOf) es) x s)
@@ -126,5 +126,5 @@ module _ {A : Type 0} (priceOf : A → Number) where
   met-sets (removes p ∷ es) s a = absurd (a .0)
 
   -- a snapshot's entries meet a level where they name one price twice
-  pub met-snapshot : (es : List (Edit A)) → All IsSet es → met priceOf es [] ≡ namesTwice (map (named priceOf) es)
+  pub met-snapshot : (es : List (Edit A)) → All IsSet es → replaced priceOf es [] ≡ namesTwice (map (named priceOf) es)
   met-snapshot es a = rw (met-sets es [] a, any-none (map (named priceOf) es))

@@ -74,21 +74,21 @@ module _ (level : Level) (fits : Fits level) where
 
 -- ---- the lists of words
 
-pub length-entries : (prices sizes rests : List ℕ) → length sizes ≡ length prices → length rests ≡ length prices → length (entriesOf prices sizes rests) ≡ length prices
+pub length-entries : (prices sizes packs : List ℕ) → length sizes ≡ length prices → length packs ≡ length prices → length (entriesOf prices sizes packs) ≡ length prices
 unfolding entriesOf
-length-entries [] sizes rests e f = refl
-length-entries (p ∷ prices) [] rests e f = absurd (omega arith)
+length-entries [] sizes packs e f = refl
+length-entries (p ∷ prices) [] packs e f = absurd (omega arith)
 length-entries (p ∷ prices) (s ∷ sizes) [] e f = absurd (omega arith)
-length-entries (p ∷ prices) (s ∷ sizes) (r ∷ rests) e f = ap suc (length-entries prices sizes rests (omega arith) (omega arith))
+length-entries (p ∷ prices) (s ∷ sizes) (r ∷ packs) e f = ap suc (length-entries prices sizes packs (omega arith) (omega arith))
 
 -- one entry more
-pub entries-snoc : (prices sizes rests : List ℕ) (price size rest : ℕ) → length sizes ≡ length prices → length rests ≡ length prices
-    → entriesOf (prices ++ price ∷ []) (sizes ++ size ∷ []) (rests ++ rest ∷ []) ≡ entriesOf prices sizes rests ++ editOf price size rest ∷ []
+pub entries-snoc : (prices sizes packs : List ℕ) (price size rest : ℕ) → length sizes ≡ length prices → length packs ≡ length prices
+    → entriesOf (prices ++ price ∷ []) (sizes ++ size ∷ []) (packs ++ rest ∷ []) ≡ entriesOf prices sizes packs ++ editOf price size rest ∷ []
 unfolding entriesOf
 entries-snoc [] [] [] price size rest e f = refl
-entries-snoc [] [] (r ∷ rests) price size rest e f = absurd (omega arith)
-entries-snoc [] (s ∷ sizes) rests price size rest e f = absurd (omega arith)
-entries-snoc (p ∷ prices) [] rests price size rest e f = absurd (omega arith)
+entries-snoc [] [] (r ∷ packs) price size rest e f = absurd (omega arith)
+entries-snoc [] (s ∷ sizes) packs price size rest e f = absurd (omega arith)
+entries-snoc (p ∷ prices) [] packs price size rest e f = absurd (omega arith)
 entries-snoc (p ∷ prices) (s ∷ sizes) [] price size rest e f = absurd (omega arith)
-entries-snoc (p ∷ prices) (s ∷ sizes) (r ∷ rests) price size rest e f =
-    ap (λ (t : List (Edit Level)). editOf p s r ∷ t) (entries-snoc prices sizes rests price size rest (omega arith) (omega arith))
+entries-snoc (p ∷ prices) (s ∷ sizes) (r ∷ packs) price size rest e f =
+    ap (λ (t : List (Edit Level)). editOf p s r ∷ t) (entries-snoc prices sizes packs price size rest (omega arith) (omega arith))

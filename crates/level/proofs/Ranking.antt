@@ -9,7 +9,7 @@ use lib.ListN.{take}
 use borrow.Author.Tests.{eqb-true, eqb-false, eq-eqb, ne-eqb}
 use Rattle.decimal.specs.Decimal.{Number, value}
 use Rattle.level.specs.declared.Side.{Side}
-use Rattle.level.specs.Side.{Edit, sets, removes, before, names, namesTwice, without, apply, applyAll, place, ranked}
+use Rattle.level.specs.Side.{Edit, sets, removes, nearer, names, namesTwice, without, apply, applyAll, place, ranked}
 use Rattle.level.specs.Ranked.{All, standing, afterMessage, rankedEach, Distinct, Sorted, IfSet}
 use Rattle.level.proofs.Order.{before-ne, before-trans, before-asym, before-or-after, not-before-trans}
 use Rattle.level.proofs.All.{all-map, all-cond, all-take}
@@ -40,7 +40,7 @@ module _ {A : Type 0} (priceOf : A → Number) where
   unfolding All place
   all-place P side x [] p a = (p, tt)
   all-place P side x (y ∷ s) p a =
-      all-cond P (before side (key y) (key x)) (y ∷ place priceOf side x s) (x ∷ y ∷ s) (a .0, all-place P side x s p (a .1)) (p, a)
+      all-cond P (nearer side (key y) (key x)) (y ∷ place priceOf side x s) (x ∷ y ∷ s) (a .0, all-place P side x s p (a .1)) (p, a)
 
   pub all-ranked : (P : A → Type 0) (side : Side) (s : List A) → All P s → All P (ranked priceOf side s)
   unfolding All ranked
@@ -102,12 +102,12 @@ module _ {A : Type 0} (priceOf : A → Number) where
 
   -- ---- place
 
-  pub place-front : (side : Side) (x : A) (s : List A) → All (λ y. before side (key y) (key x) ≡ false) s → place priceOf side x s ≡ x ∷ s
+  pub place-front : (side : Side) (x : A) (s : List A) → All (λ y. nearer side (key y) (key x) ≡ false) s → place priceOf side x s ≡ x ∷ s
   unfolding All place
   place-front side x [] a = refl
   place-front side x (y ∷ s) a = simp (a .0)
 
-  pub place-middle : (side : Side) (x : A) (p q : List A) → All (λ y. before side (key y) (key x) ≡ true) p → All (λ y. before side (key y) (key x) ≡ false) q
+  pub place-middle : (side : Side) (x : A) (p q : List A) → All (λ y. nearer side (key y) (key x) ≡ true) p → All (λ y. nearer side (key y) (key x) ≡ false) q
       → place priceOf side x (p ++ q) ≡ p ++ x ∷ q
   unfolding All place
   place-middle side x [] q a c = place-front side x q c
@@ -117,20 +117,20 @@ module _ {A : Type 0} (priceOf : A → Number) where
 
   unfoldable pub Weak : Side → List A → Type 0
   Weak side [] = Unit
-  Weak side (x ∷ s) = All (λ y. before side (key y) (key x) ≡ false) s × Weak side s
+  Weak side (x ∷ s) = All (λ y. nearer side (key y) (key x) ≡ false) s × Weak side s
 
-  weak-after : (side : Side) (x y : A) (s : List A) (t : Bool) → before side (key y) (key x) ≡ t → Weak side (y ∷ s) → Weak side (place priceOf side x s)
+  weak-after : (side : Side) (x y : A) (s : List A) (t : Bool) → nearer side (key y) (key x) ≡ t → Weak side (y ∷ s) → Weak side (place priceOf side x s)
       → Weak side (cond t (y ∷ place priceOf side x s) (x ∷ y ∷ s))
   unfolding All Weak
   weak-after side x y s true e w c =
-      (all-place (λ z. before side (key z) (key y) ≡ false) side x s (before-asym side (key y) (key x) e) (w .0), c)
+      (all-place (λ z. nearer side (key z) (key y) ≡ false) side x s (before-asym side (key y) (key x) e) (w .0), c)
   weak-after side x y s false e w c =
       ((e, all-map (λ z h. not-before-trans side (key z) (key y) (key x) h e) s (w .0)), w)
 
   weak-place : (side : Side) (x : A) (s : List A) → Weak side s → Weak side (place priceOf side x s)
   unfolding All Weak place
   weak-place side x [] w = (tt, tt)
-  weak-place side x (y ∷ s) w = weak-after side x y s (before side (key y) (key x)) refl w (weak-place side x s (w .1))
+  weak-place side x (y ∷ s) w = weak-after side x y s (nearer side (key y) (key x)) refl w (weak-place side x s (w .1))
 
   pub ranked-weak : (side : Side) (s : List A) → Weak side (ranked priceOf side s)
   unfolding Weak ranked
@@ -159,15 +159,15 @@ module _ {A : Type 0} (priceOf : A → Number) where
   unfolding without place
   without-place-same side v x [] e = simp (eq-eqb (key x) v e)
   without-place-same side v x (y ∷ s) e =
-      same-cond side v x y s (before side (key y) (key x)) e (without-place-same side v x s e)
+      same-cond side v x y s (nearer side (key y) (key x)) e (without-place-same side v x s e)
 
-  kept-cond : (side : Side) (x y : A) (s : List A) (u : Bool) → before side (key y) (key x) ≡ true
+  kept-cond : (side : Side) (x y : A) (s : List A) (u : Bool) → nearer side (key y) (key x) ≡ true
       → cond u (place priceOf side x s) (y ∷ place priceOf side x s) ≡ place priceOf side x (cond u s (y ∷ s))
   unfolding place
   kept-cond side x y s true e = refl
   kept-cond side x y s false e = simp e
 
-  other-cond : (side : Side) (v : ℕ) (x y : A) (s : List A) (t : Bool) → before side (key y) (key x) ≡ t → (key x ≡ v → ⊥) → Weak side (y ∷ s)
+  other-cond : (side : Side) (v : ℕ) (x y : A) (s : List A) (t : Bool) → nearer side (key y) (key x) ≡ t → (key x ≡ v → ⊥) → Weak side (y ∷ s)
       → without priceOf v (place priceOf side x s) ≡ place priceOf side x (without priceOf v s)
       → without priceOf v (cond t (y ∷ place priceOf side x s) (x ∷ y ∷ s)) ≡ place priceOf side x (without priceOf v (y ∷ s))
   unfolding without Weak All
@@ -175,7 +175,7 @@ module _ {A : Type 0} (priceOf : A → Number) where
   other-cond side v x y s false e n w h =
       simp (ne-eqb (key x) v n)
       (sym (place-front side x (without priceOf v (y ∷ s))
-      (all-without (λ z. before side (key z) (key x) ≡ false) v (y ∷ s)
+      (all-without (λ z. nearer side (key z) (key x) ≡ false) v (y ∷ s)
       (e, all-map (λ z k. not-before-trans side (key z) (key y) (key x) k e) s (w .0)))))
 
   without-place-other : (side : Side) (v : ℕ) (x : A) (s : List A) → (key x ≡ v → ⊥) → Weak side s
@@ -183,7 +183,7 @@ module _ {A : Type 0} (priceOf : A → Number) where
   unfolding without place Weak
   without-place-other side v x [] n w = simp (ne-eqb (key x) v n)
   without-place-other side v x (y ∷ s) n w =
-      other-cond side v x y s (before side (key y) (key x)) refl n w (without-place-other side v x s n (w .1))
+      other-cond side v x y s (nearer side (key y) (key x)) refl n w (without-place-other side v x s n (w .1))
 
   ranked-cond : (side : Side) (v : ℕ) (x : A) (s : List A) (t : Bool) → eqb (key x) v ≡ t → ranked priceOf side (without priceOf v s) ≡ without priceOf v (ranked priceOf side s)
       → ranked priceOf side (cond t (without priceOf v s) (x ∷ without priceOf v s)) ≡ without priceOf v (place priceOf side x (ranked priceOf side s))
@@ -236,7 +236,7 @@ module _ {A : Type 0} (priceOf : A → Number) where
       ap (place priceOf side x) (sorted-ranked side s (h .1))
       ∙ place-front side x s (all-map (λ y k. before-asym side (key x) (key y) k) s (h .0))
 
-  sorted-cond : (side : Side) (x : A) (s : List A) (t : Bool) → All (λ y. before side (key x) (key y) ≡ true) s → Sorted priceOf side s → Sorted priceOf side (cond t s (x ∷ s))
+  sorted-cond : (side : Side) (x : A) (s : List A) (t : Bool) → All (λ y. nearer side (key x) (key y) ≡ true) s → Sorted priceOf side s → Sorted priceOf side (cond t s (x ∷ s))
   unfolding Sorted
   sorted-cond side x s true a h = h
   sorted-cond side x s false a h = (a, h)
@@ -245,20 +245,20 @@ module _ {A : Type 0} (priceOf : A → Number) where
   unfolding Sorted without
   sorted-without side v [] h = tt
   sorted-without side v (x ∷ s) h =
-      sorted-cond side x (without priceOf v s) (eqb (key x) v) (all-without (λ y. before side (key x) (key y) ≡ true) v s (h .0)) (sorted-without side v s (h .1))
+      sorted-cond side x (without priceOf v s) (eqb (key x) v) (all-without (λ y. nearer side (key x) (key y) ≡ true) v s (h .0)) (sorted-without side v s (h .1))
 
-  place-cond : (side : Side) (x y : A) (s : List A) (t : Bool) → before side (key y) (key x) ≡ t → (key y ≡ key x → ⊥) → Sorted priceOf side (y ∷ s)
+  place-cond : (side : Side) (x y : A) (s : List A) (t : Bool) → nearer side (key y) (key x) ≡ t → (key y ≡ key x → ⊥) → Sorted priceOf side (y ∷ s)
       → Sorted priceOf side (place priceOf side x s) → Sorted priceOf side (cond t (y ∷ place priceOf side x s) (x ∷ y ∷ s))
   unfolding Sorted All
-  place-cond side x y s true e n h c = (all-place (λ z. before side (key y) (key z) ≡ true) side x s e (h .0), c)
+  place-cond side x y s true e n h c = (all-place (λ z. nearer side (key y) (key z) ≡ true) side x s e (h .0), c)
   place-cond side x y s false e n h c =
-      let f : before side (key x) (key y) ≡ true = before-or-after side (key y) (key x) e n in
+      let f : nearer side (key x) (key y) ≡ true = before-or-after side (key y) (key x) e n in
       ((f, all-map (λ z k. before-trans side (key x) (key y) (key z) f k) s (h .0)), h)
 
   pub sorted-place : (side : Side) (x : A) (s : List A) → All (λ y. key y ≡ key x → ⊥) s → Sorted priceOf side s → Sorted priceOf side (place priceOf side x s)
   unfolding Sorted All place
   sorted-place side x [] a h = (tt, tt)
-  sorted-place side x (y ∷ s) a h = place-cond side x y s (before side (key y) (key x)) refl (a .0) h (sorted-place side x s (a .1) (h .1))
+  sorted-place side x (y ∷ s) a h = place-cond side x y s (nearer side (key y) (key x)) refl (a .0) h (sorted-place side x s (a .1) (h .1))
 
   -- an entry leaves a side in order
   pub sorted-entry : (side : Side) (e : Edit A) (s : List A) → Sorted priceOf side s → Sorted priceOf side (applyRanked side e s)
@@ -270,7 +270,7 @@ module _ {A : Type 0} (priceOf : A → Number) where
   unfolding Sorted All
   sorted-take side zero s h = tt
   sorted-take side (suc n) [] h = tt
-  sorted-take side (suc n) (x ∷ s) h = (all-take (λ y. before side (key x) (key y) ≡ true) n s (h .0), sorted-take side n s (h .1))
+  sorted-take side (suc n) (x ∷ s) h = (all-take (λ y. nearer side (key x) (key y) ≡ true) n s (h .0), sorted-take side n s (h .1))
 
   -- ---- at most one level a price
 
@@ -330,7 +330,7 @@ module _ {A : Type 0} (priceOf : A → Number) where
 
   -- ---- where an entry goes: p is before its price, q behind it, and x, if there is one, at it
 
-  module _ (side : Side) (v : ℕ) (p q : List A) (low : All (λ y. before side (key y) v ≡ true) p) (high : All (λ y. before side v (key y) ≡ true) q) where
+  module _ (side : Side) (v : ℕ) (p q : List A) (low : All (λ y. nearer side (key y) v ≡ true) p) (high : All (λ y. nearer side v (key y) ≡ true) q) where
     without-low : without priceOf v p ≡ p
     without-low = without-none v p (all-map (λ y h. before-ne side (key y) v h) p low)
 

@@ -7,7 +7,7 @@ use Rattle.decimal.specs.Decimal.{Number, value}
 use Rattle.level.specs.declared.Side.the-variants.{Bids, Asks}
 use Rattle.level.specs.Level.{PriceLevel, shownPrice}
 use Rattle.level.specs.Side.{Edit, sets, removes, names, namesTwice, without, apply, applyAll, place, ranked}
-use Rattle.level.specs.Ranked.{standing, afterMessage, meets, met}
+use Rattle.level.specs.Ranked.{standing, afterMessage, replaces, replaced}
 
 unfoldable decimal : ℕ → ℕ → Number
 decimal digits decimals = record { digits = digits; decimals = decimals }
@@ -43,12 +43,12 @@ unfolding decimal namesTwice names value
 one-price = refl
 
 -- a snapshot that names a price twice meets the first of the two; a price that was removed in between is not met
-met-twice : met shownPrice (sets (half 5 1) ∷ sets (half 50 2) ∷ []) [] ≡ true
-unfolding half decimal met meets standing apply without value
+met-twice : replaced shownPrice (sets (half 5 1) ∷ sets (half 50 2) ∷ []) [] ≡ true
+unfolding half decimal replaced replaces standing apply without value
 met-twice = refl
 
-not-met : met shownPrice (sets (half 5 1) ∷ removes (decimal 50 2) ∷ sets (half 50 2) ∷ []) [] ≡ false
-unfolding half decimal met meets standing apply without value
+not-met : replaced shownPrice (sets (half 5 1) ∷ removes (decimal 50 2) ∷ sets (half 50 2) ∷ []) [] ≡ false
+unfolding half decimal replaced replaces standing apply without value
 not-met = refl
 
 -- removing an absent price does nothing

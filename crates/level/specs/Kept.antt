@@ -8,8 +8,8 @@ use Rattle.level.specs.declared.Side.{Side}
 use Rattle.level.specs.declared.Side.the-variants.{Bids, Asks}
 use Rattle.level.specs.declared.Level.{Level}
 use Rattle.level.specs.declared.Levels.{Levels}
-use Rattle.level.specs.declared.Found.{Found}
-use Rattle.level.specs.declared.Found.the-variants.{At, Nothing}
+use Rattle.level.specs.declared.MaybeLevel.{MaybeLevel}
+use Rattle.level.specs.declared.MaybeLevel.the-variants.{At, Nothing}
 use Rattle.level.specs.Ranked.{All, Sorted}
 use Rattle.level.specs.Words.{levelPrice, levelsIn}
 
@@ -30,7 +30,7 @@ abbrev pub keptIn : List ℕ → ℕ → Levels
 keptIn words n = record { words = words; count = n }
 
 -- The level at a place, counted from 0 as best.
-unfoldable pub levelAt : ℕ → List Level → Found
+unfoldable pub levelAt : ℕ → List Level → MaybeLevel
 levelAt i [] = Nothing
 levelAt zero (level ∷ s) = At level
 levelAt (suc i) (level ∷ s) = levelAt i s

@@ -6,7 +6,7 @@ use mathlib.Core.List.{List, [], _∷_}
 use lib.Dec.{eqb}
 use lib.ListN.{take}
 use Rattle.decimal.specs.Decimal.{Number, value}
-use Rattle.level.specs.Side.{Edit, sets, removes, before, valueAt, apply, applyAll, ranked}
+use Rattle.level.specs.Side.{Edit, sets, removes, nearer, valueAt, apply, applyAll, ranked}
 use Rattle.level.specs.declared.Side.{Side}
 
 -- What holds of each element of a list.
@@ -37,13 +37,13 @@ module _ {A : Type 0} (priceOf : A → Number) where
   named (removes p) = p
 
   -- Does some entry set a level at a price where one stands by then?
-  unfoldable pub meets : Edit A → List A → Bool
-  meets (sets x) s = standing (valueAt priceOf x) s
-  meets (removes p) s = false
+  unfoldable pub replaces : Edit A → List A → Bool
+  replaces (sets x) s = standing (valueAt priceOf x) s
+  replaces (removes p) s = false
 
-  unfoldable pub met : List (Edit A) → List A → Bool
-  met [] s = false
-  met (e ∷ es) s = meets e s || met es (apply priceOf e s)
+  unfoldable pub replaced : List (Edit A) → List A → Bool
+  replaced [] s = false
+  replaced (e ∷ es) s = replaces e s || replaced es (apply priceOf e s)
 
   -- At most one level a price.
   unfoldable pub Distinct : List A → Type 0
@@ -53,7 +53,7 @@ module _ {A : Type 0} (priceOf : A → Number) where
   -- In order, best first, and at most one level a price.
   unfoldable pub Sorted : Side → List A → Type 0
   Sorted side [] = Unit
-  Sorted side (x ∷ s) = All (λ y. before side (valueAt priceOf x) (valueAt priceOf y) ≡ true) s × Sorted side s
+  Sorted side (x ∷ s) = All (λ y. nearer side (valueAt priceOf x) (valueAt priceOf y) ≡ true) s × Sorted side s
 
 -- ---- entries whose levels are seen in another way
 

@@ -14,9 +14,9 @@ pub data Edit (A : Type 0) : Type 0 where
   removes : Number → Edit A
 
 -- Which of two prices, by value, stands nearer the top (01: "Bids stand high to low, asks low to high").
-abbrev pub before : Side → ℕ → ℕ → Bool
-before Bids x y = ltb y x
-before Asks x y = ltb x y
+abbrev pub nearer : Side → ℕ → ℕ → Bool
+nearer Bids x y = ltb y x
+nearer Asks x y = ltb x y
 
 -- ---- a price named twice (01's refusal 9), by value
 
@@ -52,7 +52,7 @@ module _ {A : Type 0} (priceOf : A → Number) where
   -- A level put at its place in the order, and a side put in order.
   unfoldable pub place : Side → A → List A → List A
   place side x [] = x ∷ []
-  place side x (y ∷ s) = cond (before side (valueAt y) (valueAt x)) (y ∷ place side x s) (x ∷ y ∷ s)
+  place side x (y ∷ s) = cond (nearer side (valueAt y) (valueAt x)) (y ∷ place side x s) (x ∷ y ∷ s)
 
   unfoldable pub ranked : Side → List A → List A
   ranked side [] = []

@@ -86,7 +86,7 @@ editOf price size rest = edit (changeOf price size rest)
 
 -- The entries that three lists of words hold, one at each place.
 unfoldable pub entriesOf : List ℕ → List ℕ → List ℕ → List (Edit Level)
-entriesOf (price ∷ prices) (size ∷ sizes) (rest ∷ rests) = editOf price size rest ∷ entriesOf prices sizes rests
-entriesOf [] sizes rests = []
-entriesOf (price ∷ prices) [] rests = []
+entriesOf (price ∷ prices) (size ∷ sizes) (rest ∷ packs) = editOf price size rest ∷ entriesOf prices sizes packs
+entriesOf [] sizes packs = []
+entriesOf (price ∷ prices) [] packs = []
 entriesOf (price ∷ prices) (size ∷ sizes) [] = []

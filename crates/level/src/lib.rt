@@ -59,7 +59,7 @@ pub struct Levels {
     pub count: usize,
 }
 
-pub enum Found {
+pub enum MaybeLevel {
     At(Level),
     Nothing,
 }
@@ -85,14 +85,14 @@ pub fn empty() -> Levels
 }
 
 // The level at a place, counted from 0 as best.
-pub fn level_at(kept: Levels, i: usize) -> Found
+pub fn level_at(kept: Levels, i: usize) -> MaybeLevel
     requires { ⌜ kept .count ≤ maxLevels ⌝ }
     ensures { λ r. ⌜ r ≡ levelAt i (held kept) ⌝ }
 {
     if i < kept.count {
-        return Found::At(level_in(&kept.words, i));
+        return MaybeLevel::At(level_in(&kept.words, i));
     }
-    Found::Nothing
+    MaybeLevel::Nothing
 }
 
 pub fn price_of(level: Level) -> Decimal

@@ -10,19 +10,19 @@ use Rattle.layout.specs.declared.Outline.{Outline}
 use Rattle.message.specs.declared.Verdict.{Verdict}
 use Rattle.message.specs.declared.Verdict.the-variants.{Fails, Passes}
 use Rattle.reference.specs.Reference.{isLive}
-use Rattle.lifecycle.specs.Lifecycle.{statusOf, refusedStanding, judgedUpdate}
+use Rattle.lifecycle.specs.Lifecycle.{statusOf, refusedLifecycle, judgedUpdate}
 use Rattle.lifecycle.specs.declared.State.{State}
 use Rattle.lifecycle.specs.declared.State.the-variants.{Waiting}
-use Rattle.lifecycle.specs.declared.Standing.{Standing}
+use Rattle.lifecycle.specs.declared.Lifecycle.{Lifecycle}
 
 -- after a refusal
-pub refused-left : (x : Standing) (a : Answer) → leavesStatus a ≡ true → x ≡ refusedStanding x a
-unfolding refusedStanding
-refused-left x a h = sym (rw (h, refusedStanding))
+pub refused-left : (x : Lifecycle) (a : Answer) → leavesStatus a ≡ true → x ≡ refusedLifecycle x a
+unfolding refusedLifecycle
+refused-left x a h = sym (rw (h, refusedLifecycle))
 
-pub refused-waits : (x : Standing) (a : Answer) → leavesStatus a ≡ false → record { state = Waiting; ever = x .ever } ≡ refusedStanding x a
-unfolding refusedStanding
-refused-waits x a h = sym (rw (h, refusedStanding))
+pub refused-waits : (x : Lifecycle) (a : Answer) → leavesStatus a ≡ false → record { state = Waiting; «had_snapshot» = x .«had_snapshot» } ≡ refusedLifecycle x a
+unfolding refusedLifecycle
+refused-waits x a h = sym (rw (h, refusedLifecycle))
 
 -- ---- checks 10 and 11 in numbers, one test at a time
 

@@ -16,7 +16,7 @@ use Rattle.reference.specs.declared.Scope.{Scope}
 use Rattle.reference.specs.declared.Scope.the-variants.{Current, LastGood}
 use Rattle.lifecycle.specs.declared.State.{State}
 use Rattle.lifecycle.specs.declared.State.the-variants.{Shut, Waiting, Live}
-use Rattle.lifecycle.specs.declared.Standing.{Standing}
+use Rattle.lifecycle.specs.declared.Lifecycle.{Lifecycle}
 
 unfoldable pub statusOf : State → Status
 statusOf Shut = shut
@@ -42,11 +42,11 @@ refusalOf waiting = NoSnapshot
 refusalOf live = NoSnapshot
 
 -- How a book stands after a message that is taken, and after a refusal.
-unfoldable pub liveStanding : Standing → Bool → Standing
-liveStanding now snapshot = record { state = Live; ever = snapshot || now .ever }
+unfoldable pub liveLifecycle : Lifecycle → Bool → Lifecycle
+liveLifecycle now snapshot = record { state = Live; «had_snapshot» = snapshot || now .«had_snapshot» }
 
-unfoldable pub refusedStanding : Standing → Answer → Standing
-refusedStanding now a = record { state = cond (leavesStatus a) (now .state) Waiting; ever = now .ever }
+unfoldable pub refusedLifecycle : Lifecycle → Answer → Lifecycle
+refusedLifecycle now a = record { state = cond (leavesStatus a) (now .state) Waiting; «had_snapshot» = now .«had_snapshot» }
 
 -- Checks 10 and 11.
 unfoldable pub judgedUpdate : State → Bool → ℕ → Outline → Verdict

@@ -12,7 +12,7 @@ ghost use mathlib.Core.Path.{_≡_};
 ghost use mathlib.Core.Bool.{_&&_, _||_, not, cond};
 ghost use lib.Dec.{leb};
 ghost use Rattle.reference.specs.Reference.{isShut, oneMore};
-ghost use Rattle.lifecycle.specs.Lifecycle.{statusOf, firstState, answers, refusalOf, liveStanding, refusedStanding, judgedUpdate};
+ghost use Rattle.lifecycle.specs.Lifecycle.{statusOf, firstState, answers, refusalOf, liveLifecycle, refusedLifecycle, judgedUpdate};
 
 const MAX_UPDATES: u64 = 4294967295;
 
@@ -25,10 +25,10 @@ pub enum State {
 }
 
 // How a book stands.
-pub struct Standing {
+pub struct Lifecycle {
     pub state: State,
     // Whether a snapshot was ever taken.
-    pub ever: bool,
+    pub had_snapshot: bool,
 }
 
 pub fn first_state(dialect: Dialect) -> State
@@ -52,29 +52,29 @@ pub fn is_shut(state: State) -> bool
 }
 
 // Whether a question of that scope is answered.
-pub fn stands(standing: Standing, scope: Scope) -> bool
-    ensures { λ r. ⌜ r ≡ answers (statusOf (standing .state)) (standing .ever) scope ⌝ }
+pub fn stands(lifecycle: Lifecycle, scope: Scope) -> bool
+    ensures { λ r. ⌜ r ≡ answers (statusOf (lifecycle .state)) (lifecycle .«had_snapshot») scope ⌝ }
 {
-    let state = standing.state;
-    let ever = standing.ever;
+    let state = lifecycle.state;
+    let had_snapshot = lifecycle.had_snapshot;
     match state {
         State::Shut => false,
         State::Waiting => match scope {
             Scope::Current => false,
-            Scope::LastGood => ever,
+            Scope::LastGood => had_snapshot,
         },
         State::Live => match scope {
             Scope::Current => true,
-            Scope::LastGood => ever,
+            Scope::LastGood => had_snapshot,
         },
     }
 }
 
 // The answer to a question that is refused.
-pub fn refusal(standing: Standing) -> Answer
-    ensures { λ r. ⌜ r ≡ refusalOf (statusOf (standing .state)) ⌝ }
+pub fn refusal(lifecycle: Lifecycle) -> Answer
+    ensures { λ r. ⌜ r ≡ refusalOf (statusOf (lifecycle .state)) ⌝ }
 {
-    let state = standing.state;
+    let state = lifecycle.state;
     match state {
         State::Shut => Answer::Shut,
         State::Waiting => Answer::NoSnapshot,
@@ -102,25 +102,25 @@ pub fn judge_update(state: State, m: bool, number: u64, outline: Outline) -> Ver
 }
 
 // How a book stands after a message that is taken.
-pub fn live(standing: Standing, snapshot: bool) -> Standing
-    ensures { λ r. ⌜ r ≡ liveStanding standing snapshot ⌝ }
+pub fn live(lifecycle: Lifecycle, snapshot: bool) -> Lifecycle
+    ensures { λ r. ⌜ r ≡ liveLifecycle lifecycle snapshot ⌝ }
 {
-    Standing {
+    Lifecycle {
         state: State::Live,
-        ever: either(snapshot, standing.ever),
+        had_snapshot: either(snapshot, lifecycle.had_snapshot),
     }
 }
 
 // How a book stands after a refusal.
-pub fn refused(standing: Standing, answer: Answer) -> Standing
-    ensures { λ r. ⌜ r ≡ refusedStanding standing answer ⌝ }
+pub fn refused(lifecycle: Lifecycle, answer: Answer) -> Lifecycle
+    ensures { λ r. ⌜ r ≡ refusedLifecycle lifecycle answer ⌝ }
 {
     if leaves_state(answer) {
-        return standing;
+        return lifecycle;
     }
-    Standing {
+    Lifecycle {
         state: State::Waiting,
-        ever: standing.ever,
+        had_snapshot: lifecycle.had_snapshot,
     }
 }
 

@@ -9,7 +9,7 @@ use lib.ListN.{length, length-append}
 use Rattle.text.specs.Text.{ascii}
 use Rattle.decimal.specs.Digits.{written}
 use Rattle.decimal.proofs.Digits.{length-written}
-use Rattle.answer.specs.Answers.{number}
+use Rattle.answer.specs.Answers.{answerNumber}
 use Rattle.answer.specs.declared.Answer.{Answer}
 use Rattle.answer.specs.declared.Answer.the-variants.{Taken, Shut, TooLong, NotJson, Escaped, NotOurs, BadLayout, TooManyEntries, BadDecimal, PriceTwice, NoSnapshot, OldNumber, TooManyLevels, WrongChecksum, NoLevel, NoRoom}
 use Rattle.line_text.specs.Reply.{countsText, replyText}
@@ -27,8 +27,8 @@ length-counts bids asks hb ha =
     let a : length (written asks) ≤ 20 = digits ha in
     omega arith
 
-small : (answer : Answer) → number answer < 2 ^ 64
-unfolding number
+small : (answer : Answer) → answerNumber answer < 2 ^ 64
+unfolding answerNumber
 small Taken = lit< tt
 small Shut = lit< tt
 small TooLong = lit< tt
@@ -49,11 +49,11 @@ small NoRoom = lit< tt
 pub length-reply : (answer : Answer) (live : Bool) (bids asks : ℕ) → bids < 2 ^ 64 → asks < 2 ^ 64 → length (replyText answer live bids asks) ≤ 63
 unfolding replyText
 length-reply answer true bids asks hb ha =
-    let l = length-append (written (number answer)) (countsText bids asks) in
+    let l = length-append (written (answerNumber answer)) (countsText bids asks) in
     let c = length-counts bids asks hb ha in
-    let n : length (written (number answer)) ≤ 20 = digits (small answer) in
+    let n : length (written (answerNumber answer)) ≤ 20 = digits (small answer) in
     omega arith
 length-reply answer false bids asks hb ha =
-    let l = length-append (written (number answer)) (ascii " - -\n") in
-    let n : length (written (number answer)) ≤ 20 = digits (small answer) in
+    let l = length-append (written (answerNumber answer)) (ascii " - -\n") in
+    let n : length (written (answerNumber answer)) ≤ 20 = digits (small answer) in
     omega arith

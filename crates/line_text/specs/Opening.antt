@@ -6,39 +6,39 @@ use mathlib.Core.Bool.{cond}
 use mathlib.Core.List.{List, [], _∷_}
 use lib.Dec.{eqb, ltb}
 use lib.ListN.{length, take, drop}
-use Rattle.lines.specs.Lines.{before}
+use Rattle.lines.specs.Lines.{bytesBefore}
 use Rattle.decimal.specs.Digits.{Reading, reads, refused}
 use Rattle.decimal.specs.Whole.{readWhole}
-use Rattle.settings.specs.Settings.{Terms, shut}
+use Rattle.settings.specs.Settings.{Config, shut}
 use Rattle.settings.specs.declared.Dialect.{Dialect}
 use Rattle.settings.specs.declared.Dialect.the-variants.{K, M, Unknown}
 use Rattle.line_text.specs.declared.FirstLine.{FirstLine}
 
-abbrev pub blank : ℕ
-blank = 32
+abbrev pub space : ℕ
+space = 32
 
 -- The bytes of `K` and `M`.
 unfoldable pub dialectOf : ℕ → Dialect
 dialectOf c = cond (eqb c 75) K (cond (eqb c 77) M Unknown)
 
-unfoldable pub withDepth : Dialect → Reading ℕ → List ℕ → Terms
+unfoldable pub withDepth : Dialect → Reading ℕ → List ℕ → Config
 withDepth dialect (reads depth) name = record { dialect = dialect; depth = depth; name = name }
 withDepth dialect refused name = shut
 
 -- What follows the dialect and a blank: the depth, a blank, and the name, which goes on to the line's end.
-unfoldable pub depthAndName : Dialect → List ℕ → Terms
-depthAndName dialect s = cond (ltb (before blank s) (length s)) (withDepth dialect (readWhole (take (before blank s) s)) (drop (suc (before blank s)) s)) shut
+unfoldable pub depthAndName : Dialect → List ℕ → Config
+depthAndName dialect s = cond (ltb (bytesBefore space s) (length s)) (withDepth dialect (readWhole (take (bytesBefore space s) s)) (drop (suc (bytesBefore space s)) s)) shut
 
 -- A line that is not laid out like this has the settings of a shut book.
-unfoldable pub lineOne : List ℕ → Terms
+unfoldable pub lineOne : List ℕ → Config
 lineOne [] = shut
 lineOne (letter ∷ []) = shut
-lineOne (letter ∷ (c ∷ s)) = cond (eqb c blank) (depthAndName (dialectOf letter) s) shut
+lineOne (letter ∷ (c ∷ s)) = cond (eqb c space) (depthAndName (dialectOf letter) s) shut
 
 -- The settings that the code finds on a line.
-unfoldable pub termsOn : List ℕ → FirstLine → Terms
-termsOn line r = record { dialect = r .dialect; depth = r .depth; name = drop (r .name) line }
+unfoldable pub configOn : List ℕ → FirstLine → Config
+configOn line r = record { dialect = r .dialect; depth = r .depth; name = drop (r .name) line }
 
-pub record Found (line : List ℕ) (terms : Terms) (r : FirstLine) : Type 0 where
-  pub same : termsOn line r ≡ terms
+pub record Found (line : List ℕ) (terms : Config) (r : FirstLine) : Type 0 where
+  pub same : configOn line r ≡ terms
   pub within : r .name ≤ length line

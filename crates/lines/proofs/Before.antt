@@ -11,64 +11,64 @@ use borrow.Author.Tests.{eq-eqb, ne-eqb, lt-ltb, le-ltb}
 use lib.Dec.{eqb, ltb}
 use lib.ListN.{length, getD, drop, drop-of-length-le}
 use lib.Seq.{drop-cons, drop-drop}
-use Rattle.lines.specs.Lines.{before}
+use Rattle.lines.specs.Lines.{bytesBefore}
 
 -- ---- the first byte
 
-pub first-is : (b c : ℕ) (s : List ℕ) → eqb c b ≡ true → before b (c ∷ s) ≡ 0
-unfolding before
-first-is b c s e = rw (e, before)
+pub first-is : (b c : ℕ) (s : List ℕ) → eqb c b ≡ true → bytesBefore b (c ∷ s) ≡ 0
+unfolding bytesBefore
+first-is b c s e = rw (e, bytesBefore)
 
-pub first-not : (b c : ℕ) (s : List ℕ) → eqb c b ≡ false → before b (c ∷ s) ≡ suc (before b s)
-unfolding before
-first-not b c s e = rw (e, before)
+pub first-not : (b c : ℕ) (s : List ℕ) → eqb c b ≡ false → bytesBefore b (c ∷ s) ≡ suc (bytesBefore b s)
+unfolding bytesBefore
+first-not b c s e = rw (e, bytesBefore)
 
 -- ---- the byte at a position
 
 here : (s : List ℕ) (i : ℕ) → i < length s → drop i s ≡ getD s i 0 ∷ drop (i + 1) s
 here s i h = drop-cons s i 0 h ∙ ap (λ (n : ℕ). getD s i 0 ∷ drop n s) (sym (add-one i))
 
-pub found : (s : List ℕ) (i b : ℕ) → i < length s → getD s i 0 ≡ b → i + before b (drop i s) ≡ i
-unfolding before
-found s i b h e = ap (λ (l : List ℕ). i + before b l) (here s i h) ∙ rw (eq-eqb (getD s i 0) b e, before) (add-zero i)
+pub found : (s : List ℕ) (i b : ℕ) → i < length s → getD s i 0 ≡ b → i + bytesBefore b (drop i s) ≡ i
+unfolding bytesBefore
+found s i b h e = ap (λ (l : List ℕ). i + bytesBefore b l) (here s i h) ∙ rw (eq-eqb (getD s i 0) b e, bytesBefore) (add-zero i)
 
-pub passed : (s : List ℕ) (i b : ℕ) → i < length s → (getD s i 0 ≡ b → ⊥) → i + 1 + before b (drop (i + 1) s) ≡ i + before b (drop i s)
-unfolding before
+pub passed : (s : List ℕ) (i b : ℕ) → i < length s → (getD s i 0 ≡ b → ⊥) → i + 1 + bytesBefore b (drop (i + 1) s) ≡ i + bytesBefore b (drop i s)
+unfolding bytesBefore
 passed s i b h n =
-    let e : i + 1 + before b (drop (i + 1) s) ≡ i + suc (before b (drop (i + 1) s)) = omega arith in
-    e ∙ sym (ap (λ (l : List ℕ). i + before b l) (here s i h) ∙ rw (ne-eqb (getD s i 0) b n, before) refl)
+    let e : i + 1 + bytesBefore b (drop (i + 1) s) ≡ i + suc (bytesBefore b (drop (i + 1) s)) = omega arith in
+    e ∙ sym (ap (λ (l : List ℕ). i + bytesBefore b l) (here s i h) ∙ rw (ne-eqb (getD s i 0) b n, bytesBefore) refl)
 
-pub ended : (s : List ℕ) (i b : ℕ) → length s ≤ i → i + before b (drop i s) ≡ i
-unfolding before
-ended s i b h = ap (λ (l : List ℕ). i + before b l) (drop-of-length-le s {i = i} h) ∙ add-zero i
+pub ended : (s : List ℕ) (i b : ℕ) → length s ≤ i → i + bytesBefore b (drop i s) ≡ i
+unfolding bytesBefore
+ended s i b h = ap (λ (l : List ℕ). i + bytesBefore b l) (drop-of-length-le s {i = i} h) ∙ add-zero i
 
 -- ---- a block
 
-past : (b k : ℕ) (s : List ℕ) → k ≤ before b s → k + before b (drop k s) ≡ before b s
-unfolding before
+past : (b k : ℕ) (s : List ℕ) → k ≤ bytesBefore b s → k + bytesBefore b (drop k s) ≡ bytesBefore b s
+unfolding bytesBefore
 past b zero s h = omega arith
 past b (suc k) [] h = absurd (omega (arith, h))
 past b (suc k) (c ∷ s) h = at (eqb c b) refl (λ l. past b k s l)
   where
-    at : (t : Bool) → eqb c b ≡ t → (k ≤ before b s → k + before b (drop k s) ≡ before b s) → suc k + before b (drop k s) ≡ before b (c ∷ s)
-    at true e ih = let n : before b (c ∷ s) ≡ 0 = first-is b c s e in absurd (omega (arith, h))
-    at false e ih = let n : before b (c ∷ s) ≡ suc (before b s) = first-not b c s e in let m = ih (omega arith) in omega arith
+    at : (t : Bool) → eqb c b ≡ t → (k ≤ bytesBefore b s → k + bytesBefore b (drop k s) ≡ bytesBefore b s) → suc k + bytesBefore b (drop k s) ≡ bytesBefore b (c ∷ s)
+    at true e ih = let n : bytesBefore b (c ∷ s) ≡ 0 = first-is b c s e in absurd (omega (arith, h))
+    at false e ih = let n : bytesBefore b (c ∷ s) ≡ suc (bytesBefore b s) = first-not b c s e in let m = ih (omega arith) in omega arith
 
-pub skipped : (s : List ℕ) (i k b : ℕ) → k ≤ before b (drop i s) → i + k + before b (drop (i + k) s) ≡ i + before b (drop i s)
+pub skipped : (s : List ℕ) (i k b : ℕ) → k ≤ bytesBefore b (drop i s) → i + k + bytesBefore b (drop (i + k) s) ≡ i + bytesBefore b (drop i s)
 skipped s i k b h =
-    let e : before b (drop k (drop i s)) ≡ before b (drop (i + k) s) = ap (before b) (drop-drop k i s) in
+    let e : bytesBefore b (drop k (drop i s)) ≡ bytesBefore b (drop (i + k) s) = ap (bytesBefore b) (drop-drop k i s) in
     let p = past b k (drop i s) h in
     omega arith
 
 -- whether it stands before a position, from the byte there to the next one
 module _ (s : List ℕ) (from i b : ℕ) (order : from ≤ i) (inside : i < length s) where
   abbrev count : ℕ
-  count = before b (drop from s)
+  count = bytesBefore b (drop from s)
 
-  reached : (count < i - from → ⊥) → count ≡ i - from + before b (drop i s)
+  reached : (count < i - from → ⊥) → count ≡ i - from + bytesBefore b (drop i s)
   reached h =
       let e : from + (i - from) ≡ i = omega arith in
-      let k = ap (λ (j : ℕ). j + before b (drop j s)) e in
+      let k = ap (λ (j : ℕ). j + bytesBefore b (drop j s)) e in
       let p = skipped s from (i - from) b (omega arith) in
       omega arith
 

@@ -8,12 +8,12 @@ use borrow.Author.Tests.{lt-ltb, ltb-true, ltb-false}
 use lib.Dec.{eqb, ltb}
 use lib.ListN.{length, take}
 use Rattle.text.specs.Text.{joined}
-use Rattle.lines.specs.Lines.{before, lineEnd, hasEnd, inFront, complete, unfinished, lastLine, linesOf, inBlocks}
+use Rattle.lines.specs.Lines.{bytesBefore, lineEnd, hasEnd, inFront, complete, unfinished, lastLine, linesOf, inBlocks}
 use Rattle.lines.proofs.Split.{at-end, not-end, first-complete, none-complete, none-unfinished}
 
 -- A text with no line end.
 abbrev Unended : List ℕ → Type 0
-Unended s = length s ≤ before lineEnd s
+Unended s = length s ≤ bytesBefore lineEnd s
 
 -- ---- one byte more
 
@@ -22,7 +22,7 @@ onto : ℕ → List (List ℕ) → List (List ℕ)
 onto c [] = (c ∷ []) ∷ []
 onto c (line ∷ ls) = (c ∷ line) ∷ ls
 
-onto-complete : (c : ℕ) (s : List ℕ) (ls : List (List ℕ)) → before lineEnd s < length s → onto c (complete s ++ ls) ≡ inFront c (complete s) ++ ls
+onto-complete : (c : ℕ) (s : List ℕ) (ls : List (List ℕ)) → bytesBefore lineEnd s < length s → onto c (complete s ++ ls) ≡ inFront c (complete s) ++ ls
 unfolding onto inFront
 onto-complete c s ls h = rw (first-complete s h) refl
 
@@ -31,9 +31,9 @@ unfolding onto lastLine
 onto-last c [] = refl
 onto-last c (d ∷ s) = refl
 
-end-later : (c : ℕ) (s : List ℕ) → before lineEnd (c ∷ s) < length (c ∷ s) → unfinished (c ∷ s) ≡ unfinished s
+end-later : (c : ℕ) (s : List ℕ) → bytesBefore lineEnd (c ∷ s) < length (c ∷ s) → unfinished (c ∷ s) ≡ unfinished s
 unfolding unfinished
-end-later c s h = rw (lt-ltb (before lineEnd (c ∷ s)) (length (c ∷ s)) h, unfinished)
+end-later c s h = rw (lt-ltb (bytesBefore lineEnd (c ∷ s)) (length (c ∷ s)) h, unfinished)
 
 byte-first : (c : ℕ) (s : List ℕ) → eqb c lineEnd ≡ false → complete (c ∷ s) ≡ inFront c (complete s)
 unfolding complete
@@ -44,7 +44,7 @@ unfolding complete
 end-complete c s e = rw (e, complete)
 
 end-first : (c : ℕ) (s : List ℕ) → eqb c lineEnd ≡ true → unfinished (c ∷ s) ≡ unfinished s
-end-first c s e = let n : before lineEnd (c ∷ s) ≡ 0 = at-end c s e in end-later c s (omega arith)
+end-first c s e = let n : bytesBefore lineEnd (c ∷ s) ≡ 0 = at-end c s e in end-later c s (omega arith)
 
 lines-end : (c : ℕ) (s : List ℕ) → eqb c lineEnd ≡ true → linesOf (c ∷ s) ≡ [] ∷ linesOf s
 unfolding linesOf complete
@@ -52,20 +52,20 @@ lines-end c s e = rw (e, complete) (ap (λ (l : List ℕ). [] ∷ (complete s ++
 
 lines-byte : (c : ℕ) (s : List ℕ) → eqb c lineEnd ≡ false → linesOf (c ∷ s) ≡ onto c (linesOf s)
 unfolding linesOf onto lastLine
-lines-byte c s e = at (ltb (before lineEnd s) (length s)) refl
+lines-byte c s e = at (ltb (bytesBefore lineEnd s) (length s)) refl
   where
     first : complete (c ∷ s) ≡ inFront c (complete s)
     first = byte-first c s e
 
-    at : (b : Bool) → ltb (before lineEnd s) (length s) ≡ b → complete (c ∷ s) ++ lastLine (unfinished (c ∷ s)) ≡ onto c (complete s ++ lastLine (unfinished s))
+    at : (b : Bool) → ltb (bytesBefore lineEnd s) (length s) ≡ b → complete (c ∷ s) ++ lastLine (unfinished (c ∷ s)) ≡ onto c (complete s ++ lastLine (unfinished s))
     at true q =
-        let n : before lineEnd (c ∷ s) ≡ suc (before lineEnd s) = not-end c s e in
-        let h : before lineEnd s < length s = ltb-true (before lineEnd s) (length s) q in
+        let n : bytesBefore lineEnd (c ∷ s) ≡ suc (bytesBefore lineEnd s) = not-end c s e in
+        let h : bytesBefore lineEnd s < length s = ltb-true (bytesBefore lineEnd s) (length s) q in
         let u : unfinished (c ∷ s) ≡ unfinished s = end-later c s (omega arith) in
         ap₂ (λ (x : List (List ℕ)) (y : List ℕ). x ++ lastLine y) first u ∙ sym (onto-complete c s (lastLine (unfinished s)) h)
     at false q =
-        let n : before lineEnd (c ∷ s) ≡ suc (before lineEnd s) = not-end c s e in
-        let h : length s ≤ before lineEnd s = ltb-false (before lineEnd s) (length s) q in
+        let n : bytesBefore lineEnd (c ∷ s) ≡ suc (bytesBefore lineEnd s) = not-end c s e in
+        let h : length s ≤ bytesBefore lineEnd s = ltb-false (bytesBefore lineEnd s) (length s) q in
         let u : unfinished (c ∷ s) ≡ c ∷ s = none-unfinished (c ∷ s) (omega arith) in
         ap₂ (λ (x : List (List ℕ)) (y : List ℕ). x ++ lastLine y) (none-complete (c ∷ s) (omega arith)) u
         ∙ sym (ap₂ (λ (x : List (List ℕ)) (y : List ℕ). onto c (x ++ lastLine y)) (none-complete s h) (none-unfinished s h) ∙ onto-last c s)
@@ -91,14 +91,14 @@ unended-first : (c : ℕ) (h : List ℕ) → Unended (c ∷ h) → eqb c lineEnd
 unended-first c h u = at (eqb c lineEnd) refl
   where
     at : (b : Bool) → eqb c lineEnd ≡ b → b ≡ false
-    at true e = let n : before lineEnd (c ∷ h) ≡ 0 = at-end c h e in absurd (omega (arith, u))
+    at true e = let n : bytesBefore lineEnd (c ∷ h) ≡ 0 = at-end c h e in absurd (omega (arith, u))
     at false e = refl
 
 unended-rest : (c : ℕ) (h : List ℕ) → Unended (c ∷ h) → Unended h
-unended-rest c h u = let n : before lineEnd (c ∷ h) ≡ suc (before lineEnd h) = not-end c h (unended-first c h u) in omega arith
+unended-rest c h u = let n : bytesBefore lineEnd (c ∷ h) ≡ suc (bytesBefore lineEnd h) = not-end c h (unended-first c h u) in omega arith
 
 unended-more : (c : ℕ) (h : List ℕ) → eqb c lineEnd ≡ false → Unended h → Unended (c ∷ h)
-unended-more c h e u = let n : before lineEnd (c ∷ h) ≡ suc (before lineEnd h) = not-end c h e in omega arith
+unended-more c h e u = let n : bytesBefore lineEnd (c ∷ h) ≡ suc (bytesBefore lineEnd h) = not-end c h e in omega arith
 
 lines-after : (h w : List ℕ) → Unended h → linesOf (h ++ w) ≡ ontoAll h (linesOf w)
 lines-after [] w u = onto-none (linesOf w)
@@ -113,27 +113,27 @@ unfinished-unended (c ∷ s) = at (hasEnd (c ∷ s)) refl (unfinished-unended s)
   where
     at : (b : Bool) → hasEnd (c ∷ s) ≡ b → Unended (unfinished s) → Unended (unfinished (c ∷ s))
     at true e ih = rw (e, unfinished) ih
-    at false e ih = rw (e, unfinished) (ltb-false (before lineEnd (c ∷ s)) (length (c ∷ s)) e)
+    at false e ih = rw (e, unfinished) (ltb-false (bytesBefore lineEnd (c ∷ s)) (length (c ∷ s)) e)
 
 pub lines-split : (y z : List ℕ) → linesOf (y ++ z) ≡ complete y ++ linesOf (unfinished y ++ z)
 unfolding complete unfinished
 lines-split [] z = refl
 lines-split (c ∷ y) z = at (hasEnd (c ∷ y)) refl (lines-split y z)
   where
-    later : (b : Bool) → eqb c lineEnd ≡ b → before lineEnd (c ∷ y) < length (c ∷ y) → linesOf (y ++ z) ≡ complete y ++ linesOf (unfinished y ++ z) →
+    later : (b : Bool) → eqb c lineEnd ≡ b → bytesBefore lineEnd (c ∷ y) < length (c ∷ y) → linesOf (y ++ z) ≡ complete y ++ linesOf (unfinished y ++ z) →
         linesOf (c ∷ (y ++ z)) ≡ complete (c ∷ y) ++ linesOf (unfinished y ++ z)
     later true e h ih = lines-end c (y ++ z) e ∙ ap (λ (ls : List (List ℕ)). [] ∷ ls) ih ∙ ap (λ (ls : List (List ℕ)). ls ++ linesOf (unfinished y ++ z)) (sym (end-complete c y e))
     later false e h ih =
-        let n : before lineEnd (c ∷ y) ≡ suc (before lineEnd y) = not-end c y e in
+        let n : bytesBefore lineEnd (c ∷ y) ≡ suc (bytesBefore lineEnd y) = not-end c y e in
         lines-byte c (y ++ z) e ∙ ap (onto c) ih ∙ onto-complete c y (linesOf (unfinished y ++ z)) (omega arith)
         ∙ ap (λ (ls : List (List ℕ)). ls ++ linesOf (unfinished y ++ z)) (sym (byte-first c y e))
 
     at : (b : Bool) → hasEnd (c ∷ y) ≡ b → linesOf (y ++ z) ≡ complete y ++ linesOf (unfinished y ++ z) → linesOf ((c ∷ y) ++ z) ≡ complete (c ∷ y) ++ linesOf (unfinished (c ∷ y) ++ z)
     at true q ih =
-        let h : before lineEnd (c ∷ y) < length (c ∷ y) = ltb-true (before lineEnd (c ∷ y)) (length (c ∷ y)) q in
+        let h : bytesBefore lineEnd (c ∷ y) < length (c ∷ y) = ltb-true (bytesBefore lineEnd (c ∷ y)) (length (c ∷ y)) q in
         later (eqb c lineEnd) refl h ih ∙ ap (λ (l : List ℕ). complete (c ∷ y) ++ linesOf (l ++ z)) (sym (end-later c y h))
     at false q ih =
-        let h : length (c ∷ y) ≤ before lineEnd (c ∷ y) = ltb-false (before lineEnd (c ∷ y)) (length (c ∷ y)) q in
+        let h : length (c ∷ y) ≤ bytesBefore lineEnd (c ∷ y) = ltb-false (bytesBefore lineEnd (c ∷ y)) (length (c ∷ y)) q in
         sym (ap₂ (λ (ls : List (List ℕ)) (l : List ℕ). ls ++ linesOf (l ++ z)) (none-complete (c ∷ y) h) (none-unfinished (c ∷ y) h))
 
 whole-last : (h : List ℕ) → Unended h → linesOf h ≡ lastLine h

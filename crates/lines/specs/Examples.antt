@@ -2,7 +2,7 @@
 use Prim.Native.Nat.{ℕ}
 use mathlib.Core.Path.{_≡_, refl}
 use mathlib.Core.List.{List, [], _∷_}
-use Rattle.lines.specs.Lines.{before, inFront, complete, unfinished, lastLine, linesOf}
+use Rattle.lines.specs.Lines.{bytesBefore, inFront, complete, unfinished, lastLine, linesOf}
 
 -- a text and its lines
 pub data Case : Type 0 where
@@ -23,5 +23,5 @@ table =
     []
 
 examples : Each table
-unfolding table Each linesOf complete inFront unfinished lastLine before
+unfolding table Each linesOf complete inFront unfinished lastLine bytesBefore
 examples = (refl, (refl, (refl, (refl, (refl, tt)))))

@@ -6,15 +6,15 @@ use lib.Dec.{eqb, ltb}
 use lib.ListN.{length, take}
 
 -- How many bytes a text has before a byte.
-unfoldable pub before : ℕ → List ℕ → ℕ
-before b [] = 0
-before b (c ∷ s) = cond (eqb c b) 0 (suc (before b s))
+unfoldable pub bytesBefore : ℕ → List ℕ → ℕ
+bytesBefore b [] = 0
+bytesBefore b (c ∷ s) = cond (eqb c b) 0 (suc (bytesBefore b s))
 
 abbrev pub lineEnd : ℕ
 lineEnd = 10
 
 abbrev pub hasEnd : List ℕ → Bool
-hasEnd s = ltb (before lineEnd s) (length s)
+hasEnd s = ltb (bytesBefore lineEnd s) (length s)
 
 -- A byte in front of the first line.
 unfoldable pub inFront : ℕ → List (List ℕ) → List (List ℕ)

@@ -6,14 +6,14 @@ ghost use Prim.Native.Nat.{_+_, _-_, _≤_, min};
 ghost use lib.Dec.{ltb};
 ghost use lib.ListN.{length, drop};
 ghost use lib.Seq.{paste};
-ghost use Rattle.lines.specs.Lines.{before};
+ghost use Rattle.lines.specs.Lines.{bytesBefore};
 
 pub const LINE_END: u8 = 10;
 
 // Where a byte stands, from a position on, or the end of the text.
 pub fn find(s: &[u8], at: usize, b: u8) -> usize
     requires { ⌜ at ≤ length (now s) ⌝ }
-    ensures { λ r. ⌜ (at ≤ r) × (r ≤ length (now (s .entry))) × (r ≡ at + before b (drop at (now (s .entry)))) ⌝ }
+    ensures { λ r. ⌜ (at ≤ r) × (r ≤ length (now (s .entry))) × (r ≡ at + bytesBefore b (drop at (now (s .entry)))) ⌝ }
 {
     let mut i = skip_blocks(s, at, b);
     while i < s.len() {
@@ -31,7 +31,7 @@ const BLOCK: usize = 16;
 // Whether a byte stands in the block that begins at a position. No turn ends the loop early, so that all the bytes are compared at once.
 fn is_in_block(s: &[u8], at: usize, b: u8) -> bool
     requires { ⌜ at + 16 ≤ length (now s) ⌝ }
-    ensures { λ r. ⌜ r ≡ ltb (before b (drop at (now (s .entry)))) 16 ⌝ }
+    ensures { λ r. ⌜ r ≡ ltb (bytesBefore b (drop at (now (s .entry)))) 16 ⌝ }
 {
     let end = at + BLOCK;
     let mut found = false;
@@ -48,7 +48,7 @@ fn is_in_block(s: &[u8], at: usize, b: u8) -> bool
 // Past the blocks that do not have a byte, from a position on.
 fn skip_blocks(s: &[u8], at: usize, b: u8) -> usize
     requires { ⌜ at ≤ length (now s) ⌝ }
-    ensures { λ r. ⌜ (at ≤ r) × (r ≤ length (now (s .entry))) × (r + before b (drop r (now (s .entry))) ≡ at + before b (drop at (now (s .entry)))) ⌝ }
+    ensures { λ r. ⌜ (at ≤ r) × (r ≤ length (now (s .entry))) × (r + bytesBefore b (drop r (now (s .entry))) ≡ at + bytesBefore b (drop at (now (s .entry)))) ⌝ }
 {
     let mut i = at;
     while BLOCK <= s.len() - i {

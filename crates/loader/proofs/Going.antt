@@ -10,10 +10,10 @@ use Rattle.json_tokens.specs.Tokens.{separator}
 use Rattle.json_tokens.specs.Ends.{endOf}
 use Rattle.json.specs.Json.{Span}
 use Rattle.entries.specs.Rows.{Row, maxEntries}
-use Rattle.entries.specs.Summary.{foundOf, foundAt}
+use Rattle.entries.specs.Summary.{entryPlaceOf, entryPlaceAt}
 use Rattle.entries.specs.Arrays.{rowsAt, Loadable, firstAt}
 use Rattle.entries.specs.Counting.{Placed}
-use Rattle.entries.specs.declared.Found.{Found}
+use Rattle.entries.specs.declared.EntryPlace.{EntryPlace}
 use Rattle.entries.proofs.Strings.{Sound}
 use Rattle.entries.proofs.Summary.{found-laid}
 use Rattle.entries.proofs.Rows.{Left, first-left, Here, left-here}
@@ -23,28 +23,28 @@ use Rattle.loader.specs.Loaded.{Room, Loaded}
 use Rattle.loader.proofs.Words.{LevelAt, rowOf, loaded-none, loaded-more}
 
 -- `at` is where the next entry begins, or 0 where there is none
-pub record Going (entry : List ℕ → Span → Reading Row) (piece : Number → Number → List ℕ) (s prices sizes rests : List ℕ) (at k : ℕ) : Type 0 where
+pub record Going (entry : List ℕ → Span → Reading Row) (piece : Number → Number → List ℕ) (s prices sizes packs : List ℕ) (at k : ℕ) : Type 0 where
   pub done : List Row
   pub left : List Row
   pub whole : rowsAt entry s ≡ done ++ left
   pub few : length (rowsAt entry s) ≤ maxEntries
-  pub loaded : Loaded piece s done prices sizes rests k
+  pub loaded : Loaded piece s done prices sizes packs k
   pub over : at ≡ 0 → left ≡ []
   pub on : (at ≡ 0 → ⊥) → Left entry s at left
 
-module _ (entry : List ℕ → Span → Reading Row) {piece : Number → Number → List ℕ} (s : List ℕ) {prices sizes rests : List ℕ} where
-  pub going-start : (at : ℕ) → at ≡ firstAt s → Loadable entry s → Room prices sizes rests → Going entry piece s prices sizes rests at 0
+module _ (entry : List ℕ → Span → Reading Row) {piece : Number → Number → List ℕ} (s : List ℕ) {prices sizes packs : List ℕ} where
+  pub going-start : (at : ℕ) → at ≡ firstAt s → Loadable entry s → Room prices sizes packs → Going entry piece s prices sizes packs at 0
   going-start at e a r =
       let f = first-left entry s (a .end) (rowsAt entry s) (a .listed) in
       record { done = []; left = rowsAt entry s; whole = refl; few = a .few; loaded = loaded-none r; over = λ z. f .0 (sym e ∙ z); on = λ n. rw e (f .1 (λ z. n (e ∙ z))) }
 
-  pub going-end : {at k : ℕ} → Going entry piece s prices sizes rests at k → at ≡ 0 → Loaded piece s (rowsAt entry s) prices sizes rests k
+  pub going-end : {at k : ℕ} → Going entry piece s prices sizes packs at k → at ≡ 0 → Loaded piece s (rowsAt entry s) prices sizes packs k
   going-end {at} {k} g z =
-      subst (λ (rows : List Row). Loaded piece s rows prices sizes rests k) (sym (g .whole ∙ ap (λ (x : List Row). g .done ++ x) (g .over z) ∙ append-nil (g .done))) (g .loaded)
+      subst (λ (rows : List Row). Loaded piece s rows prices sizes packs k) (sym (g .whole ∙ ap (λ (x : List Row). g .done ++ x) (g .over z) ∙ append-nil (g .done))) (g .loaded)
 
-  module _ {at k : ℕ} (g : Going entry piece s prices sizes rests at k) (n : 0 < at) where
-    abbrev f : Found
-    f = foundAt entry s at
+  module _ {at k : ℕ} (g : Going entry piece s prices sizes packs at k) (n : 0 < at) where
+    abbrev f : EntryPlace
+    f = entryPlaceAt entry s at
 
     here : Here entry s (g .left) f
     here = left-here entry s at (g .left) (g .on (λ z. omega arith)) f refl
@@ -59,15 +59,15 @@ module _ (entry : List ℕ → Span → Reading Row) {piece : Number → Number 
         omega arith
 
     pub going-placed : Sound entry s → Placed s f
-    unfolding foundOf
-    going-placed sound = found-laid entry s at f refl sound (ap (λ (x : Found). x .fair) (here .is-row))
+    unfolding entryPlaceOf
+    going-placed sound = found-laid entry s at f refl sound (ap (λ (x : EntryPlace). x .«well_formed») (here .is-row))
 
     row-is : here .row ≡ rowOf f
-    unfolding foundOf
+    unfolding entryPlaceOf
     row-is = sym (ap rowOf (here .is-row))
 
     pub going-more : (level : Level) (rest : ℕ) → Packed level rest → LevelAt piece s f level → (end j : ℕ) → end ≡ f .end → j ≡ endOf (separator 44 s end)
-        → Going entry piece s (set prices k (level .price)) (set sizes k (level .size)) (set rests k rest) j (k + 1)
+        → Going entry piece s (set prices k (level .price)) (set sizes k (level .size)) (set packs k rest) j (k + 1)
     going-more level rest p l end j e h =
         let o = here .onwards j (h ∙ ap (λ (i : ℕ). endOf (separator 44 s i)) e) in
         record {

@@ -15,7 +15,7 @@ use Rattle.decimal.specs.declared.Decimal.{Decimal}
 use Rattle.entries.specs.Rows.{Row, numberAt}
 use Rattle.entries.specs.Summary.{priceSpan, sizeSpan}
 use Rattle.entries.specs.Decimals.{NumberOf}
-use Rattle.entries.specs.declared.Found.{Found}
+use Rattle.entries.specs.declared.EntryPlace.{EntryPlace}
 use Rattle.level.specs.Level.{PriceLevel}
 use Rattle.level.specs.Words.{levelPrice, levelSize, shown}
 use Rattle.level.specs.Side.{Edit, sets, removes}
@@ -30,12 +30,12 @@ use Rattle.loader.specs.Loaded.{editFor, editAt, Room, Loaded}
 -- ---- the level of an entry
 
 -- the level shows the two numbers of an entry, and carries the sum of its piece
-pub record LevelAt (piece : Number → Number → List ℕ) (s : List ℕ) (f : Found) (level : Level) : Type 0 where
+pub record LevelAt (piece : Number → Number → List ℕ) (s : List ℕ) (f : EntryPlace) (level : Level) : Type 0 where
   pub shows : shown level ≡ record { price = numberAt s (priceSpan f); size = numberAt s (sizeSpan f) }
   pub within : Within (levelPrice level)
   pub carries : Carries piece level
 
-pub level-made : {piece : Number → Number → List ℕ} (s : List ℕ) (f : Found) {price size : Decimal} {level : Level} → NumberOf s (priceSpan f) price → NumberOf s (sizeSpan f) size
+pub level-made : {piece : Number → Number → List ℕ} (s : List ℕ) (f : EntryPlace) {price size : Decimal} {level : Level} → NumberOf s (priceSpan f) price → NumberOf s (sizeSpan f) size
     → Made piece price size level → LevelAt piece s f level
 unfolding shown
 level-made s f p z m =
@@ -47,15 +47,15 @@ level-made s f p z m =
 
 -- ---- the entry that a level's words hold
 
-abbrev pub rowOf : Found → Row
+abbrev pub rowOf : EntryPlace → Row
 rowOf f = record { price = priceSpan f; size = sizeSpan f }
 
-record Holds (piece : Number → Number → List ℕ) (s : List ℕ) (f : Found) (e : Edit Level) : Type 0 where
+record Holds (piece : Number → Number → List ℕ) (s : List ℕ) (f : EntryPlace) (e : Edit Level) : Type 0 where
   within : Within (named levelPrice e)
   says : mapEdit shown e ≡ editAt s (rowOf f)
   carried : IfSet (Carries piece) e
 
-module _ {piece : Number → Number → List ℕ} (s : List ℕ) (f : Found) (level : Level) (rest : ℕ) (p : Packed level rest) (l : LevelAt piece s f level) where
+module _ {piece : Number → Number → List ℕ} (s : List ℕ) (f : EntryPlace) (level : Level) (rest : ℕ) (p : Packed level rest) (l : LevelAt piece s f level) where
   says-level : editFor (levelPrice level) (levelSize level) ≡ editAt s (rowOf f)
   unfolding editAt shown
   says-level = ap₂ editFor (ap (λ (x : PriceLevel). x .price) (l .shows)) (ap (λ (x : PriceLevel). x .size) (l .shows))
@@ -88,17 +88,17 @@ map-snoc : {A B : Type 0} (g : A → B) (l : List A) (x : A) → map g (l ++ (x 
 map-snoc g [] x = refl
 map-snoc {A} {B} g (y ∷ l) x = ap (λ (t : List B). g y ∷ t) (map-snoc g l x)
 
-pub loaded-none : {piece : Number → Number → List ℕ} {s prices sizes rests : List ℕ} → Room prices sizes rests → Loaded piece s [] prices sizes rests 0
+pub loaded-none : {piece : Number → Number → List ℕ} {s prices sizes packs : List ℕ} → Room prices sizes packs → Loaded piece s [] prices sizes packs 0
 unfolding All entriesOf
-loaded-none r = record { room = r; count = refl; few = omega arith; prices-count = refl; sizes-count = refl; rests-count = refl; given = record { few = omega arith; sizes-long = refl; rests-long = refl; within = tt }; edits = refl; carried = tt }
+loaded-none r = record { room = r; count = refl; few = omega arith; prices-count = refl; sizes-count = refl; packs-count = refl; given = record { few = omega arith; sizes-long = refl; packs-long = refl; within = tt }; edits = refl; carried = tt }
 
-module _ {piece : Number → Number → List ℕ} {s : List ℕ} {rows : List Row} {prices sizes rests : List ℕ} {k : ℕ} (h : Loaded piece s rows prices sizes rests k)
-    (below : k < 100) (f : Found) (level : Level) (rest : ℕ) (p : Packed level rest) (l : LevelAt piece s f level) where
+module _ {piece : Number → Number → List ℕ} {s : List ℕ} {rows : List Row} {prices sizes packs : List ℕ} {k : ℕ} (h : Loaded piece s rows prices sizes packs k)
+    (below : k < 100) (f : EntryPlace) (level : Level) (rest : ℕ) (p : Packed level rest) (l : LevelAt piece s f level) where
   abbrev e : Edit Level
   e = editOf (level .price) (level .size) rest
 
   abbrev stored : List (Edit Level)
-  stored = entriesOf (take k prices) (take k sizes) (take k rests)
+  stored = entriesOf (take k prices) (take k sizes) (take k packs)
 
   long : (xs : List ℕ) → length xs ≡ 100 → length (take k xs) ≡ k
   long xs n = length-take-le k xs (omega arith)
@@ -109,41 +109,41 @@ module _ {piece : Number → Number → List ℕ} {s : List ℕ} {rows : List Ro
   front : (xs : List ℕ) (x : ℕ) → length xs ≡ 100 → take (k + 1) (set xs k x) ≡ take k xs ++ (x ∷ [])
   front xs x n = ap (λ (n : ℕ). take n (set xs k x)) (add-one k) ∙ take-suc-set xs k x (omega arith)
 
-  more : entriesOf (take (k + 1) (set prices k (level .price))) (take (k + 1) (set sizes k (level .size))) (take (k + 1) (set rests k rest)) ≡ stored ++ (e ∷ [])
+  more : entriesOf (take (k + 1) (set prices k (level .price))) (take (k + 1) (set sizes k (level .size))) (take (k + 1) (set packs k rest)) ≡ stored ++ (e ∷ [])
   more =
       let lp = h .room .prices-long in
       let lz = h .room .sizes-long in
-      let lr = h .room .rests-long in
-      ap (λ (x : List ℕ). entriesOf x (take (k + 1) (set sizes k (level .size))) (take (k + 1) (set rests k rest))) (front prices (level .price) lp)
-      ∙ ap (λ (x : List ℕ). entriesOf (take k prices ++ (level .price ∷ [])) x (take (k + 1) (set rests k rest))) (front sizes (level .size) lz)
-      ∙ ap (entriesOf (take k prices ++ (level .price ∷ [])) (take k sizes ++ (level .size ∷ []))) (front rests rest lr)
-      ∙ entries-snoc (take k prices) (take k sizes) (take k rests) (level .price) (level .size) rest (long sizes lz ∙ sym (long prices lp)) (long rests lr ∙ sym (long prices lp))
+      let lr = h .room .packs-long in
+      ap (λ (x : List ℕ). entriesOf x (take (k + 1) (set sizes k (level .size))) (take (k + 1) (set packs k rest))) (front prices (level .price) lp)
+      ∙ ap (λ (x : List ℕ). entriesOf (take k prices ++ (level .price ∷ [])) x (take (k + 1) (set packs k rest))) (front sizes (level .size) lz)
+      ∙ ap (entriesOf (take k prices ++ (level .price ∷ [])) (take k sizes ++ (level .size ∷ []))) (front packs rest lr)
+      ∙ entries-snoc (take k prices) (take k sizes) (take k packs) (level .price) (level .size) rest (long sizes lz ∙ sym (long prices lp)) (long packs lr ∙ sym (long prices lp))
 
   each-edit : (P : Edit Level → Type 0) → P e → All P stored →
-      All P (entriesOf (take (k + 1) (set prices k (level .price))) (take (k + 1) (set sizes k (level .size))) (take (k + 1) (set rests k rest)))
+      All P (entriesOf (take (k + 1) (set prices k (level .price))) (take (k + 1) (set sizes k (level .size))) (take (k + 1) (set packs k rest)))
   unfolding All
   each-edit P a b = subst (All P) (sym more) (all-append P stored (e ∷ []) b (a, tt))
 
-  pub loaded-more : Loaded piece s (rows ++ (rowOf f ∷ [])) (set prices k (level .price)) (set sizes k (level .size)) (set rests k rest) (k + 1)
+  pub loaded-more : Loaded piece s (rows ++ (rowOf f ∷ [])) (set prices k (level .price)) (set sizes k (level .size)) (set packs k rest) (k + 1)
   loaded-more =
       let b = holds s f level rest p l in
       let lp = h .room .prices-long in
       let lz = h .room .sizes-long in
-      let lr = h .room .rests-long in
+      let lr = h .room .packs-long in
       let gp = grown prices (level .price) lp in
       let gz = grown sizes (level .size) lz in
-      let gr = grown rests rest lr in
+      let gr = grown packs rest lr in
       record {
-        room = record { prices-long = length-set prices k (level .price) ∙ lp; sizes-long = length-set sizes k (level .size) ∙ lz; rests-long = length-set rests k rest ∙ lr };
+        room = record { prices-long = length-set prices k (level .price) ∙ lp; sizes-long = length-set sizes k (level .size) ∙ lz; packs-long = length-set packs k rest ∙ lr };
         count = let n = h .count in let m = length-append rows (rowOf f ∷ []) in omega arith;
         few = omega arith;
         prices-count = gp;
         sizes-count = gz;
-        rests-count = gr;
+        packs-count = gr;
         given = record {
           few = omega arith;
           sizes-long = sym gz ∙ gp;
-          rests-long = sym gr ∙ gp;
+          packs-long = sym gr ∙ gp;
           within = each-edit (λ x. Within (named levelPrice x)) (b .within) (h .given .within);
         };
         edits =

@@ -31,20 +31,20 @@ abbrev pub pieceFor : Bool → Number → Number → List ℕ
 pieceFor true = mPiece
 pieceFor false = kPiece
 
-pub record Room (prices sizes rests : List ℕ) : Type 0 where
+pub record Room (prices sizes packs : List ℕ) : Type 0 where
   pub prices-long : length prices ≡ maxEntries
   pub sizes-long : length sizes ≡ maxEntries
-  pub rests-long : length rests ≡ maxEntries
+  pub packs-long : length packs ≡ maxEntries
 
 -- The first n words of each list are those of the rows, as `side::apply` wants them: they stand for what the rows say, and a level that they set
 -- carries the sum of its piece.
-pub record Loaded (piece : Number → Number → List ℕ) (s : List ℕ) (rows : List Row) (prices sizes rests : List ℕ) (n : ℕ) : Type 0 where
-  pub room : Room prices sizes rests
+pub record Loaded (piece : Number → Number → List ℕ) (s : List ℕ) (rows : List Row) (prices sizes packs : List ℕ) (n : ℕ) : Type 0 where
+  pub room : Room prices sizes packs
   pub count : n ≡ length rows
   pub few : n ≤ maxEntries
   pub prices-count : n ≡ length (take n prices)
   pub sizes-count : n ≡ length (take n sizes)
-  pub rests-count : n ≡ length (take n rests)
-  pub given : Given (take n prices) (take n sizes) (take n rests)
-  pub edits : map (mapEdit shown) (entriesOf (take n prices) (take n sizes) (take n rests)) ≡ map (editAt s) rows
-  pub carried : All (IfSet (Carries piece)) (entriesOf (take n prices) (take n sizes) (take n rests))
+  pub packs-count : n ≡ length (take n packs)
+  pub given : Given (take n prices) (take n sizes) (take n packs)
+  pub edits : map (mapEdit shown) (entriesOf (take n prices) (take n sizes) (take n packs)) ≡ map (editAt s) rows
+  pub carried : All (IfSet (Carries piece)) (entriesOf (take n prices) (take n sizes) (take n packs))

@@ -1,8 +1,8 @@
 // The entries of one side of a message, read where they lie in its text into the three words each that `side::apply` takes.
 // A level that is set carries the sum of its piece of checksum text.
 //
-//     let n = loader::load(&message[at..], false, &mut prices, &mut sizes, &mut rests);
-//     side::apply(bids, Side::Bids, depth, &prices[..n], &sizes[..n], &rests[..n])
+//     let n = loader::load(&message[at..], false, &mut prices, &mut sizes, &mut packs);
+//     side::apply(bids, Side::Bids, depth, &prices[..n], &sizes[..n], &packs[..n])
 ghost use Rattle.decimal.specs.Decimal.{number};
 ghost use Rattle.decimal.specs.Limits.{Within};
 ghost use Rattle.entries.specs.Rows.{entryFor};
@@ -23,10 +23,10 @@ pub fn load(
     m: bool,
     prices: &mut [u64; MAX_ENTRIES],
     sizes: &mut [u64; MAX_ENTRIES],
-    rests: &mut [u64; MAX_ENTRIES],
+    packs: &mut [u64; MAX_ENTRIES],
 ) -> usize
-    requires { ⌜ Loadable (entryFor m) (now s) × Room (now prices) (now sizes) (now rests) ⌝ }
-    ensures { λ r. ⌜ Loaded (pieceFor m) (now (s .entry)) (rowsAt (entryFor m) (now (s .entry))) (now (prices .exit)) (now (sizes .exit)) (now (rests .exit)) r ⌝ }
+    requires { ⌜ Loadable (entryFor m) (now s) × Room (now prices) (now sizes) (now packs) ⌝ }
+    ensures { λ r. ⌜ Loaded (pieceFor m) (now (s .entry)) (rowsAt (entryFor m) (now (s .entry))) (now (prices .exit)) (now (sizes .exit)) (now (packs .exit)) r ⌝ }
 {
     let mut at = first_at(s);
     let mut k = 0;
@@ -35,7 +35,7 @@ pub fn load(
         let level = level_of(entry.price, entry.size, m);
         prices[k] = level.price;
         sizes[k] = level.size;
-        rests[k] = level::pack(level);
+        packs[k] = level::pack(level);
         k += 1;
         at = comma_end(s, entry.end);
     }

@@ -17,23 +17,23 @@ use Rattle.entries.specs.Places.{top}
 use Rattle.entries.specs.Rows.{badTexts}
 use Rattle.entries.specs.Summary.{anyBroken, anyZero}
 use Rattle.entries.proofs.Claims.{broken-none, none-broken, zero-none, none-zero}
-use Rattle.layout.specs.Layout.{Listed, Layout, Heard}
-use Rattle.layout.specs.Told.{anyBad, outlineOf, toldOf, toldAt}
+use Rattle.layout.specs.Layout.{Listed, Layout, Envelope}
+use Rattle.layout.specs.Scan.{anyBad, outlineOf, scanOf, scanAt}
 use Rattle.layout.specs.declared.Outline.{Outline}
-use Rattle.layout.specs.declared.Told.{Told}
+use Rattle.layout.specs.declared.Scan.{Scan}
 use Rattle.message.specs.Meaning.{fails, passes, bad, decimals, tooMany, counted, laidOut, addressed}
 use Rattle.message.specs.Verdict.{verdictOf}
-use Rattle.message.specs.Deciding.{laidOutline, addressedTold, decided}
+use Rattle.message.specs.Deciding.{laidOutline, addressedScan, decided}
 use Rattle.answer.specs.declared.Answer.the-variants.{NotJson, Escaped, NotOurs, BadLayout, TooManyEntries, BadDecimal}
 use Rattle.message.specs.declared.Verdict.the-variants.{Fails, Passes}
 
 -- ---- one test at a time
 module _ (o : Outline) where
-  pub outline-unfair : o .fair ≡ false → Fails BadLayout ≡ laidOutline o
+  pub outline-unfair : o .«well_formed» ≡ false → Fails BadLayout ≡ laidOutline o
   unfolding laidOutline
   outline-unfair h = sym (rw (h, laidOutline))
 
-  module _ (h : o .fair ≡ true) where
+  module _ (h : o .«well_formed» ≡ true) where
     pub outline-many-bids : ltb 100 (o .bids) ≡ true → Fails TooManyEntries ≡ laidOutline o
     unfolding laidOutline
     outline-many-bids g = sym (rw (h, g, laidOutline))
@@ -46,30 +46,30 @@ module _ (o : Outline) where
     unfolding laidOutline
     outline-passes g k = sym (rw (h, g, k, laidOutline))
 
-module _ (t : Told) where
-  pub address-no-frame : t .framed ≡ false → Fails NotOurs ≡ addressedTold t
-  unfolding addressedTold
-  address-no-frame h = sym (rw (h, addressedTold))
+module _ (t : Scan) where
+  pub address-no-frame : t .framed ≡ false → Fails NotOurs ≡ addressedScan t
+  unfolding addressedScan
+  address-no-frame h = sym (rw (h, addressedScan))
 
   module _ (h : t .framed ≡ true) where
-    pub address-escaped : t .escaped ≡ true → Fails Escaped ≡ addressedTold t
-    unfolding addressedTold
-    address-escaped g = sym (rw (h, g, addressedTold))
+    pub address-escaped : t .escaped ≡ true → Fails Escaped ≡ addressedScan t
+    unfolding addressedScan
+    address-escaped g = sym (rw (h, g, addressedScan))
 
-    pub address-ours : t .escaped ≡ false → t .ours ≡ true → laidOutline (t .outline) ≡ addressedTold t
-    unfolding addressedTold
-    address-ours g k = sym (rw (h, g, k, addressedTold))
+    pub address-ours : t .escaped ≡ false → t .ours ≡ true → laidOutline (t .outline) ≡ addressedScan t
+    unfolding addressedScan
+    address-ours g k = sym (rw (h, g, k, addressedScan))
 
-    pub address-other : t .escaped ≡ false → t .ours ≡ false → Fails NotOurs ≡ addressedTold t
-    unfolding addressedTold
-    address-other g k = sym (rw (h, g, k, addressedTold))
+    pub address-other : t .escaped ≡ false → t .ours ≡ false → Fails NotOurs ≡ addressedScan t
+    unfolding addressedScan
+    address-other g k = sym (rw (h, g, k, addressedScan))
 
   pub decided-broken : (b : Bool) → t .end ≡ 0 → Fails NotJson ≡ decided t b
   unfolding decided
   decided-broken b h = let e = eq-eqb (t .end) 0 h in sym (rw (e, decided))
 
   module _ (h : t .end ≡ 0 → ⊥) (b : Bool) where
-    pub decided-ended : b ≡ true → addressedTold t ≡ decided t b
+    pub decided-ended : b ≡ true → addressedScan t ≡ decided t b
     unfolding decided
     decided-ended g = let e = ne-eqb (t .end) 0 h in sym (rw (e, g, decided))
 
@@ -87,8 +87,8 @@ laid-is s (reads l) = at (ltb 100 (length (l .bids .rows)) || ltb 100 (length (l
     at false = refl
 laid-is s refused = refl
 
-address-is : (s : List ℕ) (e : ℕ) (h : Reading Heard) → addressedTold (toldOf s e h) ≡ verdictOf s (addressed h)
-unfolding addressedTold toldOf addressed verdictOf
+address-is : (s : List ℕ) (e : ℕ) (h : Reading Envelope) → addressedScan (scanOf s e h) ≡ verdictOf s (addressed h)
+unfolding addressedScan scanOf addressed verdictOf
 address-is s e (reads h) = at (h .escaped) (h .ours) (laid-is s (h .layout))
   where
     at : (x y : Bool) → laidOutline (outlineOf s (h .layout)) ≡ verdictOf s (laidOut (h .layout))
@@ -99,25 +99,25 @@ address-is s e (reads h) = at (h .escaped) (h .ours) (laid-is s (h .layout))
     at false false k = refl
 address-is s e refused = refl
 
-told-end : (s : List ℕ) (e : ℕ) (h : Reading Heard) → toldOf s e h .end ≡ e
-unfolding toldOf
+told-end : (s : List ℕ) (e : ℕ) (h : Reading Envelope) → scanOf s e h .end ≡ e
+unfolding scanOf
 told-end s e (reads h) = refl
 told-end s e refused = refl
 
 -- a value that ends at e, past which nothing stands, or something
-over : (s : List ℕ) (e : ℕ) (h : Reading Heard) → (e ≡ 0 → ⊥) → (b : Bool) → decided (toldOf s e h) b ≡ verdictOf s (cond b (addressed h) (fails NotJson))
+over : (s : List ℕ) (e : ℕ) (h : Reading Envelope) → (e ≡ 0 → ⊥) → (b : Bool) → decided (scanOf s e h) b ≡ verdictOf s (cond b (addressed h) (fails NotJson))
 unfolding verdictOf
-over s e h n true = sym (decided-ended (toldOf s e h) (λ z. n (sym (told-end s e h) ∙ z)) true refl) ∙ address-is s e h
-over s e h n false = sym (decided-more (toldOf s e h) (λ z. n (sym (told-end s e h) ∙ z)) false refl)
+over s e h n true = sym (decided-ended (scanOf s e h) (λ z. n (sym (told-end s e h) ∙ z)) true refl) ∙ address-is s e h
+over s e h n false = sym (decided-more (scanOf s e h) (λ z. n (sym (told-end s e h) ∙ z)) false refl)
 
-module _ (hear : List ℕ → Span → Reading Heard) (s : List ℕ) where
-  abbrev here : Told
-  here = toldAt hear s (blanks s 0)
+module _ (hear : List ℕ → Span → Reading Envelope) (s : List ℕ) where
+  abbrev here : Scan
+  here = scanAt hear s (blanks s 0)
 
   module _ (e : ℕ) (v : value 16 s (blanks s 0) ≡ At e) where
-    told-at : here ≡ toldOf s e (hear s (record { from = blanks s 0; to = e }))
-    unfolding toldAt
-    told-at = rw (v, toldAt)
+    told-at : here ≡ scanOf s e (hear s (record { from = blanks s 0; to = e }))
+    unfolding scanAt
+    told-at = rw (v, scanAt)
 
     text-at : text s ≡ ended s e
     unfolding text
@@ -128,7 +128,7 @@ module _ (hear : List ℕ → Span → Reading Heard) (s : List ℕ) where
     top-at = rw (v, top)
 
     decided-at : decided here (ended s (here .end)) ≡ verdictOf s (cond (text s) (addressed (hear s (top s))) (fails NotJson))
-    unfolding toldOf
+    unfolding scanOf
     decided-at =
         let b = bounds e (value-in 16 s (blanks s 0)) v in
         let a : Span = record { from = blanks s 0; to = e } in
@@ -136,8 +136,8 @@ module _ (hear : List ℕ → Span → Reading Heard) (s : List ℕ) where
         rw (told-at, text-at, top-at, d) (over s e (hear s a) (λ z. omega arith) (ended s e))
 
   decided-none : value 16 s (blanks s 0) ≡ Broken → decided here (ended s (here .end)) ≡ verdictOf s (cond (text s) (addressed (hear s (top s))) (fails NotJson))
-  unfolding toldAt toldOf text decided verdictOf
-  decided-none v = rw (v, toldAt, text, toldOf, decided, verdictOf)
+  unfolding scanAt scanOf text decided verdictOf
+  decided-none v = rw (v, scanAt, text, scanOf, decided, verdictOf)
 
   -- checks 3 to 7, from what is told of the value that the text begins with
   pub decided-is : decided here (ended s (here .end)) ≡ verdictOf s (cond (text s) (addressed (hear s (top s))) (fails NotJson))

@@ -12,14 +12,14 @@ use Rattle.decimal.specs.Digits.{Reading, reads, refused}
 use Rattle.text.specs.Text.{byteAt}
 use Rattle.json_tokens.proofs.Laws.{in-byte}
 use Rattle.json.specs.Json.{Span, text}
-use Rattle.settings.specs.Settings.{Terms, isM, good, goodDepth}
+use Rattle.settings.specs.Settings.{Config, isM, good, goodDepth}
 use Rattle.settings.specs.declared.Dialect.{Dialect}
 use Rattle.settings.specs.declared.Dialect.the-variants.{K, M, Unknown}
 use Rattle.entries.specs.Places.{andThen, arrayAt, top}
 use Rattle.entries.specs.Rows.{Row, entryFor, entriesAt}
 use Rattle.entries.proofs.Shift.{Even, k-even, m-even, shifted-loadable}
-use Rattle.layout.specs.Layout.{Listed, Layout, Heard}
-use Rattle.message.specs.Meaning.{Checked, fails, passes, bad, decimals, alsoDecimals, tooMany, counted, laidOut, addressed, heardIn, framed, checked}
+use Rattle.layout.specs.Layout.{Listed, Layout, Envelope}
+use Rattle.message.specs.Meaning.{Checked, fails, passes, bad, decimals, alsoDecimals, tooMany, counted, laidOut, addressed, envelopeIn, framed, checked}
 use Rattle.answer.specs.declared.Answer.{Answer}
 use Rattle.answer.specs.declared.Answer.the-variants.{TooLong, NotJson, Escaped, NotOurs, BadLayout, TooManyEntries, BadDecimal}
 use Rattle.message.proofs.Where.{entryIn, Lies, nowhere, there}
@@ -33,7 +33,7 @@ no-reading h = let z : _≡_ {A = ℕ} 0 1 = cc in absurd (omega arith)
 
 -- ---- a message that passes checks 2 to 8 passes 2 to 7, and no text of it is bad
 
-pub also-framed : (t : Terms) (s : List ℕ) (l : Layout) → checked t s ≡ passes l → (framed t s ≡ passes l) × (bad s l ≡ [])
+pub also-framed : (t : Config) (s : List ℕ) (l : Layout) → checked t s ≡ passes l → (framed t s ≡ passes l) × (bad s l ≡ [])
 unfolding checked alsoDecimals decimals
 also-framed t s l h = go (framed t s) h
   where
@@ -50,7 +50,7 @@ or-none true b h = absurd (true≢false h)
 or-none false b h = (refl, h)
 
 -- it has at most 100 entries a side
-pub framed-few : (t : Terms) (s : List ℕ) (l : Layout) → framed t s ≡ passes l → (length (l .bids .rows) ≤ 100) × (length (l .asks .rows) ≤ 100)
+pub framed-few : (t : Config) (s : List ℕ) (l : Layout) → framed t s ≡ passes l → (length (l .bids .rows) ≤ 100) × (length (l .asks .rows) ≤ 100)
 unfolding framed addressed laidOut counted tooMany
 framed-few t s l h = first (ltb 32768 (length s)) (text s) h
   where
@@ -68,19 +68,19 @@ framed-few t s l h = first (ltb 32768 (length s)) (text s) h
     lay (reads k) g = few k (tooMany k) refl g
     lay refused g = no-pass BadLayout l g
 
-    told : (x : Heard) (a b : Bool) → cond a (fails Escaped) (cond b (laidOut (x .layout)) (fails NotOurs)) ≡ passes l → (length (l .bids .rows) ≤ 100) × (length (l .asks .rows) ≤ 100)
-    told x true b g = no-pass Escaped l g
-    told x false true g = lay (x .layout) g
-    told x false false g = no-pass NotOurs l g
+    scan : (x : Envelope) (a b : Bool) → cond a (fails Escaped) (cond b (laidOut (x .layout)) (fails NotOurs)) ≡ passes l → (length (l .bids .rows) ≤ 100) × (length (l .asks .rows) ≤ 100)
+    scan x true b g = no-pass Escaped l g
+    scan x false true g = lay (x .layout) g
+    scan x false false g = no-pass NotOurs l g
 
-    address : (r : Reading Heard) → addressed r ≡ passes l → (length (l .bids .rows) ≤ 100) × (length (l .asks .rows) ≤ 100)
-    address (reads x) g = told x (x .escaped) (x .ours) g
+    address : (r : Reading Envelope) → addressed r ≡ passes l → (length (l .bids .rows) ≤ 100) × (length (l .asks .rows) ≤ 100)
+    address (reads x) g = scan x (x .escaped) (x .ours) g
     address refused g = no-pass NotOurs l g
 
-    first : (a b : Bool) → cond a (fails TooLong) (cond b (addressed (heardIn (t .dialect) t s (top s))) (fails NotJson)) ≡ passes l
+    first : (a b : Bool) → cond a (fails TooLong) (cond b (addressed (envelopeIn (t .dialect) t s (top s))) (fails NotJson)) ≡ passes l
         → (length (l .bids .rows) ≤ 100) × (length (l .asks .rows) ≤ 100)
     first true b g = no-pass TooLong l g
-    first false true g = address (heardIn (t .dialect) t s (top s)) g
+    first false true g = address (envelopeIn (t .dialect) t s (top s)) g
     first false false g = no-pass NotJson l g
 
 -- ---- the entries of dialect K or M
@@ -90,7 +90,7 @@ pub data Readable : Dialect → Type 0 where
   is-k : Readable K
   is-m : Readable M
 
-pub good-readable : (t : Terms) → good t ≡ true → Readable (t .dialect)
+pub good-readable : (t : Config) → good t ≡ true → Readable (t .dialect)
 unfolding good goodDepth
 good-readable t h = go (t .dialect) refl
   where

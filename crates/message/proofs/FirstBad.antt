@@ -11,12 +11,12 @@ use lib.ListN.{length, drop, length-drop}
 use Rattle.decimal.specs.Digits.{Reading, reads}
 use Rattle.json.specs.Json.{Span}
 use Rattle.json.proofs.Shift.{shiftedSpan}
-use Rattle.settings.specs.Settings.{Terms, isM, good}
+use Rattle.settings.specs.Settings.{Config, isM, good}
 use Rattle.settings.specs.declared.Dialect.{Dialect}
 use Rattle.entries.specs.Rows.{Row, entryFor, entriesAt, badTexts, firstOf}
 use Rattle.entries.proofs.Shift.{texts-shift, shifted-rows}
 use Rattle.layout.specs.Layout.{Listed, Layout}
-use Rattle.layout.specs.Told.{outlineOf}
+use Rattle.layout.specs.Scan.{outlineOf}
 use Rattle.layout.specs.declared.Outline.{Outline}
 use Rattle.entries.specs.Arrays.{rowsAt, Ready}
 use Rattle.first_bad.specs.Places.{noPlace, placeOf, First}
@@ -129,7 +129,7 @@ module _ {d : Dialect} (r : Readable d) (s : List ℕ) (snapshot : Bool) (l : Li
 
 -- ---- the message
 
-module _ (t : Terms) (s : List ℕ) (h : good t ≡ true) (v : Verdict) (is : v ≡ verdictOf s (framed t s)) where
+module _ (t : Config) (s : List ℕ) (h : good t ≡ true) (v : Verdict) (is : v ≡ verdictOf s (framed t s)) where
   pub frame-fails : (a : Answer) → v ≡ Fails a → PartIs s (partOf (firstBadOf s (framed t s))) (record { from = 0; to = 0 })
   unfolding verdictOf firstBadOf partOf
   frame-fails a g = record { is = go (framed t s) (sym is ∙ g); within = record { order = omega arith; inside = omega arith } }
@@ -169,10 +169,10 @@ module _ (t : Terms) (s : List ℕ) (h : good t ≡ true) (v : Verdict) (is : v 
         let a = side-bad d s (l .snapshot) (l .asks) (w .asks) in
         rw (q, p .2, p .1) (ap₂ earlierPlace b a ∙ earlier-places (badTexts (l .snapshot) s (l .bids .rows)) (badTexts (l .snapshot) s (l .asks .rows)))
 
-pub place-good : (t : Terms) (s : List ℕ) → good t ≡ true → partOf (firstBadOf s (framed t s)) ≡ partOf (badDecimal t s)
+pub place-good : (t : Config) (s : List ℕ) → good t ≡ true → partOf (firstBadOf s (framed t s)) ≡ partOf (badDecimal t s)
 unfolding badDecimal
 place-good t s h = sym (ap partOf (rw (h, badDecimal)))
 
-pub place-shut : (t : Terms) (s : List ℕ) → good t ≡ false → PartIs s (partOf (badDecimal t s)) (record { from = 0; to = 0 })
+pub place-shut : (t : Config) (s : List ℕ) → good t ≡ false → PartIs s (partOf (badDecimal t s)) (record { from = 0; to = 0 })
 unfolding badDecimal partOf
 place-shut t s h = record { is = sym (rw (h, badDecimal, partOf)); within = record { order = omega arith; inside = omega arith } }

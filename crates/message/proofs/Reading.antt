@@ -12,12 +12,12 @@ use Rattle.decimal.specs.Digits.{reads, refused}
 use Rattle.json_tokens.specs.Tokens.{End, At, Broken, blanks, ended}
 use Rattle.json_tokens.specs.Ends.{endOf}
 use Rattle.json.specs.Json.{value}
-use Rattle.settings.specs.Settings.{Terms, goodDepth, goodName, good}
+use Rattle.settings.specs.Settings.{Config, goodDepth, goodName, good}
 use Rattle.settings.specs.declared.Dialect.the-variants.{K, Unknown}
-use Rattle.layout.specs.Told.{noFrame, outlineOf, toldOf, toldAt}
+use Rattle.layout.specs.Scan.{notFramed, outlineOf, scanOf, scanAt}
 use Rattle.layout.specs.declared.Outline.{Outline}
-use Rattle.layout.specs.declared.Told.{Told}
-use Rattle.message.specs.Meaning.{Checked, fails, passes, alsoDecimals, heardIn, framed, checked, judged}
+use Rattle.layout.specs.declared.Scan.{Scan}
+use Rattle.message.specs.Meaning.{Checked, fails, passes, alsoDecimals, envelopeIn, framed, checked, judged}
 use Rattle.message.specs.Verdict.{verdictOf}
 use Rattle.message.specs.Deciding.{decided}
 use Rattle.answer.specs.declared.Answer.{Answer}
@@ -42,7 +42,7 @@ k-depth depth name h =
     let d = and-first (leb 10 depth && leb depth 100) (goodName name) h in
     (leb-true 10 depth (and-first (leb 10 depth) (leb depth 100) d), leb-true depth 100 (and-second (leb 10 depth) (leb depth 100) d))
 
-module _ (t : Terms) (s : List ℕ) where
+module _ (t : Config) (s : List ℕ) where
   pub judged-good : good t ≡ true → verdictOf s (checked t s) ≡ verdictOf s (judged t s)
   unfolding judged
   judged-good h = sym (ap (verdictOf s) (rw (h, judged)))
@@ -57,15 +57,15 @@ module _ (t : Terms) (s : List ℕ) where
   unfolding framed verdictOf
   frame-long h = let e = lt-ltb 32768 (length s) h in sym (rw (e, framed, verdictOf))
 
-  abbrev here : Told
-  here = toldAt (heardIn (t .dialect) t) s (blanks s 0)
+  abbrev here : Scan
+  here = scanAt (envelopeIn (t .dialect) t) s (blanks s 0)
 
-  pub frame-rest : length s ≤ 32768 → (told : Told) → told ≡ here → (over : Bool) → over ≡ ended s (told .end) → decided told over ≡ verdictOf s (framed t s)
+  pub frame-rest : length s ≤ 32768 → (scan : Scan) → scan ≡ here → (over : Bool) → over ≡ ended s (scan .end) → decided scan over ≡ verdictOf s (framed t s)
   unfolding framed
-  frame-rest h told p over q =
+  frame-rest h scan p over q =
       let e = le-ltb 32768 (length s) h in
-      let o : over ≡ ended s (here .end) = q ∙ ap (λ (x : Told). ended s (x .end)) p in
-      ap (λ (x : Told). decided x over) p ∙ ap (decided here) o ∙ decided-is (heardIn (t .dialect) t) s ∙ sym (ap (verdictOf s) (rw (e, framed)))
+      let o : over ≡ ended s (here .end) = q ∙ ap (λ (x : Scan). ended s (x .end)) p in
+      ap (λ (x : Scan). decided x over) p ∙ ap (decided here) o ∙ decided-is (envelopeIn (t .dialect) t) s ∙ sym (ap (verdictOf s) (rw (e, framed)))
 
   -- ---- check 8
 
@@ -100,10 +100,10 @@ module _ (t : Terms) (s : List ℕ) where
 
 -- ---- what no dialect reads
 
-pub told-unknown : (t : Terms) (s : List ℕ) (at e : ℕ) → e ≡ endOf (value 16 s at) → noFrame e ≡ toldAt (heardIn Unknown t) s at
-unfolding toldAt heardIn toldOf endOf
+pub told-unknown : (t : Config) (s : List ℕ) (at e : ℕ) → e ≡ endOf (value 16 s at) → notFramed e ≡ scanAt (envelopeIn Unknown t) s at
+unfolding scanAt envelopeIn scanOf endOf
 told-unknown t s at e h = go (value 16 s at) h
   where
-    go : (x : End) → e ≡ endOf x → noFrame e ≡ elim x [ At i ↦ toldOf s i refused | Broken ↦ toldOf s 0 refused ]
-    go (At i) g = ap noFrame g
-    go Broken g = ap noFrame g
+    go : (x : End) → e ≡ endOf x → notFramed e ≡ elim x [ At i ↦ scanOf s i refused | Broken ↦ scanOf s 0 refused ]
+    go (At i) g = ap notFramed g
+    go Broken g = ap notFramed g

@@ -14,17 +14,17 @@ use Rattle.decimal.proofs.Digits.{Digits, leading-digits, value-below, tens-mon
 use Rattle.decimal.proofs.Scan.{leading-whole}
 use Rattle.json.specs.Names.{part}
 use Rattle.json.specs.Json.{Span, Pair, text}
-use Rattle.settings.specs.Settings.{Terms}
+use Rattle.settings.specs.Settings.{Config}
 use Rattle.settings.specs.declared.Dialect.{Dialect}
 use Rattle.settings.specs.declared.Dialect.the-variants.{K, M, Unknown}
 use Rattle.entries.specs.Places.{isString, inner, andThen, all, arrayAt, objectAt, valuesOf, only, wholeAt, checksumAt, quotedChecksumAt, top}
 use Rattle.entries.specs.Rows.{Row, entryK, entryM, entriesAt}
-use Rattle.layout.specs.Layout.{Printed, printed, unprinted, Listed, Layout, Heard, unlisted, listedAt, laid}
-use Rattle.message_k.specs.LayoutK.{Frame, frameOf, isSnapshot, isUpdate, together, listedOf, listedIn, objectsLayout, layoutK, heardK}
-use Rattle.message_m.specs.LayoutM.{isSnapshotAt, listedIn as listedInM, layoutM, heardM}
+use Rattle.layout.specs.Layout.{Printed, printed, unprinted, Listed, Layout, Envelope, unlisted, listedAt, laid}
+use Rattle.message_k.specs.LayoutK.{Frame, frameOf, isSnapshot, isUpdate, together, listedOf, listedIn, objectsLayout, layoutK, envelopeK}
+use Rattle.message_m.specs.LayoutM.{isSnapshotAt, listedIn as listedInM, layoutM, envelopeM}
 use lib.Dec.{leb, ltb, eqb, lit<}
 use lib.ListN.{length, getD}
-use Rattle.message.specs.Meaning.{fails, passes, tooMany, counted, laidOut, addressed, heardIn, framed}
+use Rattle.message.specs.Meaning.{fails, passes, tooMany, counted, laidOut, addressed, envelopeIn, framed}
 use Rattle.answer.specs.declared.Answer.{Answer}
 use Rattle.answer.specs.declared.Answer.the-variants.{TooLong, NotJson, Escaped, NotOurs, BadLayout, TooManyEntries}
 
@@ -207,7 +207,7 @@ module _ (entry : List ℕ → Span → Reading Row) (s : List ℕ) where
       at false g = let e : l ≡ x = cc in rw e (f x refl)
   counted-lies refused f l h = no-pass BadLayout l h
 
-  addressed-lies : (r : Reading Heard) → ((x : Heard) → r ≡ reads x → (y : Layout) → x .layout ≡ reads y → LieIn entry s y)
+  addressed-lies : (r : Reading Envelope) → ((x : Envelope) → r ≡ reads x → (y : Layout) → x .layout ≡ reads y → LieIn entry s y)
       → (l : Layout) → addressed r ≡ passes l → LieIn entry s l
   unfolding addressed
   addressed-lies (reads x) f l h = at (x .escaped) (x .ours) h
@@ -218,23 +218,23 @@ module _ (entry : List ℕ → Span → Reading Row) (s : List ℕ) where
       at false false g = no-pass NotOurs l g
   addressed-lies refused f l h = no-pass NotOurs l h
 
-heard-lies : (d : Dialect) (t : Terms) (s : List ℕ) (a : Span) (x : Heard) → heardIn d t s a ≡ reads x → (y : Layout) → x .layout ≡ reads y → LieIn (entryIn d) s y
-unfolding heardIn entryIn heardK heardM
+heard-lies : (d : Dialect) (t : Config) (s : List ℕ) (a : Span) (x : Envelope) → envelopeIn d t s a ≡ reads x → (y : Layout) → x .layout ≡ reads y → LieIn (entryIn d) s y
+unfolding envelopeIn entryIn envelopeK envelopeM
 heard-lies K t s a x h y g =
     let f = then-reads (andThen (arrayAt 16 s a) frameOf) _ x h in
     let e = reads-same (f .1) in
-    k-lies s (f .0) y (ap (λ (z : Heard). z .layout) e ∙ g)
+    k-lies s (f .0) y (ap (λ (z : Envelope). z .layout) e ∙ g)
 heard-lies M t s a x h y g =
     let f = then-reads (objectAt 16 s a) _ x h in
     let e = reads-same (f .1) in
-    m-lies s (f .0) y (ap (λ (z : Heard). z .layout) e ∙ g)
+    m-lies s (f .0) y (ap (λ (z : Envelope). z .layout) e ∙ g)
 heard-lies Unknown t s a x h y g = no-reading h
 
-pub framed-lies : (t : Terms) (s : List ℕ) (l : Layout) → framed t s ≡ passes l → LieIn (entryIn (t .dialect)) s l
+pub framed-lies : (t : Config) (s : List ℕ) (l : Layout) → framed t s ≡ passes l → LieIn (entryIn (t .dialect)) s l
 unfolding framed
 framed-lies t s l h = at (ltb 32768 (length s)) (text s) h
   where
-    at : (a b : Bool) → cond a (fails TooLong) (cond b (addressed (heardIn (t .dialect) t s (top s))) (fails NotJson)) ≡ passes l → LieIn (entryIn (t .dialect)) s l
+    at : (a b : Bool) → cond a (fails TooLong) (cond b (addressed (envelopeIn (t .dialect) t s (top s))) (fails NotJson)) ≡ passes l → LieIn (entryIn (t .dialect)) s l
     at true b g = no-pass TooLong l g
-    at false true g = addressed-lies (entryIn (t .dialect)) s (heardIn (t .dialect) t s (top s)) (heard-lies (t .dialect) t s (top s)) l g
+    at false true g = addressed-lies (entryIn (t .dialect)) s (envelopeIn (t .dialect) t s (top s)) (heard-lies (t .dialect) t s (top s)) l g
     at false false g = no-pass NotJson l g

@@ -5,9 +5,9 @@ use Prim.Native.Nat.{ℕ}
 use Prim.Native.String.{String}
 use Rattle.text.specs.Text.{ascii}
 use Rattle.settings.specs.declared.Dialect.the-variants.{K, M}
-use Rattle.settings.specs.Settings.{Terms}
-use Rattle.answer.specs.Answers.{number}
-use Rattle.message.specs.Meaning.{Said, refuses, says, said}
+use Rattle.settings.specs.Settings.{Config}
+use Rattle.answer.specs.Answers.{answerNumber}
+use Rattle.message.specs.Meaning.{Decoded, refuses, decodes, decode}
 use Rattle.text.specs.Text as x·
 use Rattle.decimal.specs.Digits as d·
 use Rattle.decimal.specs.Decimal as d2·
@@ -23,23 +23,23 @@ use Rattle.message_k.specs.LayoutK as k·
 use Rattle.message_m.specs.LayoutM as m·
 use Rattle.message.specs.Meaning as w·
 
-m-book : Terms
+m-book : Config
 m-book = record { dialect = M; depth = 100; name = ascii "BTC-VND" }
 
-k-book : Terms
+k-book : Config
 k-book = record { dialect = K; depth = 10; name = ascii "XBT/USD" }
 
 -- the number of a refusal, and 0 of a message that says something
-numberOf : Said → ℕ
-numberOf (refuses a) = number a
-numberOf (says m) = 0
+numberOf : Decoded → ℕ
+numberOf (refuses a) = answerNumber a
+numberOf (decodes m) = 0
 
 -- settings, a message, and the number
 pub data Case : Type 0 where
-  answers : Terms → String → ℕ → Case
+  answers : Config → String → ℕ → Case
 
 Holds : Case → Type 0
-Holds (answers t s n) = numberOf (said t (ascii s)) ≡ n
+Holds (answers t s n) = numberOf (decode t (ascii s)) ≡ n
 
 Each : List Case → Type 0
 Each [] = Unit
@@ -117,5 +117,5 @@ table =
     []
 
 examples : Each table
-unfolding table Each Holds numberOf number m-book k-book x·.isDigit d·.leading d·.valueFrom d·.significantIn d·.significant d·.written d2·.isWhole d2·.fractional d2·.pointed d2·.prefix d2·.read d2·.isZero d3·.readWhole d3·.atMost d3·.readChecksum x·.byteAt t1·.blank t1·.hexDigit t1·.escaped t2·.andThen t2·.run t2·.blanks t2·.digits t2·.someDigits t2·.closing t2·.separator t2·.stringRest t2·.string t2·.minus t2·.sign t2·.int t2·.fraction t2·.exponent t2·.number t2·.prefix t2·.word t2·.scalar t2·.ended t2·.chars t2·.escape t2·.hexes j1·.next j1·.before j1·.onward j1·.list j1·.listOf j1·.itemsEnd j1·.element j1·.member j1·.elements j1·.members j1·.value j1·.text j2·.part j2·.means j2·.holds j2·.hasBackslash p·.andThen p·.all p·.top p·.isString p·.contents p·.arrayAt p·.objectAt p·.valuesOf p·.only p·.inner p·.wholeAt p·.checksumAt p·.quotedChecksumAt r·.entriesAt k·.frameOf k·.escapedK k·.oursK k·.times k·.together k·.isSnapshot k·.eachHasOne k·.lastOf k·.isUpdate r·.rowK r·.entryK l·.listedAt l·.laid k·.listedOf k·.listedIn k·.objectsLayout k·.layoutK k·.heardK m·.someName m·.someString m·.escapedM m·.someMeans m·.oursM r·.rowM r·.entryM m·.isSnapshotAt m·.listedIn m·.layoutM m·.heardM r·.badPrice r·.badSize r·.badTexts w·.bad r·.numberAt w·.quoteAt w·.decimals w·.tooMany w·.counted w·.laidOut w·.addressed w·.heardIn w·.framed w·.alsoDecimals w·.checked w·.messageOf w·.saidOf w·.said
+unfolding table Each Holds numberOf answerNumber m-book k-book x·.isDigit d·.leading d·.valueFrom d·.significantIn d·.significant d·.written d2·.isWhole d2·.fractional d2·.pointed d2·.prefix d2·.read d2·.isZero d3·.readWhole d3·.atMost d3·.readChecksum x·.byteAt t1·.blank t1·.hexDigit t1·.escaped t2·.andThen t2·.skipWhile t2·.blanks t2·.digits t2·.someDigits t2·.closing t2·.separator t2·.stringRest t2·.string t2·.minus t2·.sign t2·.int t2·.fraction t2·.exponent t2·.jsonNumber t2·.startsWith t2·.literal t2·.scalar t2·.ended t2·.chars t2·.escape t2·.hexes j1·.next j1·.prepended j1·.onward j1·.list j1·.listOf j1·.itemsEnd j1·.element j1·.member j1·.elements j1·.members j1·.value j1·.text j2·.part j2·.means j2·.holds j2·.hasBackslash p·.andThen p·.all p·.top p·.isString p·.contents p·.arrayAt p·.objectAt p·.valuesOf p·.only p·.inner p·.wholeAt p·.checksumAt p·.quotedChecksumAt r·.entriesAt k·.frameOf k·.escapedK k·.oursK k·.times k·.together k·.isSnapshot k·.eachHasOne k·.lastOf k·.isUpdate r·.rowK r·.entryK l·.listedAt l·.laid k·.listedOf k·.listedIn k·.objectsLayout k·.layoutK k·.envelopeK m·.someName m·.someString m·.escapedM m·.someMeans m·.oursM r·.rowM r·.entryM m·.isSnapshotAt m·.listedIn m·.layoutM m·.envelopeM r·.badPrice r·.badSize r·.badTexts w·.bad r·.numberAt w·.levelChangeAt w·.decimals w·.tooMany w·.counted w·.laidOut w·.addressed w·.envelopeIn w·.framed w·.alsoDecimals w·.checked w·.messageOf w·.decodedOf w·.decode
 examples = (refl, (refl, (refl, (refl, (refl, (refl, (refl, (refl, (refl, (refl, (refl, (refl, (refl, (refl, (refl, (refl, (refl, (refl, (refl, (refl, (refl, (refl, (refl, (refl, (refl, (refl, (refl, (refl, (refl, (refl, (refl, (refl, (refl, (refl, (refl, (refl, (refl, (refl, (refl, (refl, (refl, (refl, (refl, (refl, (refl, (refl, (refl, (refl, (refl, (refl, (refl, (refl, (refl, (refl, (refl, (refl, (refl, (refl, (refl, tt)))))))))))))))))))))))))))))))))))))))))))))))))))))))))))

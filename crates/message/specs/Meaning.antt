@@ -8,12 +8,12 @@ use lib.ListN.{length}
 use Rattle.decimal.specs.Digits.{Reading, reads, refused}
 use Rattle.decimal.specs.Decimal.{Number}
 use Rattle.json.specs.Json.{Span, text}
-use Rattle.settings.specs.Settings.{Terms, good}
+use Rattle.settings.specs.Settings.{Config, good}
 use Rattle.entries.specs.Places.{top}
 use Rattle.entries.specs.Rows.{Row, maxEntries, badTexts, firstOf, numberAt}
-use Rattle.layout.specs.Layout.{Printed, Listed, Layout, Heard}
-use Rattle.message_k.specs.LayoutK.{heardK}
-use Rattle.message_m.specs.LayoutM.{heardM}
+use Rattle.layout.specs.Layout.{Printed, Listed, Layout, Envelope}
+use Rattle.message_k.specs.LayoutK.{envelopeK}
+use Rattle.message_m.specs.LayoutM.{envelopeM}
 use Rattle.answer.specs.declared.Answer.{Answer}
 use Rattle.answer.specs.declared.Answer.the-variants.{Shut, TooLong, NotJson, Escaped, NotOurs, BadLayout, TooManyEntries, BadDecimal}
 use Rattle.settings.specs.declared.Dialect.{Dialect}
@@ -42,19 +42,19 @@ laidOut (reads l) = counted l
 laidOut refused = fails BadLayout
 
 -- What is no message of the dialect's outer form is not this book's.
-unfoldable pub addressed : Reading Heard → Checked
+unfoldable pub addressed : Reading Envelope → Checked
 addressed (reads h) = cond (h .escaped) (fails Escaped) (cond (h .ours) (laidOut (h .layout)) (fails NotOurs))
 addressed refused = fails NotOurs
 
-unfoldable pub heardIn : Dialect → Terms → List ℕ → Span → Reading Heard
-heardIn K t = heardK (t .depth) (t .name)
-heardIn M t = heardM (t .name)
-heardIn Unknown t = λ s a. refused
+unfoldable pub envelopeIn : Dialect → Config → List ℕ → Span → Reading Envelope
+envelopeIn K t = envelopeK (t .depth) (t .name)
+envelopeIn M t = envelopeM (t .name)
+envelopeIn Unknown t = λ s a. refused
 
 -- ---- checks 2 and 3
 
-unfoldable pub framed : Terms → List ℕ → Checked
-framed t s = cond (ltb maxMessage (length s)) (fails TooLong) (cond (text s) (addressed (heardIn (t .dialect) t s (top s))) (fails NotJson))
+unfoldable pub framed : Config → List ℕ → Checked
+framed t s = cond (ltb maxMessage (length s)) (fails TooLong) (cond (text s) (addressed (envelopeIn (t .dialect) t s (top s))) (fails NotJson))
 
 -- ---- check 8: a decimal rule broken, price zero, or size zero in a snapshot
 
@@ -71,45 +71,45 @@ alsoDecimals s (passes l) = decimals s l
 
 -- ---- checks 2 to 8, of a book that is not shut, and check 1, which the settings decide
 
-unfoldable pub checked : Terms → List ℕ → Checked
+unfoldable pub checked : Config → List ℕ → Checked
 checked t s = alsoDecimals s (framed t s)
 
-unfoldable pub judged : Terms → List ℕ → Checked
+unfoldable pub judged : Config → List ℕ → Checked
 judged t s = cond (good t) (checked t s) (fails Shut)
 
 -- ---- what a message says that fails none of them
 
 -- An entry's price and size; a size of zero removes the level at the price.
-pub record Quote : Type 0 where
+pub record LevelChange : Type 0 where
   pub price : Number
   pub size : Number
 
 pub record Message : Type 0 where
   pub snapshot : Bool
-  pub bids : List Quote
-  pub asks : List Quote
+  pub bids : List LevelChange
+  pub asks : List LevelChange
   pub checksum : Printed
   pub number : ℕ
 
-pub data Said : Type 0 where
-  refuses : Answer → Said
-  says : Message → Said
+pub data Decoded : Type 0 where
+  refuses : Answer → Decoded
+  decodes : Message → Decoded
 
-unfoldable pub quoteAt : List ℕ → Row → Quote
-quoteAt s r = record { price = numberAt s (r .price); size = numberAt s (r .size) }
+unfoldable pub levelChangeAt : List ℕ → Row → LevelChange
+levelChangeAt s r = record { price = numberAt s (r .price); size = numberAt s (r .size) }
 
-abbrev pub quotesOf : List ℕ → Listed → List Quote
-quotesOf s l = map (quoteAt s) (l .rows)
+abbrev pub levelChangesOf : List ℕ → Listed → List LevelChange
+levelChangesOf s l = map (levelChangeAt s) (l .rows)
 
 unfoldable pub messageOf : List ℕ → Layout → Message
-messageOf s l = record { snapshot = l .snapshot; bids = quotesOf s (l .bids); asks = quotesOf s (l .asks); checksum = l .checksum; number = l .number }
+messageOf s l = record { snapshot = l .snapshot; bids = levelChangesOf s (l .bids); asks = levelChangesOf s (l .asks); checksum = l .checksum; number = l .number }
 
-unfoldable pub saidOf : List ℕ → Checked → Said
-saidOf s (fails a) = refuses a
-saidOf s (passes l) = says (messageOf s l)
+unfoldable pub decodedOf : List ℕ → Checked → Decoded
+decodedOf s (fails a) = refuses a
+decodedOf s (passes l) = decodes (messageOf s l)
 
-unfoldable pub said : Terms → List ℕ → Said
-said t s = saidOf s (checked t s)
+unfoldable pub decode : Config → List ℕ → Decoded
+decode t s = decodedOf s (checked t s)
 
 -- ---- the question for the first bad decimal
 
@@ -128,5 +128,5 @@ firstBadOf s (passes l) = firstBad s l
 
 -- The first text that breaks check 8, in message order, quotes included; if settings are bad or checks 2 to 7 refuse or nothing breaks, the empty part
 -- at the start.
-unfoldable pub badDecimal : Terms → List ℕ → Span
+unfoldable pub badDecimal : Config → List ℕ → Span
 badDecimal t s = cond (good t) (firstBadOf s (framed t s)) (record { from = 0; to = 0 })

@@ -2,7 +2,7 @@
 use mathlib.Core.List.{List}
 use Prim.Native.Nat.{ℕ}
 use Rattle.decimal.specs.Digits.{reads}
-use Rattle.layout.specs.Told.{outlineOf}
+use Rattle.layout.specs.Scan.{outlineOf}
 use Rattle.message.specs.Meaning.{Checked, fails, passes}
 use Rattle.message.specs.declared.Verdict.{Verdict}
 use Rattle.message.specs.declared.Verdict.the-variants.{Fails, Passes}

@@ -9,20 +9,20 @@ use json::value_end;
 use json_tokens::is_ended;
 use json_tokens::skip_blanks;
 use layout::Outline;
-use layout::Told;
-use layout::untold;
+use layout::Scan;
+use layout::not_framed;
 use message_k::k_message;
 use message_m::m_message;
 use settings::Dialect;
 ghost use mathlib.Core.Path.{_≡_};
 ghost use mathlib.Core.Bool.{true};
 ghost use Rattle.settings.specs.Settings.{good};
-ghost use Rattle.layout.specs.Told.{toldAt};
-ghost use Rattle.message.specs.Meaning.{heardIn, framed, checked, judged};
+ghost use Rattle.layout.specs.Scan.{scanAt};
+ghost use Rattle.message.specs.Meaning.{envelopeIn, framed, checked, judged};
 ghost use Rattle.message.specs.Verdict.{verdictOf};
 pub use bad::bad_decimal;
 pub use bad::bad_place;
-ghost use Rattle.message.specs.Deciding.{decided, addressedTold, laidOutline};
+ghost use Rattle.message.specs.Deciding.{decided, addressedScan, laidOutline};
 
 // The longest message.
 pub const MAX_MESSAGE: usize = 32768;
@@ -72,46 +72,46 @@ pub fn read_frame(dialect: Dialect, depth: usize, name: &[u8], s: &[u8]) -> Verd
     if MAX_MESSAGE < s.len() {
         return Verdict::Fails(Answer::TooLong);
     }
-    let told = told_at(dialect, depth, name, s, skip_blanks(s, 0));
-    let ended = is_ended(s, told.end);
-    decide(told, ended)
+    let scan = scan_at(dialect, depth, name, s, skip_blanks(s, 0));
+    let ended = is_ended(s, scan.end);
+    decide(scan, ended)
 }
 
 // What one walk over the message tells.
-fn told_at(dialect: Dialect, depth: usize, name: &[u8], s: &[u8], at: usize) -> Told
+fn scan_at(dialect: Dialect, depth: usize, name: &[u8], s: &[u8], at: usize) -> Scan
     requires { ⌜ good (record { dialect = dialect; depth = depth; name = now name }) ≡ true ⌝ }
-    ensures { λ r. ⌜ r ≡ toldAt (heardIn dialect (record { dialect = dialect; depth = depth; name = now (name .entry) })) (now (s .entry)) at ⌝ }
+    ensures { λ r. ⌜ r ≡ scanAt (envelopeIn dialect (record { dialect = dialect; depth = depth; name = now (name .entry) })) (now (s .entry)) at ⌝ }
 {
     match dialect {
         Dialect::K => k_message(s, at, depth, name),
         Dialect::M => m_message(s, at, name),
-        Dialect::Unknown => untold(value_end(s, at, MAX_DEPTH)),
+        Dialect::Unknown => not_framed(value_end(s, at, MAX_DEPTH)),
     }
 }
 
 // The first of checks 3 to 7 that fails, by what was told of the message; `ended` says that nothing stands past its value.
-fn decide(told: Told, ended: bool) -> Verdict
-    ensures { λ r. ⌜ r ≡ decided told ended ⌝ }
+fn decide(scan: Scan, ended: bool) -> Verdict
+    ensures { λ r. ⌜ r ≡ decided scan ended ⌝ }
 {
-    if told.end == 0 {
+    if scan.end == 0 {
         return Verdict::Fails(Answer::NotJson);
     }
     if ended {
-        return decide_address(told);
+        return decide_address(scan);
     }
     Verdict::Fails(Answer::NotJson)
 }
 
 // Checks 4 to 7.
-fn decide_address(told: Told) -> Verdict
-    ensures { λ r. ⌜ r ≡ addressedTold told ⌝ }
+fn decide_address(scan: Scan) -> Verdict
+    ensures { λ r. ⌜ r ≡ addressedScan scan ⌝ }
 {
-    if told.framed {
-        if told.escaped {
+    if scan.framed {
+        if scan.escaped {
             return Verdict::Fails(Answer::Escaped);
         }
-        if told.ours {
-            return decide_layout(told.outline);
+        if scan.ours {
+            return decide_layout(scan.outline);
         }
         return Verdict::Fails(Answer::NotOurs);
     }
@@ -122,7 +122,7 @@ fn decide_address(told: Told) -> Verdict
 fn decide_layout(outline: Outline) -> Verdict
     ensures { λ r. ⌜ r ≡ laidOutline outline ⌝ }
 {
-    if outline.fair {
+    if outline.well_formed {
         if MAX_ENTRIES < outline.bids {
             return Verdict::Fails(Answer::TooManyEntries);
         }

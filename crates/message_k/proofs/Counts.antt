@@ -6,8 +6,8 @@ use Prim.Native.Nat.{ℕ, zero, suc, _+_, _≤_}
 use native.Mathlib.Omega.{arith}
 use lib.Dec.{leb, ltb, eqb}
 use borrow.Author.Tests.{eqb-true, eq-eqb, ne-eqb, le-leb, lt-leb, lt-ltb, le-ltb}
-use Rattle.layout.specs.Marks.{few}
-use Rattle.layout.proofs.Marks.{few-is}
+use Rattle.layout.specs.MemberSpans.{few}
+use Rattle.layout.proofs.MemberSpans.{few-is}
 
 pub few-zero : (n : ℕ) → eqb (few n) 0 ≡ eqb n 0
 unfolding few

@@ -14,13 +14,13 @@ use Rattle.json.specs.Json.{Span, Pair}
 use Rattle.entries.specs.Places.{andThen, valuesOf, only, quotedChecksumAt}
 use Rattle.entries.specs.Summary.{anyBroken, anyZero}
 use Rattle.layout.specs.Layout.{printed, unprinted, laid}
-use Rattle.layout.specs.Told.{listingOf, isPrinted, sumOf, noOutline, outlineOf, outlineFrom}
+use Rattle.layout.specs.Scan.{entryArrayOf, isPrinted, sumOf, noOutline, outlineOf, outlineFrom}
 use Rattle.json.specs.Fold.{foldFrom}
-use Rattle.layout.specs.Marks.{few, fewMore, moreListed, slotsOf}
-use Rattle.layout.specs.declared.Slot.{Slot}
+use Rattle.layout.specs.MemberSpans.{few, fewMore, withEntryArray, entryMemberOf}
+use Rattle.layout.specs.declared.EntryMember.{EntryMember}
 use Rattle.layout.proofs.Laws.{outline-of}
 use Rattle.message_k.specs.LayoutK.{times, together, isSnapshot, eachHasOne, lastOf, isUpdate, listedOf, listedIn, objectsLayout}
-use Rattle.message_k.specs.MembersK.{isRead, orZero, listingK, moreSummed, noMembers, hasMore, snapshotBy, updateBy, sideOf, outlineBy}
+use Rattle.message_k.specs.MembersK.{isRead, orZero, entryArrayK, moreSummed, noMembers, hasMore, snapshotBy, updateBy, sideOf, outlineBy}
 use Rattle.message_k.specs.declared.Members.{Members}
 use Rattle.message_k.proofs.Counts.{few-zero, few-one, few-most, few-some, few-rises, some-or, none-and, once-last, and-on}
 use Rattle.message_k.proofs.Tells.{sumsOf, Tells, values-append, snapshot-asks-count, snapshot-bids-count, asks-count, bids-count, checksum-count}
@@ -33,8 +33,8 @@ and-true true = refl
 and-true false = refl
 
 -- ---- the entries of a side, of which there is one array at the most
-side-is : (s : List ℕ) (l : List Span) → length l ≤ 1 → sideOf (slotsOf (listingK s) l) ≡ listingOf s (listedOf s l)
-unfolding foldFrom moreListed fewMore sideOf listingK listedOf listingOf anyBroken anyZero
+side-is : (s : List ℕ) (l : List Span) → length l ≤ 1 → sideOf (entryMemberOf (entryArrayK s) l) ≡ entryArrayOf s (listedOf s l)
+unfolding foldFrom withEntryArray fewMore sideOf entryArrayK listedOf entryArrayOf anyBroken anyZero
 side-is s [] h = refl
 side-is s (a ∷ []) h = refl
 side-is s (a ∷ (b ∷ l)) h = absurd (omega arith)
@@ -62,8 +62,8 @@ module _ (s : List ℕ) (objects : List (List Pair)) where
       (leb-true _ 1 (a .0), leb-true _ 1 (b .0), eqb-true _ 1 (c .0))
 
   module _ (t : Members) (h : Tells s t (together objects)) where
-    side : (name : List ℕ) (slot : Slot) → slot ≡ slotsOf (listingK s) (valuesOf s name (together objects)) → often name ≤ 1
-        → sideOf slot ≡ listingOf s (listedIn s name objects)
+    side : (name : List ℕ) (slot : EntryMember) → slot ≡ entryMemberOf (entryArrayK s) (valuesOf s name (together objects)) → often name ≤ 1
+        → sideOf slot ≡ entryArrayOf s (listedIn s name objects)
     unfolding listedIn times
     side name slot g n = ap sideOf g ∙ side-is s (valuesOf s name (together objects)) n
 
@@ -78,7 +78,7 @@ module _ (s : List ℕ) (objects : List (List Pair)) where
 
     -- the one `c`
     sum-laid : (x : Reading ℕ)
-        → cond (isRead x) (outlineFrom false (listingOf s (listedIn s (ascii "b") objects)) (listingOf s (listedIn s (ascii "a") objects)) true (orZero x) 0) noOutline
+        → cond (isRead x) (outlineFrom false (entryArrayOf s (listedIn s (ascii "b") objects)) (entryArrayOf s (listedIn s (ascii "a") objects)) true (orZero x) 0) noOutline
         ≡ outlineOf s (andThen x (λ sum. laid false (printed sum) 0 (listedIn s (ascii "b") objects) (listedIn s (ascii "a") objects)))
     unfolding isRead orZero andThen isPrinted sumOf outlineOf
     sum-laid (reads n) = outline-of s false (printed n) 0 (listedIn s (ascii "b") objects) (listedIn s (ascii "a") objects)

@@ -14,11 +14,11 @@ use Rattle.json_tokens.specs.Ends.{endOf}
 use Rattle.json.specs.Json.{Span, Pair, Items, items, noItems, itemsEnd, elements, value}
 use Rattle.json.proofs.Laws.{value-array}
 use Rattle.entries.specs.Places.{andThen, all, contents, arrayAt, objectAt, wholeAt}
-use Rattle.layout.specs.Layout.{Heard}
-use Rattle.layout.specs.Told.{outlineOf, noFrame, toldOf, toldAt}
+use Rattle.layout.specs.Layout.{Envelope}
+use Rattle.layout.specs.Scan.{outlineOf, notFramed, scanOf, scanAt}
 use Rattle.json.specs.Fold.{foldFrom, foldedIn}
-use Rattle.layout.specs.declared.Told.{Told}
-use Rattle.message_k.specs.LayoutK.{Frame, frameOf, escapedK, oursK, objectsLayout, layoutK, heardK}
+use Rattle.layout.specs.declared.Scan.{Scan}
+use Rattle.message_k.specs.LayoutK.{Frame, frameOf, escapedK, oursK, objectsLayout, layoutK, envelopeK}
 use Rattle.message_k.specs.MembersK.{isRead, withMember, noMembers, closedAt, membersOf}
 use Rattle.message_k.specs.PartsK.{upToSix, noParts, withOuter, withPart, endedAt, partsIn, escapedAt, oursBy, framedAs, oneObject, twoObjects}
 use Rattle.message_k.specs.declared.Parts.{Parts}
@@ -60,11 +60,11 @@ module _ (s : List ℕ) where
 -- ---- the elements
 module _ (depth : ℕ) (name s : List ℕ) where
   -- what the code makes of them
-  pub toldBy : Parts → Told
+  pub toldBy : Parts → Scan
   toldBy p =
       cond (eqb (p .outer .count) 4) (framedAs depth name s (p .end) (p .outer) (oneObject (p .outer .whole) (p .one)))
       (cond (eqb (p .outer .count) 5) (framedAs depth name s (p .end) (p .outer) (twoObjects (p .outer .whole) (p .one) (p .two)))
-      (noFrame (p .end)))
+      (notFramed (p .end)))
 
   module _ (p : Parts) where
     pub told-four : p .outer .count ≡ 4 → framedAs depth name s (p .end) (p .outer) (oneObject (p .outer .whole) (p .one)) ≡ toldBy p
@@ -75,7 +75,7 @@ module _ (depth : ℕ) (name s : List ℕ) where
     unfolding toldBy
     told-five h = let n : (p .outer .count ≡ 4 → ⊥) = λ z. omega arith in sym (rw (ne-eqb (p .outer .count) 4 n, eq-eqb (p .outer .count) 5 h, toldBy))
 
-    pub told-other : (p .outer .count ≡ 4 → ⊥) → (p .outer .count ≡ 5 → ⊥) → noFrame (p .end) ≡ toldBy p
+    pub told-other : (p .outer .count ≡ 4 → ⊥) → (p .outer .count ≡ 5 → ⊥) → notFramed (p .end) ≡ toldBy p
     unfolding toldBy
     told-other n m = sym (rw (ne-eqb (p .outer .count) 4 n, ne-eqb (p .outer .count) 5 m, toldBy))
 
@@ -85,14 +85,14 @@ module _ (depth : ℕ) (name s : List ℕ) where
   six p h [] = h
   six p h (a ∷ l) = six (withPart s p a) (ap upToSix h) l
 
-  six-told : (p : Parts) → p .outer .count ≡ 6 → (l : List Span) (e : ℕ) → toldBy (endedAt e (foldFrom (withPart s) p l)) ≡ noFrame e
+  six-told : (p : Parts) → p .outer .count ≡ 6 → (l : List Span) (e : ℕ) → toldBy (endedAt e (foldFrom (withPart s) p l)) ≡ notFramed e
   six-told p h l e = let n = six p h l in sym (told-other (endedAt e (foldFrom (withPart s) p l)) (λ z. omega arith) (λ z. omega arith))
 
-  abbrev hear : Frame → Reading Heard
+  abbrev hear : Frame → Reading Envelope
   hear f = reads (record { escaped = escapedK s f; ours = oursK depth name s f; layout = layoutK s f })
 
-  told-list : (l : List Span) (e : ℕ) → toldBy (endedAt e (foldFrom (withPart s) (noParts 0) l)) ≡ toldOf s e (andThen (frameOf l) hear)
-  unfolding toldBy foldFrom withPart withOuter upToSix frameOf andThen toldOf escapedK escapedAt oursK oursBy layoutK all
+  told-list : (l : List Span) (e : ℕ) → toldBy (endedAt e (foldFrom (withPart s) (noParts 0) l)) ≡ scanOf s e (andThen (frameOf l) hear)
+  unfolding toldBy foldFrom withPart withOuter upToSix frameOf andThen scanOf escapedK escapedAt oursK oursBy layoutK all
   told-list [] e = refl
   told-list (n ∷ []) e = refl
   told-list (n ∷ (o ∷ [])) e = refl
@@ -103,27 +103,27 @@ module _ (depth : ℕ) (name s : List ℕ) where
       six-told (withPart s (withPart s (withPart s (withPart s (withPart s (withPart s (noParts 0) n) o) q) c) p) x) refl l e
 
   module _ (at : ℕ) where
-    pub told-none : (byteAt s at ≡ 91 → ⊥) → noFrame (endOf (value 16 s at)) ≡ toldAt (heardK depth name) s at
-    unfolding toldAt toldOf endOf heardK arrayAt andThen
+    pub told-none : (byteAt s at ≡ 91 → ⊥) → notFramed (endOf (value 16 s at)) ≡ scanAt (envelopeK depth name) s at
+    unfolding scanAt scanOf endOf envelopeK arrayAt andThen
     told-none h = go (value 16 s at)
       where
-        none : (e : ℕ) → toldOf s e (heardK depth name s (record { from = at; to = e })) ≡ noFrame e
+        none : (e : ℕ) → scanOf s e (envelopeK depth name s (record { from = at; to = e })) ≡ notFramed e
         none e = rw (ne-eqb (byteAt s at) 91 h)
 
-        go : (x : End) → noFrame (endOf x) ≡ elim x [ At e ↦ toldOf s e (heardK depth name s (record { from = at; to = e })) | Broken ↦ toldOf s 0 refused ]
+        go : (x : End) → notFramed (endOf x) ≡ elim x [ At e ↦ scanOf s e (envelopeK depth name s (record { from = at; to = e })) | Broken ↦ scanOf s 0 refused ]
         go (At e) = sym (none e)
         go Broken = refl
 
-    pub told-array : byteAt s at ≡ 91 → toldBy (partsIn s (elements (value 15 s) s (at + 1))) ≡ toldAt (heardK depth name) s at
-    unfolding toldAt toldOf itemsEnd heardK arrayAt contents andThen partsIn foldedIn toldBy
+    pub told-array : byteAt s at ≡ 91 → toldBy (partsIn s (elements (value 15 s) s (at + 1))) ≡ scanAt (envelopeK depth name) s at
+    unfolding scanAt scanOf itemsEnd envelopeK arrayAt contents andThen partsIn foldedIn toldBy
     told-array h =
-        sym (ap (λ (y : End). elim y [ At e ↦ toldOf s e (heardK depth name s (record { from = at; to = e })) | Broken ↦ toldOf s 0 refused ]) (value-array s at 15 h)
+        sym (ap (λ (y : End). elim y [ At e ↦ scanOf s e (envelopeK depth name s (record { from = at; to = e })) | Broken ↦ scanOf s 0 refused ]) (value-array s at 15 h)
         ∙ go (elements (value 15 s) s (at + 1)) refl)
       where
-        held : (e : ℕ) → heardK depth name s (record { from = at; to = e }) ≡ andThen (andThen (contents (elements (value 15 s) s (at + 1))) frameOf) hear
+        held : (e : ℕ) → envelopeK depth name s (record { from = at; to = e }) ≡ andThen (andThen (contents (elements (value 15 s) s (at + 1))) frameOf) hear
         held e = rw (eq-eqb (byteAt s at) 91 h)
 
         go : (x : Items Span) → elements (value 15 s) s (at + 1) ≡ x
-            → elim (itemsEnd x) [ At e ↦ toldOf s e (heardK depth name s (record { from = at; to = e })) | Broken ↦ toldOf s 0 refused ] ≡ toldBy (partsIn s x)
-        go (items l e) q = ap (toldOf s e) (held e ∙ ap (λ y. andThen (andThen (contents y) frameOf) hear) q) ∙ sym (told-list l e)
+            → elim (itemsEnd x) [ At e ↦ scanOf s e (envelopeK depth name s (record { from = at; to = e })) | Broken ↦ scanOf s 0 refused ] ≡ toldBy (partsIn s x)
+        go (items l e) q = ap (scanOf s e) (held e ∙ ap (λ y. andThen (andThen (contents y) frameOf) hear) q) ∙ sym (told-list l e)
         go noItems q = refl

@@ -21,8 +21,8 @@ use Rattle.entries.specs.Places.{isString, wholeAt, quotedChecksumAt}
 use Rattle.entries.proofs.Stops.{broken-at}
 use Rattle.entries.proofs.Strings.{string-two}
 use Rattle.entries.proofs.Counting.{inner-part}
-use Rattle.layout.specs.Marks.{more}
-use Rattle.layout.specs.declared.Mark.{Mark}
+use Rattle.layout.specs.MemberSpans.{withMemberSpan}
+use Rattle.layout.specs.declared.MemberSpan.{MemberSpan}
 use Rattle.message_k.specs.MembersK.{isRead, orZero, moreSummed, withSum, SumRead}
 use Rattle.message_k.specs.declared.Sum.{Sum}
 use Rattle.message_k.specs.declared.Members.{Members}
@@ -39,13 +39,13 @@ module _ (s : List ℕ) (from to : ℕ) where
   unfolding wholeAt part
   whole-read x h = ap isRead h
 
-  module _ (t : Sum) {m : Mark} (h : m ≡ more (t .mark) (record { from = from; to = to })) where
-    pub sum-other : (byteAt s from ≡ 34 → ⊥) → record { mark = m; fair = false; sum = 0 } ≡ moreSummed s t (record { from = from; to = to })
+  module _ (t : Sum) {m : MemberSpan} (h : m ≡ withMemberSpan (t .mark) (record { from = from; to = to })) where
+    pub sum-other : (byteAt s from ≡ 34 → ⊥) → record { mark = m; «well_formed» = false; sum = 0 } ≡ moreSummed s t (record { from = from; to = to })
     unfolding moreSummed quotedChecksumAt isString isRead orZero
     sum-other n = sym (rw (ne-eqb (byteAt s from) 34 n, h))
 
     pub sum-read : byteAt s from ≡ 34 → (x : Reading ℕ) → x ≡ readChecksum (take (to - 1 - (from + 1)) (drop (from + 1) s))
-        → record { mark = m; fair = isRead x; sum = orZero x } ≡ moreSummed s t (record { from = from; to = to })
+        → record { mark = m; «well_formed» = isRead x; sum = orZero x } ≡ moreSummed s t (record { from = from; to = to })
     unfolding moreSummed quotedChecksumAt isString
     sum-read b x g = sym (rw (eq-eqb (byteAt s from) 34 b, sym (g ∙ ap readChecksum (inner-part s from to)), h))
 
@@ -55,11 +55,11 @@ module _ (s : List ℕ) (t : Members) (from end : ℕ) (h : end ≡ endOf (value
   no-value z e v = broken-at (end-broken end (omega arith) (value-in 14 s from) h z) v
 
   pub sum-none : end ≡ 0 → (r : Members) → r .end ≡ end → SumRead s t from r
-  sum-none z r g = record { ends = g ∙ h; told = λ e v. no-value z e v }
+  sum-none z r g = record { ends = g ∙ h; collected = λ e v. no-value z e v }
 
   pub sum-told : (m : Sum) → m ≡ moreSummed s (t .checksum) (record { from = from; to = end }) → SumRead s t from (withSum end m t)
   unfolding endOf
-  sum-told m g = record { ends = h; told = λ e v. is e (h ∙ ap endOf v) }
+  sum-told m g = record { ends = h; collected = λ e v. is e (h ∙ ap endOf v) }
     where
       is : (e : ℕ) → end ≡ e → withSum end m t ≡ withSum e (moreSummed s (t .checksum) (record { from = from; to = e })) t
       is e z = ap (λ x. withSum end x t) g ∙ ap (λ k. withSum k (moreSummed s (t .checksum) (record { from = from; to = k })) t) z

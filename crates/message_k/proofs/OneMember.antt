@@ -15,12 +15,12 @@ use Rattle.entries.specs.Rows.{entryK}
 use Rattle.entries.specs.Summary.{summaryAt}
 use Rattle.entries.specs.declared.Entries.{Entries}
 use Rattle.entries.proofs.Summary.{summary-end, summary-is}
-use Rattle.layout.specs.Told.{listingFrom}
-use Rattle.layout.specs.Marks.{fewMore, moreListed}
-use Rattle.layout.specs.declared.Slot.{Slot}
+use Rattle.layout.specs.Scan.{entryArrayFrom}
+use Rattle.layout.specs.MemberSpans.{fewMore, withEntryArray}
+use Rattle.layout.specs.declared.EntryMember.{EntryMember}
 use Rattle.layout.proofs.Laws.{listing-of}
-use Rattle.layout.proofs.Marks.{one-name}
-use Rattle.message_k.specs.MembersK.{listingK, slotWith, moreSummed, sumWith, withMember, withSum, SumRead, MemberRead, closedAt}
+use Rattle.layout.proofs.MemberSpans.{one-name}
+use Rattle.message_k.specs.MembersK.{entryArrayK, entryMemberWith, moreSummed, sumWith, withMember, withSum, SumRead, MemberRead, closedAt}
 use Rattle.message_k.specs.declared.Members.{Members}
 
 -- names differ if these numbers do
@@ -33,12 +33,12 @@ module _ (s : List ℕ) (from : ℕ) (g : Entries) (h : g ≡ summaryAt entryK s
   pub entries-end : g .end ≡ endOf (value 14 s from)
   entries-end = ap (λ (x : Entries). x .end) h ∙ summary-end entryK s from
 
-  slot-is : (t w : Slot) → w ≡ record { times = fewMore (t .times); listing = listingFrom from g } → (e : ℕ) → value 14 s from ≡ At e
-      → w ≡ moreListed (listingK s) t (record { from = from; to = e })
-  unfolding moreListed listingK
+  slot-is : (t w : EntryMember) → w ≡ record { times = fewMore (t .times); listing = entryArrayFrom from g } → (e : ℕ) → value 14 s from ≡ At e
+      → w ≡ withEntryArray (entryArrayK s) t (record { from = from; to = e })
+  unfolding withEntryArray entryArrayK
   slot-is t w q e v =
       q ∙ ap (λ l. record { times = fewMore (t .times); listing = l })
-      (ap (listingFrom from) (h ∙ summary-is entryK s from e v) ∙ listing-of entryK s (record { from = from; to = e }) e)
+      (ap (entryArrayFrom from) (h ∙ summary-is entryK s from e v) ∙ listing-of entryK s (record { from = from; to = e }) e)
 
   end-is : (e : ℕ) → value 14 s from ≡ At e → g .end ≡ e
   unfolding endOf
@@ -57,14 +57,14 @@ module _ (s : List ℕ) (t : Members) (name : Span) (from : ℕ) where
       → record {
         end = e;
         «is_object» = true;
-        «snapshot_asks» = cond p (moreListed (listingK s) (t .«snapshot_asks») (record { from = from; to = e })) (t .«snapshot_asks»);
-        «snapshot_bids» = cond q (moreListed (listingK s) (t .«snapshot_bids») (record { from = from; to = e })) (t .«snapshot_bids»);
-        asks = cond x (moreListed (listingK s) (t .asks) (record { from = from; to = e })) (t .asks);
-        bids = cond y (moreListed (listingK s) (t .bids) (record { from = from; to = e })) (t .bids);
+        «snapshot_asks» = cond p (withEntryArray (entryArrayK s) (t .«snapshot_asks») (record { from = from; to = e })) (t .«snapshot_asks»);
+        «snapshot_bids» = cond q (withEntryArray (entryArrayK s) (t .«snapshot_bids») (record { from = from; to = e })) (t .«snapshot_bids»);
+        asks = cond x (withEntryArray (entryArrayK s) (t .asks) (record { from = from; to = e })) (t .asks);
+        bids = cond y (withEntryArray (entryArrayK s) (t .bids) (record { from = from; to = e })) (t .bids);
         checksum = cond z (moreSummed s (t .checksum) (record { from = from; to = e })) (t .checksum);
       }
       ≡ withMember s t (pairTo e)
-  unfolding withMember slotWith sumWith
+  unfolding withMember entryMemberWith sumWith
   by-name e p q x y z hp hq hx hy hz = sym (rw (hp, hq, hx, hy, hz))
 
   -- a name is none of the others
@@ -76,9 +76,9 @@ module _ (s : List ℕ) (t : Members) (name : Span) (from : ℕ) where
       at false g = refl
 
   -- ---- members that hold entries: g is what is told of the entries, and w the slot with them
-  module _ (g : Entries) (h : g ≡ summaryAt entryK s from) (w : Slot) where
-    abbrev Put : Slot → Type 0
-    Put old = w ≡ record { times = fewMore (old .times); listing = listingFrom from g }
+  module _ (g : Entries) (h : g ≡ summaryAt entryK s from) (w : EntryMember) where
+    abbrev Put : EntryMember → Type 0
+    Put old = w ≡ record { times = fewMore (old .times); listing = entryArrayFrom from g }
 
     abbrev with-as : Members
     with-as = record { end = g .end; «is_object» = true; «snapshot_asks» = w; «snapshot_bids» = t .«snapshot_bids»; asks = t .asks; bids = t .bids; checksum = t .checksum }
@@ -93,7 +93,7 @@ module _ (s : List ℕ) (t : Members) (name : Span) (from : ℕ) where
     with-b = record { end = g .end; «is_object» = true; «snapshot_asks» = t .«snapshot_asks»; «snapshot_bids» = t .«snapshot_bids»; asks = t .asks; bids = w; checksum = t .checksum }
 
     reads-so : (r : Members) → r .end ≡ g .end → ((e : ℕ) → value 14 s from ≡ At e → g .end ≡ e → r ≡ withMember s t (pairTo e)) → MemberRead s t name from r
-    reads-so r q f = record { ends = q ∙ entries-end s from g h; told = λ e v. f e v (end-is s from g h e v) }
+    reads-so r q f = record { ends = q ∙ entries-end s from g h; collected = λ e v. f e v (end-is s from g h e v) }
 
     pub read-as : means s name (ascii "as") ≡ true → Put (t .«snapshot_asks») → MemberRead s t name from with-as
     read-as m q = reads-so with-as refl (λ e v z. rw (z, slot-is s from g h (t .«snapshot_asks») w q e v)
@@ -117,11 +117,11 @@ module _ (s : List ℕ) (t : Members) (name : Span) (from : ℕ) where
 
   -- ---- the member `c`
   pub read-c : means s name (ascii "c") ≡ true → (u r : Members) → u ≡ asObject t → SumRead s u from r → MemberRead s t name from r
-  read-c m u r k q = record { ends = q .ends; told = told }
+  read-c m u r k q = record { ends = q .ends; collected = told }
     where
       told : (e : ℕ) → value 14 s from ≡ At e → r ≡ withMember s t (pairTo e)
       told e v =
-          q .told e v ∙ ap (λ x. withSum e (moreSummed s (x .checksum) (record { from = from; to = e })) x) k
+          q .collected e v ∙ ap (λ x. withSum e (moreSummed s (x .checksum) (record { from = from; to = e })) x) k
           ∙ by-name e false false false false true
           (other (ascii "c") (ascii "as") refl m) (other (ascii "c") (ascii "bs") refl m) (other (ascii "c") (ascii "a") refl m) (other (ascii "c") (ascii "b") refl m) m
 
@@ -130,4 +130,4 @@ module _ (s : List ℕ) (t : Members) (name : Span) (from : ℕ) where
     pub read-other : means s name (ascii "c") ≡ false → means s name (ascii "a") ≡ false → means s name (ascii "b") ≡ false
         → means s name (ascii "as") ≡ false → means s name (ascii "bs") ≡ false → MemberRead s t name from (closedAt end t)
     unfolding endOf
-    read-other z x y p q = record { ends = h; told = λ e v. rw (h ∙ ap endOf v) (by-name e false false false false false p q x y z) }
+    read-other z x y p q = record { ends = h; collected = λ e v. rw (h ∙ ap endOf v) (by-name e false false false false false p q x y z) }

@@ -44,7 +44,7 @@ module _ (s : List ℕ) (t : Parts) (at : ℕ) where
   -- the element at `at` ends at `past`, and t′ has its object, if it may be one
   pub record Step (t′ : Parts) (past : ℕ) : Type 0 where
     pub ends : past ≡ endOf (value 15 s at)
-    pub told : (e : ℕ) → value 15 s at ≡ At e → (u : Outer) → u ≡ withOuter s (t .outer) (record { from = at; to = e })
+    pub collected : (e : ℕ) → value 15 s at ≡ At e → (u : Outer) → u ≡ withOuter s (t .outer) (record { from = at; to = e })
         → withOuterOf t′ u ≡ withPart s t (record { from = at; to = e })
 
   by-count : (e : ℕ) (x y : Bool) → eqb (t .outer .count) 1 ≡ x → eqb (t .outer .count) 2 ≡ y → (u : Outer) → u ≡ withOuter s (t .outer) (record { from = at; to = e })
@@ -60,7 +60,7 @@ module _ (s : List ℕ) (t : Parts) (at : ℕ) where
       step-one n h p q =
           record {
             ends = q ∙ ap (λ (x : Members). x .end) h ∙ object-end s (noMembers 0) at;
-            told = λ e v u g.
+            collected = λ e v u g.
                 ap (λ x. withOuterOf x u) (p ∙ ap (λ x. put t x (t .two)) (h ∙ object-is s (noMembers 0) at e v))
                 ∙ by-count e true false (ap (λ k. eqb k 1) n) (ap (λ k. eqb k 2) n) u g;
           }
@@ -69,7 +69,7 @@ module _ (s : List ℕ) (t : Parts) (at : ℕ) where
       step-two n h p q =
           record {
             ends = q ∙ ap (λ (x : Members). x .end) h ∙ object-end s (t .one) at;
-            told = λ e v u g.
+            collected = λ e v u g.
                 ap (λ x. withOuterOf x u) (p ∙ ap (λ x. put t (t .one) x) (h ∙ object-is s (t .one) at e v))
                 ∙ by-count e false true (ap (λ k. eqb k 1) n) (ap (λ k. eqb k 2) n) u g;
           }
@@ -78,7 +78,7 @@ module _ (s : List ℕ) (t : Parts) (at : ℕ) where
     step-other n m k h p q =
         record {
           ends = q ∙ h;
-          told = λ e v u g.
+          collected = λ e v u g.
               ap (λ x. withOuterOf x u) p ∙ by-count e false false (ne-eqb (t .outer .count) 1 n) (ne-eqb (t .outer .count) 2 m) u g;
         }
 
@@ -87,4 +87,4 @@ module _ (s : List ℕ) (t : Parts) (at : ℕ) where
       step-value = end-at (value 15 s at) past (w .ends) n
 
       pub step-part : (u : Outer) → u ≡ withOuter s (t .outer) (record { from = at; to = past }) → withOuterOf t′ u ≡ withPart s t (record { from = at; to = past })
-      step-part u h = w .told past step-value u h
+      step-part u h = w .collected past step-value u h

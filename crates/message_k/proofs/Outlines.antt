@@ -2,8 +2,8 @@
 -- Assumes nothing.
 use mathlib.Core.Path.{_≡_, sym}
 use mathlib.Core.Bool.{Bool, true, false, _&&_, _||_}
-use Rattle.layout.specs.Told.{outlineFrom, noOutline}
-use Rattle.layout.specs.declared.Listing.{Listing}
+use Rattle.layout.specs.Scan.{outlineFrom, noOutline}
+use Rattle.layout.specs.declared.EntryArray.{EntryArray}
 use Rattle.message_k.specs.MembersK.{noMembers, hasMore, snapshotBy, updateBy, sideOf, outlineBy}
 use Rattle.message_k.specs.PartsK.{oneObject, twoObjects}
 use Rattle.message_k.specs.declared.Members.{Members}
@@ -15,18 +15,18 @@ pub or-no : (x y : Bool) → x ≡ false → y ≡ (x || y)
 or-no x y h = sym (rw h)
 
 module _ (t : Members) (update : Bool) {snapshot : Bool} where
-  module _ {b a : Listing} where
+  module _ {b a : EntryArray} where
     pub outline-snapshot : snapshot ≡ true → b ≡ sideOf (t .«snapshot_bids») → a ≡ sideOf (t .«snapshot_asks»)
         → outlineFrom true b a false 0 0 ≡ outlineBy snapshot update t
     unfolding outlineBy
     outline-snapshot h p q = sym (rw (h, outlineBy, p, q))
 
-    pub outline-update : snapshot ≡ false → (update && t .checksum .fair) ≡ true → b ≡ sideOf (t .bids) → a ≡ sideOf (t .asks)
+    pub outline-update : snapshot ≡ false → (update && t .checksum .«well_formed») ≡ true → b ≡ sideOf (t .bids) → a ≡ sideOf (t .asks)
         → outlineFrom false b a true (t .checksum .sum) 0 ≡ outlineBy snapshot update t
     unfolding outlineBy
     outline-update h g p q = sym (rw (h, g, outlineBy, p, q))
 
-  pub outline-neither : snapshot ≡ false → (update && t .checksum .fair) ≡ false → noOutline ≡ outlineBy snapshot update t
+  pub outline-neither : snapshot ≡ false → (update && t .checksum .«well_formed») ≡ false → noOutline ≡ outlineBy snapshot update t
   unfolding outlineBy
   outline-neither h g = sym (rw (h, g, outlineBy))
 

@@ -9,12 +9,12 @@ use Rattle.json.specs.Json.{Span, Pair}
 use Rattle.json.specs.Names.{means}
 use Rattle.entries.specs.Places.{valuesOf}
 use Rattle.json.specs.Fold.{foldFrom}
-use Rattle.layout.specs.Marks.{few, more, emptySlot, moreListed, slotsOf}
-use Rattle.layout.specs.declared.Slot.{Slot}
-use Rattle.layout.specs.declared.Mark.{Mark}
-use Rattle.layout.proofs.Marks.{mark-times, slot-times, values-fold}
+use Rattle.layout.specs.MemberSpans.{few, withMemberSpan, noEntryMember, withEntryArray, entryMemberOf}
+use Rattle.layout.specs.declared.EntryMember.{EntryMember}
+use Rattle.layout.specs.declared.MemberSpan.{MemberSpan}
+use Rattle.layout.proofs.MemberSpans.{mark-times, slot-times, values-fold}
 use Rattle.message_k.specs.LayoutK.{times}
-use Rattle.message_k.specs.MembersK.{listingK, slotWith, noSum, moreSummed, sumWith, withMember, noMembers, closedAt}
+use Rattle.message_k.specs.MembersK.{entryArrayK, entryMemberWith, noSum, moreSummed, sumWith, withMember, noMembers, closedAt}
 use Rattle.message_k.specs.declared.Sum.{Sum}
 use Rattle.message_k.specs.declared.Members.{Members}
 
@@ -22,10 +22,10 @@ abbrev pub sumsOf : List ℕ → List Span → Sum
 sumsOf s l = foldFrom (moreSummed s) noSum l
 
 pub record Tells (s : List ℕ) (t : Members) (ms : List Pair) : Type 0 where
-  pub snapshot-asks : t .«snapshot_asks» ≡ slotsOf (listingK s) (valuesOf s (ascii "as") ms)
-  pub snapshot-bids : t .«snapshot_bids» ≡ slotsOf (listingK s) (valuesOf s (ascii "bs") ms)
-  pub asks : t .asks ≡ slotsOf (listingK s) (valuesOf s (ascii "a") ms)
-  pub bids : t .bids ≡ slotsOf (listingK s) (valuesOf s (ascii "b") ms)
+  pub snapshot-asks : t .«snapshot_asks» ≡ entryMemberOf (entryArrayK s) (valuesOf s (ascii "as") ms)
+  pub snapshot-bids : t .«snapshot_bids» ≡ entryMemberOf (entryArrayK s) (valuesOf s (ascii "bs") ms)
+  pub asks : t .asks ≡ entryMemberOf (entryArrayK s) (valuesOf s (ascii "a") ms)
+  pub bids : t .bids ≡ entryMemberOf (entryArrayK s) (valuesOf s (ascii "b") ms)
   pub checksum : t .checksum ≡ sumsOf s (valuesOf s (ascii "c") ms)
 
 -- ---- more members
@@ -45,13 +45,13 @@ values-append s name (m ∷ ms) ns = go (means s (m .name) name) (values-append 
     go false h = h
 
 module _ (s : List ℕ) where
-  slot-hit : (name : List ℕ) (t : Slot) (m : Pair) → means s (m .name) name ≡ true → slotWith s name t m ≡ moreListed (listingK s) t (m .value)
-  unfolding slotWith
-  slot-hit name t m h = rw (h, slotWith)
+  slot-hit : (name : List ℕ) (t : EntryMember) (m : Pair) → means s (m .name) name ≡ true → entryMemberWith s name t m ≡ withEntryArray (entryArrayK s) t (m .value)
+  unfolding entryMemberWith
+  slot-hit name t m h = rw (h, entryMemberWith)
 
-  slot-miss : (name : List ℕ) (t : Slot) (m : Pair) → means s (m .name) name ≡ false → slotWith s name t m ≡ t
-  unfolding slotWith
-  slot-miss name t m h = rw (h, slotWith)
+  slot-miss : (name : List ℕ) (t : EntryMember) (m : Pair) → means s (m .name) name ≡ false → entryMemberWith s name t m ≡ t
+  unfolding entryMemberWith
+  slot-miss name t m h = rw (h, entryMemberWith)
 
   sum-hit : (t : Sum) (m : Pair) → means s (m .name) (ascii "c") ≡ true → sumWith s t m ≡ moreSummed s t (m .value)
   unfolding sumWith
@@ -82,16 +82,16 @@ module _ (s : List ℕ) where
   tells-on t ms ns e h =
       record {
         snapshot-asks =
-            follows (ascii "as") (λ x. x .«snapshot_asks») (moreListed (listingK s)) emptySlot
+            follows (ascii "as") (λ x. x .«snapshot_asks») (withEntryArray (entryArrayK s)) noEntryMember
             (λ x m. slot-hit (ascii "as") (x .«snapshot_asks») m) (λ x m. slot-miss (ascii "as") (x .«snapshot_asks») m) t ms ns (h .snapshot-asks);
         snapshot-bids =
-            follows (ascii "bs") (λ x. x .«snapshot_bids») (moreListed (listingK s)) emptySlot
+            follows (ascii "bs") (λ x. x .«snapshot_bids») (withEntryArray (entryArrayK s)) noEntryMember
             (λ x m. slot-hit (ascii "bs") (x .«snapshot_bids») m) (λ x m. slot-miss (ascii "bs") (x .«snapshot_bids») m) t ms ns (h .snapshot-bids);
         asks =
-            follows (ascii "a") (λ x. x .asks) (moreListed (listingK s)) emptySlot
+            follows (ascii "a") (λ x. x .asks) (withEntryArray (entryArrayK s)) noEntryMember
             (λ x m. slot-hit (ascii "a") (x .asks) m) (λ x m. slot-miss (ascii "a") (x .asks) m) t ms ns (h .asks);
         bids =
-            follows (ascii "b") (λ x. x .bids) (moreListed (listingK s)) emptySlot
+            follows (ascii "b") (λ x. x .bids) (withEntryArray (entryArrayK s)) noEntryMember
             (λ x m. slot-hit (ascii "b") (x .bids) m) (λ x m. slot-miss (ascii "b") (x .bids) m) t ms ns (h .bids);
         checksum =
             follows (ascii "c") (λ x. x .checksum) (moreSummed s) noSum
@@ -99,11 +99,11 @@ module _ (s : List ℕ) where
       }
 
   -- ---- how often
-  slot-count : (t : Slot) (name : List ℕ) (ms : List Pair) → t ≡ slotsOf (listingK s) (valuesOf s name ms) → t .times ≡ few (times s name ms)
+  slot-count : (t : EntryMember) (name : List ℕ) (ms : List Pair) → t ≡ entryMemberOf (entryArrayK s) (valuesOf s name ms) → t .times ≡ few (times s name ms)
   unfolding times
-  slot-count t name ms h = ap (λ (x : Slot). x .times) h ∙ slot-times (listingK s) (valuesOf s name ms)
+  slot-count t name ms h = ap (λ (x : EntryMember). x .times) h ∙ slot-times (entryArrayK s) (valuesOf s name ms)
 
-  sum-mark : (t : Sum) (l : List Span) → foldFrom (moreSummed s) t l .mark ≡ foldFrom more (t .mark) l
+  sum-mark : (t : Sum) (l : List Span) → foldFrom (moreSummed s) t l .mark ≡ foldFrom withMemberSpan (t .mark) l
   unfolding foldFrom moreSummed
   sum-mark t [] = refl
   sum-mark t (a ∷ l) = sum-mark (moreSummed s t a) l
@@ -125,5 +125,5 @@ module _ (s : List ℕ) where
     unfolding times
     checksum-count =
         ap (λ (x : Sum). x .mark .times) (h .checksum)
-        ∙ ap (λ (x : Mark). x .times) (sum-mark noSum (valuesOf s (ascii "c") ms))
+        ∙ ap (λ (x : MemberSpan). x .times) (sum-mark noSum (valuesOf s (ascii "c") ms))
         ∙ mark-times (valuesOf s (ascii "c") ms)

@@ -11,7 +11,7 @@ use Rattle.json.specs.Names.{means, hasBackslash}
 use Rattle.entries.specs.Places.{andThen, all, isString, arrayAt, objectAt, valuesOf, only, wholeAt, quotedChecksumAt}
 use Rattle.entries.specs.Rows.{entryK}
 use Rattle.layout.specs.Depths.{itemDepth}
-use Rattle.layout.specs.Layout.{printed, unprinted, Listed, Layout, Heard, unlisted, listedAt, laid}
+use Rattle.layout.specs.Layout.{printed, unprinted, Listed, Layout, Envelope, unlisted, listedAt, laid}
 
 -- An array of four or five elements: whole number, one or two objects, channel, pair.
 pub record Frame : Type 0 where
@@ -98,7 +98,7 @@ layoutK s f = andThen (wholeAt s (f .first)) (λ n. andThen (all (objectAt itemD
 
 -- ---- the message, to a book of that depth and name
 
-unfoldable pub heardK : ℕ → List ℕ → List ℕ → Span → Reading Heard
-heardK depth name s a =
+unfoldable pub envelopeK : ℕ → List ℕ → List ℕ → Span → Reading Envelope
+envelopeK depth name s a =
     andThen (andThen (arrayAt maxDepth s a) frameOf) (λ f.
     reads (record { escaped = escapedK s f; ours = oursK depth name s f; layout = layoutK s f }))

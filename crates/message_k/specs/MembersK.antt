@@ -14,12 +14,12 @@ use Rattle.entries.specs.Places.{objectAt, quotedChecksumAt}
 use Rattle.entries.specs.Rows.{entryK}
 use Rattle.layout.specs.Depths.{itemDepth, sideDepth}
 use Rattle.layout.specs.Layout.{listedAt}
-use Rattle.layout.specs.Told.{nothingListed, listingOf, outlineFrom, noOutline}
+use Rattle.layout.specs.Scan.{absentEntryArray, entryArrayOf, outlineFrom, noOutline}
 use Rattle.json.specs.Fold.{foldFrom}
-use Rattle.layout.specs.Marks.{unmarked, more, emptySlot, moreListed}
-use Rattle.layout.specs.declared.Listing.{Listing}
+use Rattle.layout.specs.MemberSpans.{noMemberSpan, withMemberSpan, noEntryMember, withEntryArray}
+use Rattle.layout.specs.declared.EntryArray.{EntryArray}
 use Rattle.layout.specs.declared.Outline.{Outline}
-use Rattle.layout.specs.declared.Slot.{Slot}
+use Rattle.layout.specs.declared.EntryMember.{EntryMember}
 use Rattle.message_k.specs.declared.Sum.{Sum}
 use Rattle.message_k.specs.declared.Members.{Members}
 
@@ -34,17 +34,17 @@ orZero refused = 0
 -- ---- one more member
 
 -- The entries that a value holds.
-unfoldable pub listingK : List ℕ → Span → Listing
-listingK s a = listingOf s (listedAt entryK s a)
+unfoldable pub entryArrayK : List ℕ → Span → EntryArray
+entryArrayK s a = entryArrayOf s (listedAt entryK s a)
 
-unfoldable pub slotWith : List ℕ → List ℕ → Slot → Pair → Slot
-slotWith s name t m = cond (means s (m .name) name) (moreListed (listingK s) t (m .value)) t
+unfoldable pub entryMemberWith : List ℕ → List ℕ → EntryMember → Pair → EntryMember
+entryMemberWith s name t m = cond (means s (m .name) name) (withEntryArray (entryArrayK s) t (m .value)) t
 
 abbrev pub noSum : Sum
-noSum = record { mark = unmarked; fair = false; sum = 0 }
+noSum = record { mark = noMemberSpan; «well_formed» = false; sum = 0 }
 
 unfoldable pub moreSummed : List ℕ → Sum → Span → Sum
-moreSummed s t a = record { mark = more (t .mark) a; fair = isRead (quotedChecksumAt s a); sum = orZero (quotedChecksumAt s a) }
+moreSummed s t a = record { mark = withMemberSpan (t .mark) a; «well_formed» = isRead (quotedChecksumAt s a); sum = orZero (quotedChecksumAt s a) }
 
 unfoldable pub sumWith : List ℕ → Sum → Pair → Sum
 sumWith s t m = cond (means s (m .name) (ascii "c")) (moreSummed s t (m .value)) t
@@ -54,17 +54,17 @@ withMember s t m =
     record {
       end = m .value .to;
       «is_object» = true;
-      «snapshot_asks» = slotWith s (ascii "as") (t .«snapshot_asks») m;
-      «snapshot_bids» = slotWith s (ascii "bs") (t .«snapshot_bids») m;
-      asks = slotWith s (ascii "a") (t .asks) m;
-      bids = slotWith s (ascii "b") (t .bids) m;
+      «snapshot_asks» = entryMemberWith s (ascii "as") (t .«snapshot_asks») m;
+      «snapshot_bids» = entryMemberWith s (ascii "bs") (t .«snapshot_bids») m;
+      asks = entryMemberWith s (ascii "a") (t .asks) m;
+      bids = entryMemberWith s (ascii "b") (t .bids) m;
       checksum = sumWith s (t .checksum) m;
     }
 
 -- r tells of the member whose name is `name` and whose value begins at `from`, with t told before.
 pub record MemberRead (s : List ℕ) (t : Members) (name : Span) (from : ℕ) (r : Members) : Type 0 where
   pub ends : r .end ≡ endOf (value sideDepth s from)
-  pub told : (e : ℕ) → value sideDepth s from ≡ At e → r ≡ withMember s t (record { name = name; value = record { from = from; to = e } })
+  pub collected : (e : ℕ) → value sideDepth s from ≡ At e → r ≡ withMember s t (record { name = name; value = record { from = from; to = e } })
 
 abbrev pub withSum : ℕ → Sum → Members → Members
 withSum e sum t =
@@ -81,14 +81,14 @@ withSum e sum t =
 -- r tells of one more member `c` whose value begins at `from`, with t told before.
 pub record SumRead (s : List ℕ) (t : Members) (from : ℕ) (r : Members) : Type 0 where
   pub ends : r .end ≡ endOf (value sideDepth s from)
-  pub told : (e : ℕ) → value sideDepth s from ≡ At e → r ≡ withSum e (moreSummed s (t .checksum) (record { from = from; to = e })) t
+  pub collected : (e : ℕ) → value sideDepth s from ≡ At e → r ≡ withSum e (moreSummed s (t .checksum) (record { from = from; to = e })) t
 
 -- ---- an object
 
 -- A value that ends at e and is no object.
 abbrev pub noMembers : ℕ → Members
 noMembers e =
-    record { end = e; «is_object» = false; «snapshot_asks» = emptySlot; «snapshot_bids» = emptySlot; asks = emptySlot; bids = emptySlot; checksum = noSum }
+    record { end = e; «is_object» = false; «snapshot_asks» = noEntryMember; «snapshot_bids» = noEntryMember; asks = noEntryMember; bids = noEntryMember; checksum = noSum }
 
 -- An object that ends at e.
 abbrev pub closedAt : ℕ → Members → Members
@@ -138,11 +138,11 @@ updateBy each before t =
     && eqb (t .«snapshot_bids» .times) 0)))))
 
 -- The entries of a side that may be missing.
-unfoldable pub sideOf : Slot → Listing
-sideOf t = cond (eqb (t .times) 0) nothingListed (t .listing)
+unfoldable pub sideOf : EntryMember → EntryArray
+sideOf t = cond (eqb (t .times) 0) absentEntryArray (t .listing)
 
 unfoldable pub outlineBy : Bool → Bool → Members → Outline
 outlineBy snapshot update t =
     cond snapshot
     (outlineFrom true (sideOf (t .«snapshot_bids»)) (sideOf (t .«snapshot_asks»)) false 0 0)
-    (cond (update && t .checksum .fair) (outlineFrom false (sideOf (t .bids)) (sideOf (t .asks)) true (t .checksum .sum) 0) noOutline)
+    (cond (update && t .checksum .«well_formed») (outlineFrom false (sideOf (t .bids)) (sideOf (t .asks)) true (t .checksum .sum) 0) noOutline)

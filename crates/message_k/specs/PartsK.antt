@@ -9,10 +9,10 @@ use Rattle.json.specs.Json.{Span, Items}
 use Rattle.json.specs.Names.{means, hasBackslash}
 use Rattle.entries.specs.Places.{isString, objectAt, wholeAt}
 use Rattle.layout.specs.Depths.{itemDepth}
-use Rattle.layout.specs.Told.{noOutline}
+use Rattle.layout.specs.Scan.{noOutline}
 use Rattle.json.specs.Fold.{foldedIn}
 use Rattle.layout.specs.declared.Outline.{Outline}
-use Rattle.layout.specs.declared.Told.{Told}
+use Rattle.layout.specs.declared.Scan.{Scan}
 use Rattle.message_k.specs.MembersK.{isRead, noMembers, membersOf, hasMore, snapshotBy, updateBy, outlineBy}
 use Rattle.message_k.specs.declared.Members.{Members}
 use Rattle.message_k.specs.declared.Outer.{Outer}
@@ -65,7 +65,7 @@ escapedAt s a = isString s a && hasBackslash s a
 unfoldable pub oursBy : ℕ → List ℕ → List ℕ → Span → Span → Bool
 oursBy depth name s channel pair = means s channel (ascii "book-" ++ written depth) && means s pair name
 
-abbrev pub framedAs : ℕ → List ℕ → List ℕ → ℕ → Outer → Outline → Told
+abbrev pub framedAs : ℕ → List ℕ → List ℕ → ℕ → Outer → Outline → Scan
 framedAs depth name s end t outline =
     record {
       end = end;

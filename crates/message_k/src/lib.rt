@@ -25,22 +25,22 @@ use json_tokens::comma_end;
 use json_tokens::object_close_end;
 use json_tokens::skip_blanks;
 use json_tokens::string_end;
+use layout::EntryArray;
+use layout::EntryMember;
 use layout::ITEM_DEPTH;
-use layout::Listing;
-use layout::Mark;
+use layout::MemberSpan;
 use layout::Outline;
 use layout::SIDE_DEPTH;
-use layout::Slot;
-use layout::Told;
-use layout::listing_at;
-use layout::marked;
-use layout::no_listing;
-use layout::no_mark;
+use layout::Scan;
+use layout::absent_entry_array;
+use layout::entry_array_at;
+use layout::no_entry_member;
+use layout::no_member_span;
 use layout::no_outline;
-use layout::no_slot;
+use layout::not_framed;
 use layout::outline_of;
-use layout::slotted;
-use layout::untold;
+use layout::with_entry_array;
+use layout::with_member_span;
 use text::both;
 use text::byte_at;
 ghost use mathlib.Core.Path.{_≡_};
@@ -54,9 +54,9 @@ ghost use Rattle.json.specs.Names.{means};
 ghost use Rattle.json.specs.Ends.{spelled};
 ghost use Rattle.entries.specs.Places.{wholeAt};
 ghost use Rattle.layout.specs.Depths.{itemDepth, sideDepth};
-ghost use Rattle.layout.specs.Marks.{fewMore};
-ghost use Rattle.layout.specs.Told.{listingFrom, toldAt};
-ghost use Rattle.message_k.specs.LayoutK.{heardK};
+ghost use Rattle.layout.specs.MemberSpans.{fewMore};
+ghost use Rattle.layout.specs.Scan.{entryArrayFrom, scanAt};
+ghost use Rattle.message_k.specs.LayoutK.{envelopeK};
 ghost use Rattle.message_k.specs.MembersK.{isRead, moreSummed, MemberRead, SumRead, noMembers, closedAt, membersAt, hasMore, snapshotBy, updateBy, sideOf, outlineBy};
 ghost use Rattle.message_k.specs.PartsK.{upToSix, noOuter, withOuter, noParts, partsIn, escapedAt, framedAs, oneObject, twoObjects};
 
@@ -83,10 +83,10 @@ const BOOK_100_NAME: u64 = 0x3030312d6b6f6f62;
 
 // The member `c`.
 struct Sum {
-    mark: Mark,
+    mark: MemberSpan,
     // The checksum that the last one holds, and whether it is a string that holds one.
     sum: u32,
-    fair: bool,
+    well_formed: bool,
 }
 
 // What is told of one object, or of two together.
@@ -94,10 +94,10 @@ struct Members {
     // Past the value, or 0 where it is not JSON.
     end: usize,
     // `as`, `bs`, `a`, `b` and `c`.
-    snapshot_asks: Slot,
-    snapshot_bids: Slot,
-    asks: Slot,
-    bids: Slot,
+    snapshot_asks: EntryMember,
+    snapshot_bids: EntryMember,
+    asks: EntryMember,
+    bids: EntryMember,
     checksum: Sum,
     // Whether the value is an object. If not, the rest but for the end says nothing.
     is_object: bool,
@@ -127,12 +127,12 @@ struct Parts {
 }
 
 // The message at `at`, to a K book of that depth and name.
-pub fn k_message(s: &[u8], at: usize, depth: usize, name: &[u8]) -> Told
+pub fn k_message(s: &[u8], at: usize, depth: usize, name: &[u8]) -> Scan
     requires { ⌜ (10 ≤ depth) × (depth ≤ 100) ⌝ }
-    ensures { λ r. ⌜ r ≡ toldAt (heardK depth (now (name .entry))) (now (s .entry)) at ⌝ }
+    ensures { λ r. ⌜ r ≡ scanAt (envelopeK depth (now (name .entry))) (now (s .entry)) at ⌝ }
 {
     if byte_at(s, at) != OPEN_ARRAY {
-        return untold(value_end(s, at, MAX_DEPTH));
+        return not_framed(value_end(s, at, MAX_DEPTH));
     }
     let parts = k_parts(s, at + 1);
     let outer = parts.outer;
@@ -148,7 +148,7 @@ pub fn k_message(s: &[u8], at: usize, depth: usize, name: &[u8]) -> Told
         let outline = two_objects(outer.whole, one, two);
         return framed(s, parts.end, outer, depth, name, outline);
     }
-    untold(parts.end)
+    not_framed(parts.end)
 }
 
 // The elements of the array whose bracket ends at `at`. The second and the third may be objects.
@@ -326,10 +326,10 @@ fn k_member(s: &[u8], members: Members, name_from: usize, name_to: usize, from: 
 }
 
 // One more member, which holds the entries of the array at `at`.
-fn with_entries(slot: Slot, at: usize, entries: Entries) -> Slot
-    ensures { λ r. ⌜ r ≡ record { times = fewMore (slot .times); listing = listingFrom at entries } ⌝ }
+fn with_entries(slot: EntryMember, at: usize, entries: Entries) -> EntryMember
+    ensures { λ r. ⌜ r ≡ record { times = fewMore (slot .times); listing = entryArrayFrom at entries } ⌝ }
 {
-    slotted(slot, listing_at(at, entries))
+    with_entry_array(slot, entry_array_at(at, entries))
 }
 
 // What was told of the members, and one more `c`, whose value begins at `from`.
@@ -352,11 +352,11 @@ fn summed(s: &[u8], sum: Sum, from: usize, to: usize) -> Sum
     ensures { λ r. ⌜ r ≡ moreSummed (now (s .entry)) sum (record { from = from; to = to }) ⌝ }
 {
     let before = sum.mark;
-    let mark = marked(before, from, to);
+    let mark = with_member_span(before, from, to);
     if byte_at(s, from) != QUOTE {
         return Sum {
             mark,
-            fair: false,
+            well_formed: false,
             sum: 0,
         };
     }
@@ -365,12 +365,12 @@ fn summed(s: &[u8], sum: Sum, from: usize, to: usize) -> Sum
     match parse_checksum(&s[first..last]) {
         ParsedChecksum::Number(n) => Sum {
             mark,
-            fair: true,
+            well_formed: true,
             sum: n,
         },
         ParsedChecksum::Refused => Sum {
             mark,
-            fair: false,
+            well_formed: false,
             sum: 0,
         },
     }
@@ -383,13 +383,13 @@ fn no_members(end: usize) -> Members
     Members {
         end,
         is_object: false,
-        snapshot_asks: no_slot(),
-        snapshot_bids: no_slot(),
-        asks: no_slot(),
-        bids: no_slot(),
+        snapshot_asks: no_entry_member(),
+        snapshot_bids: no_entry_member(),
+        asks: no_entry_member(),
+        bids: no_entry_member(),
         checksum: Sum {
-            mark: no_mark(),
-            fair: false,
+            mark: no_member_span(),
+            well_formed: false,
             sum: 0,
         },
     }
@@ -507,7 +507,7 @@ fn k_outline(snapshot: bool, update: bool, all: Members) -> Outline
         let asks = side_of(all.snapshot_asks);
         return outline_of(true, bids, asks, false, 0, 0);
     }
-    if both(update, all.checksum.fair) {
+    if both(update, all.checksum.well_formed) {
         let bids = side_of(all.bids);
         let asks = side_of(all.asks);
         return outline_of(false, bids, asks, true, all.checksum.sum, 0);
@@ -516,17 +516,17 @@ fn k_outline(snapshot: bool, update: bool, all: Members) -> Outline
 }
 
 // The entries of a side that may be missing.
-fn side_of(slot: Slot) -> Listing
+fn side_of(slot: EntryMember) -> EntryArray
     ensures { λ r. ⌜ r ≡ sideOf slot ⌝ }
 {
     if slot.times == 0 {
-        return no_listing();
+        return absent_entry_array();
     }
     slot.listing
 }
 
 // A message of four or five elements, which ends at `end`.
-fn framed(s: &[u8], end: usize, outer: Outer, depth: usize, name: &[u8], outline: Outline) -> Told
+fn framed(s: &[u8], end: usize, outer: Outer, depth: usize, name: &[u8], outline: Outline) -> Scan
     requires { ⌜ (10 ≤ depth) × (depth ≤ 100) ⌝ }
     ensures { λ r. ⌜ r ≡ framedAs depth (now (name .entry)) (now (s .entry)) end outer outline ⌝ }
 {
@@ -541,7 +541,7 @@ fn framed(s: &[u8], end: usize, outer: Outer, depth: usize, name: &[u8], outline
     };
     let channel = is_channel(s, channel_from, channel_to, depth);
     let pair = is_name(s, pair_from, pair_to, name);
-    Told {
+    Scan {
         end,
         framed: true,
         escaped,

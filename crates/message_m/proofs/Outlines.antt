@@ -10,21 +10,21 @@ use Rattle.decimal.specs.Digits.{Reading, reads, refused}
 use Rattle.json.specs.Json.{Span}
 use Rattle.json.specs.Names.{means}
 use Rattle.entries.specs.Places.{andThen, wholeAt, checksumAt}
-use Rattle.layout.specs.Told.{notListed, noOutline, outlineFrom}
-use Rattle.layout.specs.declared.Listing.{Listing}
-use Rattle.layout.specs.declared.Mark.{Mark}
-use Rattle.layout.specs.declared.Slot.{Slot}
+use Rattle.layout.specs.Scan.{notEntryArray, noOutline, outlineFrom}
+use Rattle.layout.specs.declared.EntryArray.{EntryArray}
+use Rattle.layout.specs.declared.MemberSpan.{MemberSpan}
+use Rattle.layout.specs.declared.EntryMember.{EntryMember}
 use Rattle.layout.specs.declared.Outline.{Outline}
-use Rattle.layout.specs.declared.Told.{Told}
+use Rattle.layout.specs.declared.Scan.{Scan}
 use Rattle.message_m.specs.LayoutM.{isSnapshotAt}
-use Rattle.message_m.specs.Collected.{onceAt, onceListed, outlineWhere, numbersIn, bodyIn, outlineIn, toldIn}
+use Rattle.message_m.specs.Collected.{onceAt, onceListed, outlineWhere, numbersIn, bodyIn, outlineIn, scanIn}
 use Rattle.message_m.specs.declared.Members.{Members}
 
-abbrev pub placeOf : Mark → Span
+abbrev pub placeOf : MemberSpan → Span
 placeOf m = record { from = m .from; to = m .to }
 
 -- ---- met once
-module _ (m : Mark) where
+module _ (m : MemberSpan) where
   pub once-yes : m .times ≡ 1 → onceAt m ≡ reads (placeOf m)
   unfolding onceAt
   once-yes h = rw (eq-eqb (m .times) 1 h)
@@ -42,12 +42,12 @@ module _ (m : Mark) where
     unfolding andThen
     then-no h = rw (once-no h)
 
-module _ (t : Slot) where
+module _ (t : EntryMember) where
   pub listed-yes : t .times ≡ 1 → t .listing ≡ onceListed t
   unfolding onceListed
   listed-yes h = sym (rw (eq-eqb (t .times) 1 h))
 
-  pub listed-no : (t .times ≡ 1 → ⊥) → notListed ≡ onceListed t
+  pub listed-no : (t .times ≡ 1 → ⊥) → notEntryArray ≡ onceListed t
   unfolding onceListed
   listed-no h = sym (rw (ne-eqb (t .times) 1 h))
 
@@ -62,7 +62,7 @@ module _ {A : Type 0} (f : A → Outline) where
   where-refused h = sym (rw h)
 
 -- ---- from the checksum on
-module _ (s : List ℕ) (snapshot : Bool) (b a : Listing) (k g : Mark) where
+module _ (s : List ℕ) (snapshot : Bool) (b a : EntryArray) (k g : MemberSpan) where
   abbrev sum : Reading ℕ
   sum = andThen (onceAt k) (checksumAt s)
 
@@ -149,6 +149,6 @@ module _ (s : List ℕ) (met : Members) where
 
 -- part by part
 pub told-made : (s : List ℕ) (met : Members) (end : ℕ) {o : Bool} {x : Outline} → o ≡ (met .«is_book» && met .«is_product») → x ≡ outlineIn s met
-    → _≡_ {A = Told} (record { end = end; framed = true; escaped = met .escaped; ours = o; outline = x }) (toldIn s end met)
-unfolding toldIn
+    → _≡_ {A = Scan} (record { end = end; framed = true; escaped = met .escaped; ours = o; outline = x }) (scanIn s end met)
+unfolding scanIn
 told-made s met end p q = rw (p, q)

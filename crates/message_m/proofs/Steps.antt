@@ -22,13 +22,13 @@ use Rattle.entries.specs.Rows.{entriesAt, entryM}
 use Rattle.entries.specs.Summary.{noEntries, summaryOf, summaryAt}
 use Rattle.entries.specs.declared.Entries.{Entries}
 use Rattle.entries.proofs.Summary.{summary-is}
-use Rattle.layout.specs.Marks.{fewMore, more, moreListed}
-use Rattle.layout.specs.Told.{listingFrom}
-use Rattle.layout.specs.declared.Listing.{Listing}
-use Rattle.layout.specs.declared.Mark.{Mark}
-use Rattle.layout.specs.declared.Slot.{Slot}
+use Rattle.layout.specs.MemberSpans.{fewMore, withMemberSpan, withEntryArray}
+use Rattle.layout.specs.Scan.{entryArrayFrom}
+use Rattle.layout.specs.declared.EntryArray.{EntryArray}
+use Rattle.layout.specs.declared.MemberSpan.{MemberSpan}
+use Rattle.layout.specs.declared.EntryMember.{EntryMember}
 use Rattle.layout.proofs.Laws.{listing-of}
-use Rattle.layout.proofs.Marks.{one-name}
+use Rattle.layout.proofs.MemberSpans.{one-name}
 use Rattle.message_m.specs.Collected.{onHit, sideM, noData, moreData, dataFrom, dataOf, keyOf, isEscaped, moreBody, moreMembers, Placed}
 use Rattle.message_m.specs.declared.Data.{Data}
 use Rattle.message_m.specs.declared.Body.{Body}
@@ -303,10 +303,10 @@ array-broken d s a h = go (eqb (byteAt s (a .from)) 91) refl
     go false q = refl
 
 -- the listing of a value, as the code has it
-pub side-is : (s : List ℕ) (at : ℕ) (e : Entries) → e ≡ summaryAt entryM s at → (l : Listing) → l ≡ listingFrom at e
+pub side-is : (s : List ℕ) (at : ℕ) (e : Entries) → e ≡ summaryAt entryM s at → (l : EntryArray) → l ≡ entryArrayFrom at e
     → l ≡ sideM s (record { from = at; to = endOf (value 14 s at) })
 unfolding entriesAt andThen summaryAt endOf summaryOf
-side-is s at e h l g = g ∙ ap (listingFrom at) h ∙ go (value 14 s at) refl
+side-is s at e h l g = g ∙ ap (entryArrayFrom at) h ∙ go (value 14 s at) refl
   where
     none : (t : ℕ) → value 14 s at ≡ Broken → entriesAt entryM s (record { from = at; to = t }) ≡ refused
     none t q = rw (array-broken 13 s (record { from = at; to = t }) q)
@@ -314,43 +314,43 @@ side-is s at e h l g = g ∙ ap (listingFrom at) h ∙ go (value 14 s at) refl
     nothing : value 14 s at ≡ Broken → summaryAt entryM s at ≡ noEntries 0
     nothing q = rw (q, summaryAt)
 
-    go : (x : End) → value 14 s at ≡ x → listingFrom at (summaryAt entryM s at) ≡ sideM s (record { from = at; to = endOf x })
-    go (At t) q = ap (listingFrom at) (summary-is entryM s at t q) ∙ listing-of entryM s (record { from = at; to = t }) t
+    go : (x : End) → value 14 s at ≡ x → entryArrayFrom at (summaryAt entryM s at) ≡ sideM s (record { from = at; to = endOf x })
+    go (At t) q = ap (entryArrayFrom at) (summary-is entryM s at t q) ∙ listing-of entryM s (record { from = at; to = t }) t
     go Broken q =
-        ap (listingFrom at) (nothing q ∙ sym (ap (summaryOf s 0) (none 0 q))) ∙ listing-of entryM s (record { from = at; to = 0 }) 0
+        ap (entryArrayFrom at) (nothing q ∙ sym (ap (summaryOf s 0) (none 0 q))) ∙ listing-of entryM s (record { from = at; to = 0 }) 0
 
 -- one more in its slot
-pub slot-more : (s : List ℕ) (t : Slot) (a : Span) {l : Listing} {r : Slot} → r ≡ record { times = fewMore (t .times); listing = l } → l ≡ sideM s a → r ≡ moreListed (sideM s) t a
-unfolding moreListed
+pub slot-more : (s : List ℕ) (t : EntryMember) (a : Span) {l : EntryArray} {r : EntryMember} → r ≡ record { times = fewMore (t .times); listing = l } → l ≡ sideM s a → r ≡ withEntryArray (sideM s) t a
+unfolding withEntryArray
 slot-more s t a h g = h ∙ rw g
 
-data-made : {e f : ℕ} {b c x y : Slot} → e ≡ f → b ≡ c → x ≡ y → _≡_ {A = Data} (record { end = e; bids = b; asks = x }) (record { end = f; bids = c; asks = y })
+data-made : {e f : ℕ} {b c x y : EntryMember} → e ≡ f → b ≡ c → x ≡ y → _≡_ {A = Data} (record { end = e; bids = b; asks = x }) (record { end = f; bids = c; asks = y })
 data-made p q r = rw (p, q, r)
 
 -- the member m, whose value ends at e
 module _ (s : List ℕ) (d : Data) (m : Pair) {e : ℕ} (h : e ≡ m .value .to) where
-  bids-yes : means s (m .name) (ascii "bids") ≡ true → moreListed (sideM s) (d .bids) (m .value) ≡ moreData s d m .bids
+  bids-yes : means s (m .name) (ascii "bids") ≡ true → withEntryArray (sideM s) (d .bids) (m .value) ≡ moreData s d m .bids
   unfolding moreData
-  bids-yes y = sym (hit-yes (means s (m .name) (ascii "bids")) (moreListed (sideM s)) (d .bids) (m .value) y)
+  bids-yes y = sym (hit-yes (means s (m .name) (ascii "bids")) (withEntryArray (sideM s)) (d .bids) (m .value) y)
 
   bids-no : means s (m .name) (ascii "bids") ≡ false → d .bids ≡ moreData s d m .bids
   unfolding moreData
-  bids-no n = sym (hit-no (means s (m .name) (ascii "bids")) (moreListed (sideM s)) (d .bids) (m .value) n)
+  bids-no n = sym (hit-no (means s (m .name) (ascii "bids")) (withEntryArray (sideM s)) (d .bids) (m .value) n)
 
-  asks-yes : means s (m .name) (ascii "asks") ≡ true → moreListed (sideM s) (d .asks) (m .value) ≡ moreData s d m .asks
+  asks-yes : means s (m .name) (ascii "asks") ≡ true → withEntryArray (sideM s) (d .asks) (m .value) ≡ moreData s d m .asks
   unfolding moreData
-  asks-yes y = sym (hit-yes (means s (m .name) (ascii "asks")) (moreListed (sideM s)) (d .asks) (m .value) y)
+  asks-yes y = sym (hit-yes (means s (m .name) (ascii "asks")) (withEntryArray (sideM s)) (d .asks) (m .value) y)
 
   asks-no : means s (m .name) (ascii "asks") ≡ false → d .asks ≡ moreData s d m .asks
   unfolding moreData
-  asks-no n = sym (hit-no (means s (m .name) (ascii "asks")) (moreListed (sideM s)) (d .asks) (m .value) n)
+  asks-no n = sym (hit-no (means s (m .name) (ascii "asks")) (withEntryArray (sideM s)) (d .asks) (m .value) n)
 
-  pub data-bids : {r : Slot} → means s (m .name) (ascii "bids") ≡ true → r ≡ moreListed (sideM s) (d .bids) (m .value)
+  pub data-bids : {r : EntryMember} → means s (m .name) (ascii "bids") ≡ true → r ≡ withEntryArray (sideM s) (d .bids) (m .value)
       → _≡_ {A = Data} (record { end = e; bids = r; asks = d .asks }) (moreData s d m)
   unfolding moreData
   data-bids y g = data-made h (g ∙ bids-yes y) (asks-no (not-both s (m .name) (ascii "bids") (ascii "asks") 0 (λ e. omega arith) y))
 
-  pub data-asks : {r : Slot} → means s (m .name) (ascii "bids") ≡ false → means s (m .name) (ascii "asks") ≡ true → r ≡ moreListed (sideM s) (d .asks) (m .value)
+  pub data-asks : {r : EntryMember} → means s (m .name) (ascii "bids") ≡ false → means s (m .name) (ascii "asks") ≡ true → r ≡ withEntryArray (sideM s) (d .asks) (m .value)
       → _≡_ {A = Data} (record { end = e; bids = d .bids; asks = r }) (moreData s d m)
   unfolding moreData
   data-asks n y g = data-made h (bids-no n) (g ∙ asks-yes y)
@@ -369,22 +369,22 @@ data-end s a = go (objectAt 15 s a)
     go (reads ms) = refl
     go refused = refl
 
-body-made : {e f : ℕ} {k m : Mark} {c d : Data} → e ≡ f → k ≡ m → c ≡ d → _≡_ {A = Body} (record { end = e; mark = k; last = c }) (record { end = f; mark = m; last = d })
+body-made : {e f : ℕ} {k m : MemberSpan} {c d : Data} → e ≡ f → k ≡ m → c ≡ d → _≡_ {A = Body} (record { end = e; mark = k; last = c }) (record { end = f; mark = m; last = d })
 body-made p q r = rw (p, q, r)
 
 module _ (s : List ℕ) (b : Body) (a : Span) (k n : ℕ) where
-  pub body-data : k ≡ n → (d : Data) → d ≡ dataOf s a → (m : Mark) → m ≡ more (b .mark) (record { from = a .from; to = d .end })
+  pub body-data : k ≡ n → (d : Data) → d ≡ dataOf s a → (m : MemberSpan) → m ≡ withMemberSpan (b .mark) (record { from = a .from; to = d .end })
       → _≡_ {A = Body} (record { end = d .end; mark = m; last = d }) (moreBody s (eqb k n) b a)
   unfolding moreBody
   body-data y d h m g =
       let e : d .end ≡ a .to = ap (λ (x : Data). x .end) h ∙ data-end s a in
-      body-made e (g ∙ ap (λ (t : ℕ). more (b .mark) (record { from = a .from; to = t })) e ∙ sym (hit-yes (eqb k n) more (b .mark) a (eq-eqb k n y)))
+      body-made e (g ∙ ap (λ (t : ℕ). withMemberSpan (b .mark) (record { from = a .from; to = t })) e ∙ sym (hit-yes (eqb k n) withMemberSpan (b .mark) a (eq-eqb k n y)))
       (h ∙ sym (hit-yes (eqb k n) (λ d v. dataOf s v) (b .last) a (eq-eqb k n y)))
 
   pub body-other : (k ≡ n → ⊥) → {e : ℕ} → e ≡ a .to → _≡_ {A = Body} (record { end = e; mark = b .mark; last = b .last }) (moreBody s (eqb k n) b a)
   unfolding moreBody
   body-other y h =
-      body-made h (sym (hit-no (eqb k n) more (b .mark) a (ne-eqb k n y))) (sym (hit-no (eqb k n) (λ d v. dataOf s v) (b .last) a (ne-eqb k n y)))
+      body-made h (sym (hit-no (eqb k n) withMemberSpan (b .mark) a (ne-eqb k n y))) (sym (hit-no (eqb k n) (λ d v. dataOf s v) (b .last) a (ne-eqb k n y)))
 
 -- ---- all members, part by part; each part but `data` takes the end from the body
 module _ (name s : List ℕ) (met : Members) (n : Span) (at to key : ℕ) (b : Body) (is : key ≡ keyOf s n)
@@ -392,10 +392,10 @@ module _ (name s : List ℕ) (met : Members) (n : Span) (at to key : ℕ) (b : B
   abbrev v : Span
   v = record { from = at; to = b .end }
 
-  abbrev hits : (i : ℕ) → Mark → Mark
-  hits i k = onHit (eqb key i) more k v
+  abbrev hits : (i : ℕ) → MemberSpan → MemberSpan
+  hits i k = onHit (eqb key i) withMemberSpan k v
 
-  pub members-made : (e o p : Bool) (c q k u g : Mark)
+  pub members-made : (e o p : Bool) (c q k u g : MemberSpan)
       → e ≡ (met .escaped || (hasBackslash s n || ((eqb key 1 || eqb key 2) && isEscaped s v)))
       → o ≡ (met .«is_book» || (eqb key 1 && means s v (ascii "book")))
       → p ≡ (met .«is_product» || (eqb key 2 && means s v name))
@@ -408,7 +408,7 @@ module _ (name s : List ℕ) (met : Members) (n : Span) (at to key : ℕ) (b : B
       rw (he, ho, hp, hc, hq, hk, hu, hg, made, d .channel, d .product, d .kind, d .body, d .checksum, d .gsn)
 
 -- the places of marks
-pub placed-more : (s : List ℕ) (hit : Bool) (k : Mark) (a : Span) → Placed s k → a .from ≤ a .to → a .to ≤ length s → Placed s (onHit hit more k a)
-unfolding onHit more
+pub placed-more : (s : List ℕ) (hit : Bool) (k : MemberSpan) (a : Span) → Placed s k → a .from ≤ a .to → a .to ≤ length s → Placed s (onHit hit withMemberSpan k a)
+unfolding onHit withMemberSpan
 placed-more s true k a p l h = (l, h)
 placed-more s false k a p l h = p

@@ -18,18 +18,18 @@ use Rattle.json.proofs.Fold.{Loop, Left, overMembers}
 use Rattle.entries.specs.Places.{andThen, objectAt, valuesOf, only, wholeAt, checksumAt}
 use Rattle.entries.specs.Rows.{entryM}
 use Rattle.json.specs.Fold.{foldFrom}
-use Rattle.layout.specs.Layout.{printed, Listed, Layout, Heard, listedAt, laid}
-use Rattle.layout.specs.Marks.{few, fewMore, more, marksOf, moreListed, slotsOf}
-use Rattle.layout.specs.Told.{notListed, listingOf, noOutline, noFrame, outlineOf, outlineFrom, isPrinted, sumOf, toldOf, toldAt}
-use Rattle.layout.specs.declared.Listing.{Listing}
-use Rattle.layout.specs.declared.Mark.{Mark}
-use Rattle.layout.specs.declared.Slot.{Slot}
+use Rattle.layout.specs.Layout.{printed, Listed, Layout, Envelope, listedAt, laid}
+use Rattle.layout.specs.MemberSpans.{few, fewMore, withMemberSpan, memberSpanOf, withEntryArray, entryMemberOf}
+use Rattle.layout.specs.Scan.{notEntryArray, entryArrayOf, noOutline, notFramed, outlineOf, outlineFrom, isPrinted, sumOf, scanOf, scanAt}
+use Rattle.layout.specs.declared.EntryArray.{EntryArray}
+use Rattle.layout.specs.declared.MemberSpan.{MemberSpan}
+use Rattle.layout.specs.declared.EntryMember.{EntryMember}
 use Rattle.layout.specs.declared.Outline.{Outline}
-use Rattle.layout.specs.declared.Told.{Told}
+use Rattle.layout.specs.declared.Scan.{Scan}
 use Rattle.layout.proofs.Laws.{outline-of}
-use Rattle.layout.proofs.Marks.{values-fold, only-once, only-other, slot-times}
-use Rattle.message_m.specs.LayoutM.{someName, someString, escapedM, someMeans, oursM, isSnapshotAt, listedIn, layoutM, heardM}
-use Rattle.message_m.specs.Collected.{onMember, sideM, noData, dataEnd, moreData, dataFrom, dataOf, isEscaped, moreBody, noMembers, moreMembers, onceAt, onceListed, outlineWhere, numbersIn, bodyIn, outlineIn, toldIn, Placed}
+use Rattle.layout.proofs.MemberSpans.{values-fold, only-once, only-other, slot-times}
+use Rattle.message_m.specs.LayoutM.{someName, someString, escapedM, someMeans, oursM, isSnapshotAt, listedIn, layoutM, envelopeM}
+use Rattle.message_m.specs.Collected.{onMember, sideM, noData, dataEnd, moreData, dataFrom, dataOf, isEscaped, moreBody, noMembers, moreMembers, onceAt, onceListed, outlineWhere, numbersIn, bodyIn, outlineIn, scanIn, Placed}
 use Rattle.message_m.specs.declared.Data.{Data}
 use Rattle.message_m.specs.declared.Members.{Members}
 use Rattle.message_m.proofs.Steps.{hit-yes, hit-no, placed-more}
@@ -49,8 +49,8 @@ on-fold s name step get add is =
 pub data-folds : (s : List ℕ) (e : ℕ) (ms : List Pair) → dataFrom s e (reads ms) ≡ dataEnd e (foldFrom (moreData s) (noData 0) ms)
 unfolding dataFrom moreData noData
 data-folds s e ms =
-    let b = on-fold s (ascii "bids") (moreData s) (λ (d : Data). d .bids) (moreListed (sideM s)) (λ st m. refl) (noData 0) ms in
-    let a = on-fold s (ascii "asks") (moreData s) (λ (d : Data). d .asks) (moreListed (sideM s)) (λ st m. refl) (noData 0) ms in
+    let b = on-fold s (ascii "bids") (moreData s) (λ (d : Data). d .bids) (withEntryArray (sideM s)) (λ st m. refl) (noData 0) ms in
+    let a = on-fold s (ascii "asks") (moreData s) (λ (d : Data). d .asks) (withEntryArray (sideM s)) (λ st m. refl) (noData 0) ms in
     sym (rw (b, a))
 
 pub data-ends : (s : List ℕ) (d : Data) (m : Pair) → moreData s d m .end ≡ m .value .to
@@ -118,21 +118,21 @@ flag-from : {S : Type 0} (step : S → Pair → S) (get : S → Bool) (one : Pai
     → ((st : S) (m : Pair) → get (step st m) ≡ (get st || one m)) → some [] ≡ false → ((m : Pair) (ms : List Pair) → (one m || some ms) ≡ some (m ∷ ms))
     → (st : S) (ms : List Pair) → get (foldFrom step st ms) ≡ (get st || some ms)
 unfolding foldFrom
-flag-from step get one some is none more st [] = sym (ap (λ (b : Bool). get st || b) none ∙ or-false (get st))
-flag-from step get one some is none more st (m ∷ ms) =
-    flag-from step get one some is none more (step st m) ms
+flag-from step get one some is none withMemberSpan st [] = sym (ap (λ (b : Bool). get st || b) none ∙ or-false (get st))
+flag-from step get one some is none withMemberSpan st (m ∷ ms) =
+    flag-from step get one some is none withMemberSpan (step st m) ms
     ∙ ap (λ (b : Bool). b || some ms) (is st m)
     ∙ or-assoc (get st) (one m) (some ms)
-    ∙ ap (λ (b : Bool). get st || b) (more m ms)
+    ∙ ap (λ (b : Bool). get st || b) (withMemberSpan m ms)
 
 -- ---- the layout
 
-only-is : (l : List Span) (m : Mark) → m ≡ marksOf l → only l ≡ onceAt m
-only-is l m h = go (eqb (marksOf l .times) 1) refl ∙ ap onceAt (sym h)
+only-is : (l : List Span) (m : MemberSpan) → m ≡ memberSpanOf l → only l ≡ onceAt m
+only-is l m h = go (eqb (memberSpanOf l .times) 1) refl ∙ ap onceAt (sym h)
   where
-    go : (b : Bool) → eqb (marksOf l .times) 1 ≡ b → only l ≡ onceAt (marksOf l)
-    go true q = let y = eqb-true (marksOf l .times) 1 q in only-once l y ∙ sym (once-yes (marksOf l) y)
-    go false q = let n = eqb-false (marksOf l .times) 1 q in only-other l n ∙ sym (once-no (marksOf l) n)
+    go : (b : Bool) → eqb (memberSpanOf l .times) 1 ≡ b → only l ≡ onceAt (memberSpanOf l)
+    go true q = let y = eqb-true (memberSpanOf l .times) 1 q in only-once l y ∙ sym (once-yes (memberSpanOf l) y)
+    go false q = let n = eqb-false (memberSpanOf l .times) 1 q in only-other l n ∙ sym (once-no (memberSpanOf l) n)
 
 -- what is read twice, one after the other, is read at once
 then-assoc : {A B C : Type 0} (x : Reading A) (f : A → Reading B) (g : B → Reading C) → andThen x (λ a. andThen (f a) g) ≡ andThen (andThen x f) g
@@ -151,13 +151,13 @@ then-out s {A} f g x y h k = go x refl ∙ ap (λ (z : Reading A). outlineWhere 
 
 module _ (s : List ℕ) where
   -- a side of `data`
-  side-of : (l : List Span) → listingOf s (andThen (only l) (listedAt entryM s)) ≡ onceListed (slotsOf (sideM s) l)
-  unfolding andThen only listingOf onceListed foldFrom moreListed fewMore few
+  side-of : (l : List Span) → entryArrayOf s (andThen (only l) (listedAt entryM s)) ≡ onceListed (entryMemberOf (sideM s) l)
+  unfolding andThen only entryArrayOf onceListed foldFrom withEntryArray fewMore few
   side-of [] = refl
   side-of (a ∷ []) = refl
   side-of (a ∷ (b ∷ l)) =
       let t = slot-times (sideM s) (a ∷ (b ∷ l)) in
-      listed-no (slotsOf (sideM s) (a ∷ (b ∷ l))) (λ h. omega arith)
+      listed-no (entryMemberOf (sideM s) (a ∷ (b ∷ l))) (λ h. omega arith)
 
   -- the value of the only member `data` is the last one's
   last-only : (l : List Span) (d : Data) (a : Span) → only l ≡ reads a → foldFrom (λ (d : Data) (a : Span). dataOf s a) d l ≡ dataOf s a
@@ -174,29 +174,29 @@ module _ (name s : List ℕ) (ms : List Pair) where
   abbrev values : List ℕ → List Span
   values n = valuesOf s n ms
 
-  channel-is : met .channel ≡ marksOf (values (ascii "channel"))
+  channel-is : met .channel ≡ memberSpanOf (values (ascii "channel"))
   unfolding moreMembers
-  channel-is = on-fold s (ascii "channel") (moreMembers name s) (λ (x : Members). x .channel) more (λ st m. refl) noMembers ms
+  channel-is = on-fold s (ascii "channel") (moreMembers name s) (λ (x : Members). x .channel) withMemberSpan (λ st m. refl) noMembers ms
 
-  product-is : met .product ≡ marksOf (values (ascii "product"))
+  product-is : met .product ≡ memberSpanOf (values (ascii "product"))
   unfolding moreMembers
-  product-is = on-fold s (ascii "product") (moreMembers name s) (λ (x : Members). x .product) more (λ st m. refl) noMembers ms
+  product-is = on-fold s (ascii "product") (moreMembers name s) (λ (x : Members). x .product) withMemberSpan (λ st m. refl) noMembers ms
 
-  kind-is : met .kind ≡ marksOf (values (ascii "type"))
+  kind-is : met .kind ≡ memberSpanOf (values (ascii "type"))
   unfolding moreMembers
-  kind-is = on-fold s (ascii "type") (moreMembers name s) (λ (x : Members). x .kind) more (λ st m. refl) noMembers ms
+  kind-is = on-fold s (ascii "type") (moreMembers name s) (λ (x : Members). x .kind) withMemberSpan (λ st m. refl) noMembers ms
 
-  checksum-is : met .checksum ≡ marksOf (values (ascii "checksum"))
+  checksum-is : met .checksum ≡ memberSpanOf (values (ascii "checksum"))
   unfolding moreMembers
-  checksum-is = on-fold s (ascii "checksum") (moreMembers name s) (λ (x : Members). x .checksum) more (λ st m. refl) noMembers ms
+  checksum-is = on-fold s (ascii "checksum") (moreMembers name s) (λ (x : Members). x .checksum) withMemberSpan (λ st m. refl) noMembers ms
 
-  gsn-is : met .gsn ≡ marksOf (values (ascii "gsn"))
+  gsn-is : met .gsn ≡ memberSpanOf (values (ascii "gsn"))
   unfolding moreMembers
-  gsn-is = on-fold s (ascii "gsn") (moreMembers name s) (λ (x : Members). x .gsn) more (λ st m. refl) noMembers ms
+  gsn-is = on-fold s (ascii "gsn") (moreMembers name s) (λ (x : Members). x .gsn) withMemberSpan (λ st m. refl) noMembers ms
 
-  data-mark : met .body .mark ≡ marksOf (values (ascii "data"))
+  data-mark : met .body .mark ≡ memberSpanOf (values (ascii "data"))
   unfolding moreMembers moreBody
-  data-mark = on-fold s (ascii "data") (moreMembers name s) (λ (x : Members). x .body .mark) more (λ st m. refl) noMembers ms
+  data-mark = on-fold s (ascii "data") (moreMembers name s) (λ (x : Members). x .body .mark) withMemberSpan (λ st m. refl) noMembers ms
 
   data-last : met .body .last ≡ foldFrom (λ (d : Data) (a : Span). dataOf s a) (noData 0) (values (ascii "data"))
   unfolding moreMembers moreBody
@@ -210,11 +210,11 @@ module _ (name s : List ℕ) (ms : List Pair) where
     abbrev asks : Reading Listed
     asks = listedIn s (ascii "asks") ds
 
-    abbrev bidSlot : Slot
-    bidSlot = slotsOf (sideM s) (valuesOf s (ascii "bids") ds)
+    abbrev bidSlot : EntryMember
+    bidSlot = entryMemberOf (sideM s) (valuesOf s (ascii "bids") ds)
 
-    abbrev askSlot : Slot
-    askSlot = slotsOf (sideM s) (valuesOf s (ascii "asks") ds)
+    abbrev askSlot : EntryMember
+    askSlot = entryMemberOf (sideM s) (valuesOf s (ascii "asks") ds)
 
     abbrev all-read : ℕ → ℕ → Reading Layout
     all-read sum number = laid snapshot (printed sum) number bids asks
@@ -232,7 +232,7 @@ module _ (name s : List ℕ) (ms : List Pair) where
     unfolding listedIn isPrinted sumOf
     all-out sum number =
         sym (outline-of s snapshot (printed sum) number bids asks)
-        ∙ ap₂ (λ (b a : Listing). outlineFrom snapshot b a true sum number) (side-of s (valuesOf s (ascii "bids") ds)) (side-of s (valuesOf s (ascii "asks") ds))
+        ∙ ap₂ (λ (b a : EntryArray). outlineFrom snapshot b a true sum number) (side-of s (valuesOf s (ascii "bids") ds)) (side-of s (valuesOf s (ascii "asks") ds))
 
     sum-out : (sum : ℕ) → outlineOf s (sum-read sum) ≡ outlineWhere (andThen (onceAt (met .gsn)) (wholeAt s)) (outline sum)
     sum-out sum =
@@ -257,11 +257,11 @@ module _ (name s : List ℕ) (ms : List Pair) where
     data-read d = andThen (objectAt 15 s d) (sides-read snapshot)
 
     -- a value that has no sides
-    no-sides : (k g : Mark) → numbersIn s snapshot (onceListed (noData 0 .bids)) (onceListed (noData 0 .asks)) k g ≡ noOutline
+    no-sides : (k g : MemberSpan) → numbersIn s snapshot (onceListed (noData 0 .bids)) (onceListed (noData 0 .asks)) k g ≡ noOutline
     unfolding numbersIn onceListed noData outlineWhere outlineFrom
     no-sides k g = go (andThen (onceAt k) (checksumAt s)) (andThen (onceAt g) (wholeAt s))
       where
-        go : (x y : Reading ℕ) → outlineWhere x (λ sum. outlineWhere y (λ number. outlineFrom snapshot notListed notListed true sum number)) ≡ noOutline
+        go : (x y : Reading ℕ) → outlineWhere x (λ sum. outlineWhere y (λ number. outlineFrom snapshot notEntryArray notEntryArray true sum number)) ≡ noOutline
         go (reads sum) (reads number) = refl
         go (reads sum) refused = refl
         go refused y = refl
@@ -342,22 +342,22 @@ module _ (name s : List ℕ) (ms : List Pair) where
 
 -- ---- the message
 module _ (name s : List ℕ) where
-  abbrev heardOf : List Pair → Reading Heard
+  abbrev heardOf : List Pair → Reading Envelope
   heardOf ms = reads (record { escaped = escapedM s ms; ours = oursM name s ms; layout = layoutM s ms })
 
-  abbrev pub toldFrom : ℕ → Reading (List Pair) → Told
-  toldFrom e x = toldOf s e (andThen x heardOf)
+  abbrev pub toldFrom : ℕ → Reading (List Pair) → Scan
+  toldFrom e x = scanOf s e (andThen x heardOf)
 
-  pub told-folds : (e : ℕ) (ms : List Pair) → toldFrom e (reads ms) ≡ toldIn s e (foldFrom (moreMembers name s) noMembers ms)
-  unfolding andThen toldOf toldIn
+  pub told-folds : (e : ℕ) (ms : List Pair) → toldFrom e (reads ms) ≡ scanIn s e (foldFrom (moreMembers name s) noMembers ms)
+  unfolding andThen scanOf scanIn
   told-folds e ms = rw (escaped-out name s ms, ours-out name s ms, layout-out name s ms)
 
-  pub told-is : (at : ℕ) → toldFrom (endOf (value 16 s at)) (objectAt 16 s (record { from = at; to = endOf (value 16 s at) })) ≡ toldAt (heardM name) s at
-  unfolding toldAt heardM endOf andThen
+  pub told-is : (at : ℕ) → toldFrom (endOf (value 16 s at)) (objectAt 16 s (record { from = at; to = endOf (value 16 s at) })) ≡ scanAt (envelopeM name) s at
+  unfolding scanAt envelopeM endOf andThen
   told-is at = sym (go (value 16 s at) refl)
     where
       go : (x : End) → value 16 s at ≡ x
-          → elim x [ At e ↦ toldOf s e (heardM name s (record { from = at; to = e })) | Broken ↦ toldOf s 0 refused ] ≡ toldFrom (endOf x) (objectAt 16 s (record { from = at; to = endOf x }))
+          → elim x [ At e ↦ scanOf s e (envelopeM name s (record { from = at; to = e })) | Broken ↦ scanOf s 0 refused ] ≡ toldFrom (endOf x) (objectAt 16 s (record { from = at; to = endOf x }))
       go (At e) q = refl
       go Broken q = ap (toldFrom 0) (sym (object-broken 15 s (record { from = at; to = 0 }) q))
 
@@ -366,22 +366,22 @@ unfolding moreMembers moreBody
 members-end name s met m = refl
 
 -- the loop over its members
-abbrev pub messageLoop : List ℕ → List ℕ → Loop Pair Members Told
-messageLoop name s = overMembers 15 s (moreMembers name s) (toldIn s) (noFrame 0)
+abbrev pub messageLoop : List ℕ → List ℕ → Loop Pair Members Scan
+messageLoop name s = overMembers 15 s (moreMembers name s) (scanIn s) (notFramed 0)
 
 module _ (name s : List ℕ) (at : ℕ) where
-  pub told-none : (byteAt s at ≡ 123 → ⊥) → {e : ℕ} → e ≡ endOf (value 16 s at) → noFrame e ≡ toldAt (heardM name) s at
-  unfolding toldOf andThen
-  told-none n h = ap noFrame h ∙ made-other (toldFrom name s) 15 s at n ∙ told-is name s at
+  pub told-none : (byteAt s at ≡ 123 → ⊥) → {e : ℕ} → e ≡ endOf (value 16 s at) → notFramed e ≡ scanAt (envelopeM name) s at
+  unfolding scanOf andThen
+  told-none n h = ap notFramed h ∙ made-other (toldFrom name s) 15 s at n ∙ told-is name s at
 
   module _ (opens : byteAt s at ≡ 123) (e : ℕ) (h : e ≡ endOf (closing 125 s (at + 1))) where
-    pub told-empty : 0 < e → toldIn s e noMembers ≡ toldAt (heardM name) s at
-    told-empty p = made-empty (toldFrom name s) 15 s at opens (moreMembers name s) (toldIn s) noMembers (told-folds name s) e h p ∙ told-is name s at
+    pub told-empty : 0 < e → scanIn s e noMembers ≡ scanAt (envelopeM name) s at
+    told-empty p = made-empty (toldFrom name s) 15 s at opens (moreMembers name s) (scanIn s) noMembers (told-folds name s) e h p ∙ told-is name s at
 
-    pub told-start : e ≡ 0 → (k : ℕ) → k ≡ blanks s (at + 1) → Left (messageLoop name s) noMembers k (toldAt (heardM name) s at)
-    unfolding toldOf andThen
+    pub told-start : e ≡ 0 → (k : ℕ) → k ≡ blanks s (at + 1) → Left (messageLoop name s) noMembers k (scanAt (envelopeM name) s at)
+    unfolding scanOf andThen
     told-start z k b =
-        rw (told-is name s at) at (made-start (toldFrom name s) 15 s at opens (moreMembers name s) (toldIn s) noMembers (told-folds name s) e h z k b)
+        rw (told-is name s at) at (made-start (toldFrom name s) 15 s at opens (moreMembers name s) (scanIn s) noMembers (told-folds name s) e h z k b)
 
 -- the places of the two numbers' marks
 abbrev pub Marked : List ℕ → Members → Type 0

@@ -14,13 +14,13 @@ use Rattle.entries.specs.Places.{andThen, isString, objectAt, valuesOf, wholeAt
 use Rattle.entries.specs.Rows.{entryM}
 use Rattle.layout.specs.Depths.{itemDepth}
 use Rattle.layout.specs.Layout.{listedAt}
-use Rattle.layout.specs.Marks.{unmarked, more, emptySlot, moreListed, slotsOf}
-use Rattle.layout.specs.Told.{notListed, listingOf, noOutline, outlineFrom}
-use Rattle.layout.specs.declared.Listing.{Listing}
-use Rattle.layout.specs.declared.Mark.{Mark}
-use Rattle.layout.specs.declared.Slot.{Slot}
+use Rattle.layout.specs.MemberSpans.{noMemberSpan, withMemberSpan, noEntryMember, withEntryArray, entryMemberOf}
+use Rattle.layout.specs.Scan.{notEntryArray, entryArrayOf, noOutline, outlineFrom}
+use Rattle.layout.specs.declared.EntryArray.{EntryArray}
+use Rattle.layout.specs.declared.MemberSpan.{MemberSpan}
+use Rattle.layout.specs.declared.EntryMember.{EntryMember}
 use Rattle.layout.specs.declared.Outline.{Outline}
-use Rattle.layout.specs.declared.Told.{Told}
+use Rattle.layout.specs.declared.Scan.{Scan}
 use Rattle.message_m.specs.LayoutM.{isSnapshotAt}
 use Rattle.message_m.specs.declared.Data.{Data}
 use Rattle.message_m.specs.declared.Body.{Body}
@@ -39,12 +39,12 @@ memberAt depth s first past from = record { name = record { from = first; to = p
 
 -- ---- the value of a member `data`
 
-abbrev pub sideM : List ℕ → Span → Listing
-sideM s a = listingOf s (listedAt entryM s a)
+abbrev pub sideM : List ℕ → Span → EntryArray
+sideM s a = entryArrayOf s (listedAt entryM s a)
 
 -- A value that ends at `end` and has no sides.
 unfoldable pub noData : ℕ → Data
-noData end = record { end = end; bids = emptySlot; asks = emptySlot }
+noData end = record { end = end; bids = noEntryMember; asks = noEntryMember }
 
 -- An object that ends at `end`, with the sides that were met in it.
 abbrev pub dataEnd : ℕ → Data → Data
@@ -55,16 +55,16 @@ unfoldable pub moreData : List ℕ → Data → Pair → Data
 moreData s d m =
     record {
       end = m .value .to;
-      bids = onMember s (ascii "bids") (moreListed (sideM s)) (d .bids) m;
-      asks = onMember s (ascii "asks") (moreListed (sideM s)) (d .asks) m;
+      bids = onMember s (ascii "bids") (withEntryArray (sideM s)) (d .bids) m;
+      asks = onMember s (ascii "asks") (withEntryArray (sideM s)) (d .asks) m;
     }
 
 unfoldable pub dataFrom : List ℕ → ℕ → Reading (List Pair) → Data
 dataFrom s end (reads ms) =
     record {
       end = end;
-      bids = slotsOf (sideM s) (valuesOf s (ascii "bids") ms);
-      asks = slotsOf (sideM s) (valuesOf s (ascii "asks") ms);
+      bids = entryMemberOf (sideM s) (valuesOf s (ascii "bids") ms);
+      asks = entryMemberOf (sideM s) (valuesOf s (ascii "asks") ms);
     }
 dataFrom s end refused = noData end
 
@@ -109,20 +109,20 @@ abbrev pub isEscaped : List ℕ → Span → Bool
 isEscaped s a = isString s a && hasBackslash s a
 
 unfoldable pub moreBody : List ℕ → Bool → Body → Span → Body
-moreBody s hit b a = record { end = a .to; mark = onHit hit more (b .mark) a; last = onHit hit (λ d v. dataOf s v) (b .last) a }
+moreBody s hit b a = record { end = a .to; mark = onHit hit withMemberSpan (b .mark) a; last = onHit hit (λ d v. dataOf s v) (b .last) a }
 
 abbrev pub noMembers : Members
 noMembers =
     record {
-      body = record { end = 0; mark = unmarked; last = noData 0 };
+      body = record { end = 0; mark = noMemberSpan; last = noData 0 };
       escaped = false;
       «is_book» = false;
       «is_product» = false;
-      channel = unmarked;
-      product = unmarked;
-      kind = unmarked;
-      checksum = unmarked;
-      gsn = unmarked;
+      channel = noMemberSpan;
+      product = noMemberSpan;
+      kind = noMemberSpan;
+      checksum = noMemberSpan;
+      gsn = noMemberSpan;
     }
 
 -- One member more of a message to a book of that name.
@@ -135,27 +135,27 @@ moreMembers name s met m =
           || (hasBackslash s (m .name) || ((means s (m .name) (ascii "channel") || means s (m .name) (ascii "product")) && isEscaped s (m .value)));
       «is_book» = met .«is_book» || (means s (m .name) (ascii "channel") && means s (m .value) (ascii "book"));
       «is_product» = met .«is_product» || (means s (m .name) (ascii "product") && means s (m .value) name);
-      channel = onMember s (ascii "channel") more (met .channel) m;
-      product = onMember s (ascii "product") more (met .product) m;
-      kind = onMember s (ascii "type") more (met .kind) m;
-      checksum = onMember s (ascii "checksum") more (met .checksum) m;
-      gsn = onMember s (ascii "gsn") more (met .gsn) m;
+      channel = onMember s (ascii "channel") withMemberSpan (met .channel) m;
+      product = onMember s (ascii "product") withMemberSpan (met .product) m;
+      kind = onMember s (ascii "type") withMemberSpan (met .kind) m;
+      checksum = onMember s (ascii "checksum") withMemberSpan (met .checksum) m;
+      gsn = onMember s (ascii "gsn") withMemberSpan (met .gsn) m;
     }
 
 -- ---- the layout, once all members were met
 
 -- The value of a name that was met once.
-unfoldable pub onceAt : Mark → Reading Span
+unfoldable pub onceAt : MemberSpan → Reading Span
 onceAt m = cond (eqb (m .times) 1) (reads (record { from = m .from; to = m .to })) refused
 
-unfoldable pub onceListed : Slot → Listing
-onceListed t = cond (eqb (t .times) 1) (t .listing) notListed
+unfoldable pub onceListed : EntryMember → EntryArray
+onceListed t = cond (eqb (t .times) 1) (t .listing) notEntryArray
 
 unfoldable pub outlineWhere : {A : Type 0} → Reading A → (A → Outline) → Outline
 outlineWhere (reads a) outline = outline a
 outlineWhere refused outline = noOutline
 
-unfoldable pub numbersIn : List ℕ → Bool → Listing → Listing → Mark → Mark → Outline
+unfoldable pub numbersIn : List ℕ → Bool → EntryArray → EntryArray → MemberSpan → MemberSpan → Outline
 numbersIn s snapshot bids asks checksum gsn =
     outlineWhere (andThen (onceAt checksum) (checksumAt s)) (λ sum.
     outlineWhere (andThen (onceAt gsn) (wholeAt s)) (λ number.
@@ -173,8 +173,8 @@ outlineIn s met =
     outlineWhere (andThen (onceAt (met .kind)) (isSnapshotAt s)) (λ snapshot.
     bodyIn s snapshot met)))
 
-unfoldable pub toldIn : List ℕ → ℕ → Members → Told
-toldIn s end met =
+unfoldable pub scanIn : List ℕ → ℕ → Members → Scan
+scanIn s end met =
     record {
       end = end;
       framed = true;
@@ -184,5 +184,5 @@ toldIn s end met =
     }
 
 -- A mark's place lies in the text.
-abbrev pub Placed : List ℕ → Mark → Type 0
+abbrev pub Placed : List ℕ → MemberSpan → Type 0
 Placed s m = (m .from ≤ m .to) × (m .to ≤ length s)

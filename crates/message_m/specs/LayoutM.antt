@@ -9,7 +9,7 @@ use Rattle.json.specs.Names.{means, hasBackslash}
 use Rattle.entries.specs.Places.{andThen, isString, objectAt, valuesOf, only, wholeAt, checksumAt}
 use Rattle.entries.specs.Rows.{entryM}
 use Rattle.layout.specs.Depths.{itemDepth}
-use Rattle.layout.specs.Layout.{printed, Listed, Layout, Heard, listedAt, laid}
+use Rattle.layout.specs.Layout.{printed, Listed, Layout, Envelope, listedAt, laid}
 
 -- Check 4: a backslash in a top-level key or in a `channel` or `product` string.
 unfoldable pub someName : List ℕ → List Pair → Bool
@@ -55,7 +55,7 @@ layoutM s ms =
 
 -- ---- the message, to a book of that name
 
-unfoldable pub heardM : List ℕ → List ℕ → Span → Reading Heard
-heardM name s a =
+unfoldable pub envelopeM : List ℕ → List ℕ → Span → Reading Envelope
+envelopeM name s a =
     andThen (objectAt maxDepth s a) (λ ms.
     reads (record { escaped = escapedM s ms; ours = oursM name s ms; layout = layoutM s ms }))

@@ -19,21 +19,21 @@ use json_tokens::comma_end;
 use json_tokens::object_close_end;
 use json_tokens::skip_blanks;
 use json_tokens::string_end;
+use layout::EntryArray;
+use layout::EntryMember;
 use layout::ITEM_DEPTH;
-use layout::Listing;
-use layout::Mark;
+use layout::MemberSpan;
 use layout::Outline;
 use layout::SIDE_DEPTH;
-use layout::Slot;
-use layout::Told;
-use layout::listing_at;
-use layout::marked;
-use layout::no_mark;
+use layout::Scan;
+use layout::entry_array_at;
+use layout::no_entry_member;
+use layout::no_member_span;
 use layout::no_outline;
-use layout::no_slot;
+use layout::not_framed;
 use layout::outline_of;
-use layout::slotted;
-use layout::untold;
+use layout::with_entry_array;
+use layout::with_member_span;
 use text::both;
 use text::byte_at;
 use text::either;
@@ -47,10 +47,10 @@ ghost use Rattle.json.specs.Json.{value};
 ghost use Rattle.json.specs.Names.{means, hasBackslash};
 ghost use Rattle.entries.specs.Places.{andThen, wholeAt, checksumAt};
 ghost use Rattle.layout.specs.Depths.{itemDepth, sideDepth};
-ghost use Rattle.layout.specs.Marks.{more};
-ghost use Rattle.layout.specs.Told.{toldAt};
-ghost use Rattle.message_m.specs.LayoutM.{heardM};
-ghost use Rattle.message_m.specs.Collected.{onHit, memberAt, noData, dataEnd, moreData, dataOf, channelKey, productKey, dataKey, keyOf, isEscaped, moreBody, noMembers, moreMembers, onceAt, onceListed, numbersIn, bodyIn, outlineIn, toldIn, Placed};
+ghost use Rattle.layout.specs.MemberSpans.{withMemberSpan};
+ghost use Rattle.layout.specs.Scan.{scanAt};
+ghost use Rattle.message_m.specs.LayoutM.{envelopeM};
+ghost use Rattle.message_m.specs.Collected.{onHit, memberAt, noData, dataEnd, moreData, dataOf, channelKey, productKey, dataKey, keyOf, isEscaped, moreBody, noMembers, moreMembers, onceAt, onceListed, numbersIn, bodyIn, outlineIn, scanIn, Placed};
 
 // Names as numbers, the first byte the lowest, as `json::is_short_name` takes them.
 const CHANNEL_NAME: u64 = 0x6c656e6e616863;
@@ -95,15 +95,15 @@ struct Data {
     // Past the value, or 0 where it is not JSON.
     end: usize,
     // The members `bids` and `asks`, if it is an object.
-    bids: Slot,
-    asks: Slot,
+    bids: EntryMember,
+    asks: EntryMember,
 }
 
 // The members `data` that were met.
 struct Body {
     // Past the value of the last member, whatever its name, or 0 where it is not JSON.
     end: usize,
-    mark: Mark,
+    mark: MemberSpan,
     // The value of the last one.
     last: Data,
 }
@@ -111,12 +111,12 @@ struct Body {
 // The members of a message that were met.
 struct Members {
     body: Body,
-    channel: Mark,
-    product: Mark,
+    channel: MemberSpan,
+    product: MemberSpan,
     // The members `type`.
-    kind: Mark,
-    checksum: Mark,
-    gsn: Mark,
+    kind: MemberSpan,
+    checksum: MemberSpan,
+    gsn: MemberSpan,
     // Whether a backslash stands in some name, or in some `channel` or `product` that is a string.
     escaped: bool,
     // Whether some `channel` is `book`, and whether some `product` is the book's name.
@@ -125,41 +125,41 @@ struct Members {
 }
 
 // The message at `at`, to an M book of that name.
-pub fn m_message(s: &[u8], at: usize, name: &[u8]) -> Told
-    ensures { λ r. ⌜ r ≡ toldAt (heardM (now (name .entry))) (now (s .entry)) at ⌝ }
+pub fn m_message(s: &[u8], at: usize, name: &[u8]) -> Scan
+    ensures { λ r. ⌜ r ≡ scanAt (envelopeM (now (name .entry))) (now (s .entry)) at ⌝ }
 {
     if byte_at(s, at) != OPEN_OBJECT {
-        return untold(value_end(s, at, MAX_DEPTH));
+        return not_framed(value_end(s, at, MAX_DEPTH));
     }
     let none = object_close_end(s, at + 1);
     if 0 < none {
-        return told(s, no_members(), none);
+        return scan(s, no_members(), none);
     }
     let mut i = skip_blanks(s, at + 1);
     let mut met = no_members();
     loop {
         let name_to = string_end(s, i);
         if name_to == 0 {
-            return untold(0);
+            return not_framed(0);
         }
         let from = colon_end(s, name_to);
         if from == 0 {
-            return untold(0);
+            return not_framed(0);
         }
         let next = more_members(s, met, i, name_to, from, name);
         let to = next.body.end;
         if to == 0 {
-            return untold(0);
+            return not_framed(0);
         }
         let j = comma_end(s, to);
         if j == 0 {
             let end = object_close_end(s, to);
             if end == 0 {
-                return untold(0);
+                return not_framed(0);
             }
             // A copy is handed on, so that what the loop carries can stay in registers.
             let last = next;
-            return told(s, last, end);
+            return scan(s, last, end);
         }
         met = next;
         i = j;
@@ -173,17 +173,17 @@ fn no_members() -> Members
     Members {
         body: Body {
             end: 0,
-            mark: no_mark(),
+            mark: no_member_span(),
             last: no_data(0),
         },
         escaped: false,
         is_book: false,
         is_product: false,
-        channel: no_mark(),
-        product: no_mark(),
-        kind: no_mark(),
-        checksum: no_mark(),
-        gsn: no_mark(),
+        channel: no_member_span(),
+        product: no_member_span(),
+        kind: no_member_span(),
+        checksum: no_member_span(),
+        gsn: no_member_span(),
     }
 }
 
@@ -206,11 +206,11 @@ fn more_members(
         escaped: either(met.escaped, is_escaped(s, key, first, past, from, to)),
         is_book: either(met.is_book, is_book(s, key, from, to)),
         is_product: either(met.is_product, is_product(s, key, from, to, name)),
-        channel: more_marked(met.channel, key, CHANNEL, from, to),
-        product: more_marked(met.product, key, PRODUCT, from, to),
-        kind: more_marked(met.kind, key, TYPE, from, to),
-        checksum: more_marked(met.checksum, key, CHECKSUM, from, to),
-        gsn: more_marked(met.gsn, key, GSN, from, to),
+        channel: more_spans(met.channel, key, CHANNEL, from, to),
+        product: more_spans(met.product, key, PRODUCT, from, to),
+        kind: more_spans(met.kind, key, TYPE, from, to),
+        checksum: more_spans(met.checksum, key, CHECKSUM, from, to),
+        gsn: more_spans(met.gsn, key, GSN, from, to),
     }
 }
 
@@ -240,11 +240,11 @@ fn key_of(s: &[u8], from: usize, to: usize) -> usize
 }
 
 // The members of one name, and one member more.
-fn more_marked(mark: Mark, key: usize, name: usize, from: usize, to: usize) -> Mark
-    ensures { λ r. ⌜ r ≡ onHit (eqb key name) more mark (record { from = from; to = to }) ⌝ }
+fn more_spans(mark: MemberSpan, key: usize, name: usize, from: usize, to: usize) -> MemberSpan
+    ensures { λ r. ⌜ r ≡ onHit (eqb key name) withMemberSpan mark (record { from = from; to = to }) ⌝ }
 {
     if key == name {
-        return marked(mark, from, to);
+        return with_member_span(mark, from, to);
     }
     mark
 }
@@ -304,7 +304,7 @@ fn more_body(s: &[u8], body: Body, key: usize, from: usize) -> Body
         let data = m_data(s, from);
         return Body {
             end: data.end,
-            mark: marked(body.mark, from, data.end),
+            mark: with_member_span(body.mark, from, data.end),
             last: data,
         };
     }
@@ -367,7 +367,7 @@ fn more_data(s: &[u8], met: Data, first: usize, past: usize, from: usize) -> Dat
         let entries = entries_at(s, from, true);
         return Data {
             end: entries.end,
-            bids: slotted(bids, listing_at(from, entries)),
+            bids: with_entry_array(bids, entry_array_at(from, entries)),
             asks,
         };
     }
@@ -376,7 +376,7 @@ fn more_data(s: &[u8], met: Data, first: usize, past: usize, from: usize) -> Dat
         return Data {
             end: entries.end,
             bids,
-            asks: slotted(asks, listing_at(from, entries)),
+            asks: with_entry_array(asks, entry_array_at(from, entries)),
         };
     }
     Data {
@@ -401,17 +401,17 @@ fn no_data(end: usize) -> Data
 {
     Data {
         end,
-        bids: no_slot(),
-        asks: no_slot(),
+        bids: no_entry_member(),
+        asks: no_entry_member(),
     }
 }
 
 // What the members of a message that ends at `end` tell of it.
-fn told(s: &[u8], met: Members, end: usize) -> Told
+fn scan(s: &[u8], met: Members, end: usize) -> Scan
     requires { ⌜ Placed (now s) (met .checksum) × Placed (now s) (met .gsn) ⌝ }
-    ensures { λ r. ⌜ r ≡ toldIn (now (s .entry)) end met ⌝ }
+    ensures { λ r. ⌜ r ≡ scanIn (now (s .entry)) end met ⌝ }
 {
-    Told {
+    Scan {
         end,
         framed: true,
         escaped: met.escaped,
@@ -462,13 +462,13 @@ fn body_outline(s: &[u8], snapshot: bool, met: Members) -> Outline
 }
 
 // The entries of a side that was met once.
-fn once_listed(slot: Slot) -> Listing
+fn once_listed(slot: EntryMember) -> EntryArray
     ensures { λ r. ⌜ r ≡ onceListed slot ⌝ }
 {
     if slot.times == 1 {
         return slot.listing;
     }
-    let none = no_slot();
+    let none = no_entry_member();
     none.listing
 }
 
@@ -476,10 +476,10 @@ fn once_listed(slot: Slot) -> Listing
 fn numbers_outline(
     s: &[u8],
     snapshot: bool,
-    bids: Listing,
-    asks: Listing,
-    checksum: Mark,
-    gsn: Mark,
+    bids: EntryArray,
+    asks: EntryArray,
+    checksum: MemberSpan,
+    gsn: MemberSpan,
 ) -> Outline
     requires { ⌜ Placed (now s) checksum × Placed (now s) gsn ⌝ }
     ensures { λ r. ⌜ r ≡ numbersIn (now (s .entry)) snapshot bids asks checksum gsn ⌝ }
@@ -494,7 +494,7 @@ fn numbers_outline(
 }
 
 // The checksum, if its member was met once and holds one.
-fn checksum_of(s: &[u8], mark: Mark) -> ParsedChecksum
+fn checksum_of(s: &[u8], mark: MemberSpan) -> ParsedChecksum
     requires { ⌜ Placed (now s) mark ⌝ }
     ensures { λ r. ⌜ parsedChecksum r ≡ andThen (onceAt mark) (checksumAt (now (s .entry))) ⌝ }
 {
@@ -507,7 +507,7 @@ fn checksum_of(s: &[u8], mark: Mark) -> ParsedChecksum
 }
 
 // The sequence number, if its member was met once and holds one.
-fn gsn_of(s: &[u8], mark: Mark) -> ParsedWhole
+fn gsn_of(s: &[u8], mark: MemberSpan) -> ParsedWhole
     requires { ⌜ Placed (now s) mark ⌝ }
     ensures { λ r. ⌜ parsedWhole r ≡ andThen (onceAt mark) (wholeAt (now (s .entry))) ⌝ }
 {

@@ -26,7 +26,7 @@ const BLANK: u8 = 32;
 const MAX_PADDED: usize = 40000;
 
 // Settings; the name is a part of the input.
-struct Terms {
+struct Config {
     dialect: Dialect,
     depth: usize,
     from: usize,
@@ -59,8 +59,8 @@ fn run_lines(s: &[u8]) {
     }
 }
 
-fn no_terms() -> Terms {
-    Terms {
+fn no_terms() -> Config {
+    Config {
         dialect: Dialect::Unknown,
         depth: 0,
         from: 0,
@@ -69,7 +69,7 @@ fn no_terms() -> Terms {
 }
 
 // Runs the line from `from` to `to`, and answers the settings for the next one.
-fn run_line(s: &[u8], terms: Terms, from: usize, to: usize) -> Terms
+fn run_line(s: &[u8], terms: Config, from: usize, to: usize) -> Config
     requires { ⌜ (from ≤ to) × (to ≤ length (now s)) ⌝ }
 {
     if to - from < 2 {
@@ -93,7 +93,7 @@ fn run_line(s: &[u8], terms: Terms, from: usize, to: usize) -> Terms
     terms
 }
 
-fn read_terms(s: &[u8], from: usize, to: usize) -> Terms
+fn read_terms(s: &[u8], from: usize, to: usize) -> Config
     requires { ⌜ (from ≤ to) × (to ≤ length (now s)) ⌝ }
 {
     if to - from < 2 {
@@ -105,7 +105,7 @@ fn read_terms(s: &[u8], from: usize, to: usize) -> Terms
     if to <= end {
         return no_terms();
     }
-    Terms {
+    Config {
         dialect: dialect_of(c),
         depth: whole(&s[digits..end]),
         from: end + 1,
@@ -131,7 +131,7 @@ fn whole(s: &[u8]) -> usize {
     }
 }
 
-fn run_padded(s: &[u8], terms: Terms, from: usize, to: usize)
+fn run_padded(s: &[u8], terms: Config, from: usize, to: usize)
     requires { ⌜ (from ≤ to) × (to ≤ length (now s)) ⌝ }
 {
     let end = find(s, from, BLANK);
@@ -145,7 +145,7 @@ fn run_padded(s: &[u8], terms: Terms, from: usize, to: usize)
 }
 
 // Runs the message that the first bytes of a text are.
-fn run_front(s: &[u8], terms: Terms, text: &[u8], most: usize) {
+fn run_front(s: &[u8], terms: Config, text: &[u8], most: usize) {
     let from = 0;
     if most <= text.len() {
         run_message(s, terms, &text[from..most]);
@@ -168,7 +168,7 @@ fn pad(text: &[u8]) -> [u8; 40000]
     padded
 }
 
-fn run_message(s: &[u8], terms: Terms, text: &[u8]) {
+fn run_message(s: &[u8], terms: Config, text: &[u8]) {
     let from = terms.from;
     let to = terms.to;
     if from <= to {

@@ -14,7 +14,7 @@ use Rattle.decimal.specs.Decimal.{Number, read, isZero, value}
 use Rattle.decimal.specs.Limits.{Within}
 use Rattle.decimal.proofs.RoundTrip.{read-within}
 use Rattle.json.specs.Json.{Span}
-use Rattle.settings.specs.Settings.{Terms, isM, good, kept}
+use Rattle.settings.specs.Settings.{Config, isM, good, kept}
 use Rattle.settings.specs.declared.Dialect.{Dialect}
 use Rattle.settings.specs.declared.Dialect.the-variants.{K, M, Unknown}
 use Rattle.entries.specs.Places.{inner}
@@ -22,7 +22,7 @@ use Rattle.entries.specs.Rows.{Row, numberAt, badPrice, badSize, badTexts}
 use Rattle.entries.specs.Summary.{anyBroken}
 use Rattle.entries.proofs.Claims.{broken-none, zero-none}
 use Rattle.level.specs.Level.{PriceLevel, shownPrice}
-use Rattle.level.specs.Side.{Edit, sets, removes, before, place, apply, applyAll, ranked, namesTwice}
+use Rattle.level.specs.Side.{Edit, sets, removes, nearer, place, apply, applyAll, ranked, namesTwice}
 use Rattle.level.specs.Ranked.{All, IfSet, Sorted, Distinct}
 use Rattle.level.specs.declared.Side.{Side}
 use Rattle.level.specs.declared.Side.the-variants.{Bids, Asks}
@@ -32,15 +32,15 @@ use Rattle.level.proofs.Lengths.{length-ranked}
 use Rattle.entries.proofs.Numbers.{number-within}
 use Rattle.crc32_spec.specs.Crc.{crc, run}
 use Rattle.writer.specs.Snapshot.{kSnapshot, mSnapshot}
-use Rattle.checksum.specs.Text.{interleaved, colonJoined, mText, mChecksum}
+use Rattle.checksum.specs.Text.{interleaved, colonJoined, mChecksumText, mChecksum}
 use Rattle.layout.specs.Layout.{Printed, printed, unprinted, Layout}
-use Rattle.message.specs.Meaning.{Quote, quoteAt, Message, messageOf, Checked, fails, passes, bad, checked, saidOf, said, says, refuses}
+use Rattle.message.specs.Meaning.{LevelChange, levelChangeAt, Message, messageOf, Checked, fails, passes, bad, checked, decodedOf, decode, decodes, refuses}
 use Rattle.answer.specs.declared.Answer.the-variants.{Taken}
 use Rattle.message.proofs.Where.{LieIn, entryIn, framed-lies}
 use Rattle.message.proofs.Entering.{Readable, is-k, is-m, good-readable, also-framed}
-use Rattle.round_trip.specs.Claims.{quoteOf, Positive, FineLevel, Each, each-none, each-more, Fine}
+use Rattle.round_trip.specs.Claims.{levelChangeOf, Positive, ValidLevel, Each, each-none, each-more, Valid}
 use Rattle.round_trip.proofs.Claims.{k-round-trip, m-round-trip}
-use Rattle.reference.specs.Reference.{Status, shut, waiting, live, isShut, isLive, Reference, opened, editOf, cut, afterQuotes, bidsAfter, asksAfter, pricesOf, checksumOf, taken, After, hear, textIn, snapshotText, Ask, does, Call, final, withStatus}
+use Rattle.reference.specs.Reference.{Status, shut, waiting, live, isShut, isLive, Reference, opened, editOf, cut, afterChanges, bidsAfter, asksAfter, pricesOf, checksumOf, taken, After, receive, textIn, snapshotText, Ask, does, Call, final, withStatus}
 use Rattle.reference.specs.Claims.{Ready, restarts, Agrees, carries-none, the-same, Acceptable, ReadsBack, Round-trip}
 use Rattle.reference.proofs.Outcome.{or-none, ready-open, acceptable-taken}
 use Rattle.reference.proofs.Carried.{said-carries}
@@ -52,7 +52,7 @@ use Rattle.settings.proofs.Depth.{good-depth}
 abbrev key : PriceLevel → ℕ
 key x = value (shownPrice x)
 
-before-differs : (side : Side) (a b : ℕ) → before side a b ≡ true → a ≡ b → ⊥
+before-differs : (side : Side) (a b : ℕ) → nearer side a b ≡ true → a ≡ b → ⊥
 before-differs Bids a b h e = let l : b < a = ltb-true b a h in omega arith
 before-differs Asks a b h e = let l : a < b = ltb-true a b h in omega arith
 
@@ -63,12 +63,12 @@ module _ (side : Side) where
   at-end P [] x q h = h .0
   at-end P (y ∷ p) x q h = at-end P p x q (h .1)
 
-  sorted-before : (p : List PriceLevel) (x : PriceLevel) (q : List PriceLevel) → Sorted shownPrice side (p ++ (x ∷ q)) → All (λ y. before side (key y) (key x) ≡ true) p
+  sorted-before : (p : List PriceLevel) (x : PriceLevel) (q : List PriceLevel) → Sorted shownPrice side (p ++ (x ∷ q)) → All (λ y. nearer side (key y) (key x) ≡ true) p
   unfolding All Sorted
   sorted-before [] x q h = tt
-  sorted-before (y ∷ p) x q h = (at-end (λ z. before side (key y) (key z) ≡ true) p x q (h .0), sorted-before p x q (h .1))
+  sorted-before (y ∷ p) x q h = (at-end (λ z. nearer side (key y) (key z) ≡ true) p x q (h .0), sorted-before p x q (h .1))
 
-  all-differ : (x : PriceLevel) (p : List PriceLevel) → All (λ y. before side (key y) (key x) ≡ true) p → All (λ y. key y ≡ key x → ⊥) p
+  all-differ : (x : PriceLevel) (p : List PriceLevel) → All (λ y. nearer side (key y) (key x) ≡ true) p → All (λ y. key y ≡ key x → ⊥) p
   unfolding All
   all-differ x [] h = tt
   all-differ x (y ∷ p) h = (before-differs side (key y) (key x) (h .0), all-differ x p (h .1))
@@ -92,24 +92,24 @@ module _ (side : Side) where
   side-back q h = sets-back q [] [] h refl
 
 -- the entries of a snapshot of it
-fine-sets : (q : List PriceLevel) → All FineLevel q → map editOf (map quoteOf q) ≡ map sets q
-unfolding All editOf quoteOf
+fine-sets : (q : List PriceLevel) → All ValidLevel q → map editOf (map levelChangeOf q) ≡ map sets q
+unfolding All editOf levelChangeOf
 fine-sets [] h = refl
 fine-sets (x ∷ q) h = let z = h .0 .size .some in ap₂ (λ (e : Edit PriceLevel) (l : List (Edit PriceLevel)). e ∷ l) (rw z) (fine-sets q (h .1))
 
-prices-back : (q : List PriceLevel) → pricesOf (map quoteOf q) ≡ map shownPrice q
-unfolding quoteOf
+prices-back : (q : List PriceLevel) → pricesOf (map levelChangeOf q) ≡ map shownPrice q
+unfolding levelChangeOf
 prices-back [] = refl
 prices-back (x ∷ q) = ap (λ (l : List Number). x .price ∷ l) (prices-back q)
 
-each-fine : (q : List PriceLevel) → All FineLevel q → Each FineLevel q
+each-fine : (q : List PriceLevel) → All ValidLevel q → Each ValidLevel q
 unfolding All
 each-fine [] h = each-none
 each-fine (x ∷ q) h = each-more (h .0) (each-fine q (h .1))
 
 -- ---- the quotes of a message that passes check 8
 
-pub record Offer (q : Quote) : Type 0 where
+pub record Offer (q : LevelChange) : Type 0 where
   pub price : Positive (q .price)
   pub size : Within (q .size)
 
@@ -121,27 +121,27 @@ price-positive s a h = go (read (inner s a)) refl h
     go (reads n) q g = record { within = read-within (inner s a) n q; some = g }
     go refused q g = absurd (true≢false g)
 
-offers : (s : List ℕ) (rows : List Row) → anyBroken s rows ≡ false → All Offer (map (quoteAt s) rows)
-unfolding All anyBroken quoteAt
+offers : (s : List ℕ) (rows : List Row) → anyBroken s rows ≡ false → All Offer (map (levelChangeAt s) rows)
+unfolding All anyBroken levelChangeAt
 offers s [] h = tt
 offers s (r ∷ l) h =
     let a = or-none (badPrice s (r .price) || badSize false s (r .size)) (anyBroken s l) h in
     let b = or-none (badPrice s (r .price)) (badSize false s (r .size)) (a .0) in
     (record { price = price-positive s (r .price) (b .0); size = number-within s (r .size) }, offers s l (a .1))
 
-texts-offers : (snapshot : Bool) (s : List ℕ) (rows : List Row) → badTexts snapshot s rows ≡ [] → All Offer (map (quoteAt s) rows)
+texts-offers : (snapshot : Bool) (s : List ℕ) (rows : List Row) → badTexts snapshot s rows ≡ [] → All Offer (map (levelChangeAt s) rows)
 texts-offers true s rows h = offers s rows (zero-none s rows h .0)
 texts-offers false s rows h = offers s rows (broken-none s rows h)
 
-offer-edit : (q : Quote) → Offer q → IfSet FineLevel (editOf q)
+offer-edit : (q : LevelChange) → Offer q → IfSet ValidLevel (editOf q)
 unfolding editOf IfSet
 offer-edit q o = at (isZero (q .size)) refl
   where
-    at : (b : Bool) → isZero (q .size) ≡ b → IfSet {A = PriceLevel} FineLevel (cond b (removes (q .price)) (sets (record { price = q .price; size = q .size })))
+    at : (b : Bool) → isZero (q .size) ≡ b → IfSet {A = PriceLevel} ValidLevel (cond b (removes (q .price)) (sets (record { price = q .price; size = q .size })))
     at true e = tt
     at false e = record { price = o .price; size = record { within = o .size; some = e } }
 
-offer-edits : (qs : List Quote) → All Offer qs → All (IfSet FineLevel) (map editOf qs)
+offer-edits : (qs : List LevelChange) → All Offer qs → All (IfSet ValidLevel) (map editOf qs)
 unfolding All
 offer-edits [] h = tt
 offer-edits (q ∷ qs) h = (offer-edit q (h .0), offer-edits qs (h .1))
@@ -158,11 +158,11 @@ pub record Understood (m : Message) : Type 0 where
   pub small : m .number < 10 ^ 19
   pub low : (n : ℕ) → m .checksum ≡ printed n → n ≤ 4294967295
 
-understood : (t : Terms) (s : List ℕ) (m : Message) → said t s ≡ says m → Understood m
-unfolding said saidOf messageOf bad
+understood : (t : Config) (s : List ℕ) (m : Message) → decode t s ≡ decodes m → Understood m
+unfolding decode decodedOf messageOf bad
 understood t s m h = go (checked t s) refl h
   where
-    go : (x : Checked) → checked t s ≡ x → saidOf s x ≡ says m → Understood m
+    go : (x : Checked) → checked t s ≡ x → decodedOf s x ≡ decodes m → Understood m
     go (fails a) q g = let z : _≡_ {A = ℕ} 0 1 = cc in absurd (omega arith)
     go (passes l) q g =
         let e : messageOf s l ≡ m = cc in
@@ -180,80 +180,80 @@ understood t s m h = go (checked t s) refl h
 
 pub record SaneSide (side : Side) (depth : ℕ) (s : List PriceLevel) : Type 0 where
   pub sorted : Sorted shownPrice side s
-  pub fine : All FineLevel s
+  pub fine : All ValidLevel s
   pub few : length s ≤ depth
 
 pub record Sane (p : Reference) : Type 0 where
-  pub bids : SaneSide Bids (p .terms .depth) (p .bids)
-  pub asks : SaneSide Asks (p .terms .depth) (p .asks)
+  pub bids : SaneSide Bids (p .config .depth) (p .bids)
+  pub asks : SaneSide Asks (p .config .depth) (p .asks)
   pub small : p .number < 10 ^ 19
   -- an M book's checksum was compared with one that a message carried
-  pub low : p .terms .dialect ≡ M → mChecksum (p .bids) (p .asks) ≤ 4294967295
+  pub low : p .config .dialect ≡ M → mChecksum (p .bids) (p .asks) ≤ 4294967295
 
 empty-sane : (side : Side) (depth : ℕ) → SaneSide side depth []
 unfolding Sorted All
 empty-sane side depth = record { sorted = tt; fine = tt; few = omega arith }
 
 -- a side after a message
-module _ (t : Terms) (g : good t ≡ true) (side : Side) (qs : List Quote) (base : List PriceLevel) (h : SaneSide side (t .depth) base) (o : All Offer qs) where
+module _ (t : Config) (g : good t ≡ true) (side : Side) (qs : List LevelChange) (base : List PriceLevel) (h : SaneSide side (t .depth) base) (o : All Offer qs) where
   abbrev worked : List PriceLevel
   worked = applyAll shownPrice (map editOf qs) base
 
   worked-sorted : Sorted shownPrice side (ranked shownPrice side worked)
   worked-sorted = ranked-sorted shownPrice side worked (distinct-applyAll shownPrice (map editOf qs) base (sorted-distinct shownPrice side base (h .sorted)))
 
-  worked-fine : All FineLevel (ranked shownPrice side worked)
-  worked-fine = all-ranked shownPrice FineLevel side worked (all-applyAll shownPrice FineLevel (map editOf qs) base (offer-edits qs o) (h .fine))
+  worked-fine : All ValidLevel (ranked shownPrice side worked)
+  worked-fine = all-ranked shownPrice ValidLevel side worked (all-applyAll shownPrice ValidLevel (map editOf qs) base (offer-edits qs o) (h .fine))
 
-  after-sane : (t .dialect ≡ M → length (afterQuotes t side qs base) ≤ 100) → SaneSide side (t .depth) (afterQuotes t side qs base)
-  unfolding afterQuotes cut isM
+  after-sane : (t .dialect ≡ M → length (afterChanges t side qs base) ≤ 100) → SaneSide side (t .depth) (afterChanges t side qs base)
+  unfolding afterChanges cut isM
   after-sane few = go (good-readable t g) refl few (good-depth t g .1)
     where
       go : {d : Dialect} → Readable d → t .dialect ≡ d → (t .dialect ≡ M → length (cut (t .dialect) (t .depth) (ranked shownPrice side worked)) ≤ 100) → (isM (t .dialect) ≡ true → t .depth ≡ 100)
           → SaneSide side (t .depth) (cut (t .dialect) (t .depth) (ranked shownPrice side worked))
       go is-k e f x =
           let n = length-take (t .depth) (ranked shownPrice side worked) in
-          rw e (record { sorted = sorted-take shownPrice side (t .depth) (ranked shownPrice side worked) worked-sorted; fine = all-take FineLevel (t .depth) (ranked shownPrice side worked) worked-fine; few = omega arith })
+          rw e (record { sorted = sorted-take shownPrice side (t .depth) (ranked shownPrice side worked) worked-sorted; fine = all-take ValidLevel (t .depth) (ranked shownPrice side worked) worked-fine; few = omega arith })
       go is-m e f x =
           let y : t .depth ≡ 100 = x (ap isM e) in
           let l : length (cut (t .dialect) (t .depth) (ranked shownPrice side worked)) ≤ 100 = f e in
           let l′ : length (ranked shownPrice side worked) ≤ 100 = subst (λ (d : Dialect). length (cut d (t .depth) (ranked shownPrice side worked)) ≤ 100) e l in
           rw e (record { sorted = worked-sorted; fine = worked-fine; few = omega arith })
 
-sane-opened : (t : Terms) → Sane (opened t)
-unfolding opened mChecksum mText interleaved colonJoined crc run
+sane-opened : (t : Config) → Sane (opened t)
+unfolding opened mChecksum mChecksumText interleaved colonJoined crc run
 sane-opened t = record { bids = empty-sane Bids (kept t .depth); asks = empty-sane Asks (kept t .depth); small = lit< tt; low = λ e. none-low }
   where
     none-low : mChecksum [] [] ≤ 4294967295
     none-low = let e : mChecksum [] [] ≡ 0 = refl in omega arith
 
-module _ (p : Reference) (s : List ℕ) (m : Message) (q : said (p .terms) s ≡ says m) (a : Acceptable p m) (g : good (p .terms) ≡ true) (h : Sane p) where
+module _ (p : Reference) (s : List ℕ) (m : Message) (q : decode (p .config) s ≡ decodes m) (a : Acceptable p m) (g : good (p .config) ≡ true) (h : Sane p) where
   u : Understood m
-  u = understood (p .terms) s m q
+  u = understood (p .config) s m q
 
-  bids-sane : SaneSide Bids (p .terms .depth) (bidsAfter p m)
+  bids-sane : SaneSide Bids (p .config .depth) (bidsAfter p m)
   unfolding bidsAfter
   bids-sane = at (m .snapshot) refl
     where
-      at : (b : Bool) → m .snapshot ≡ b → SaneSide Bids (p .terms .depth) (afterQuotes (p .terms) Bids (m .bids) (cond (m .snapshot) [] (p .bids)))
-      at true e = after-sane (p .terms) g Bids (m .bids) (cond (m .snapshot) [] (p .bids)) (rw e (empty-sane Bids (p .terms .depth))) (u .bids) (λ k. a .few k .0)
-      at false e = after-sane (p .terms) g Bids (m .bids) (cond (m .snapshot) [] (p .bids)) (rw e (h .bids)) (u .bids) (λ k. a .few k .0)
+      at : (b : Bool) → m .snapshot ≡ b → SaneSide Bids (p .config .depth) (afterChanges (p .config) Bids (m .bids) (cond (m .snapshot) [] (p .bids)))
+      at true e = after-sane (p .config) g Bids (m .bids) (cond (m .snapshot) [] (p .bids)) (rw e (empty-sane Bids (p .config .depth))) (u .bids) (λ k. a .few k .0)
+      at false e = after-sane (p .config) g Bids (m .bids) (cond (m .snapshot) [] (p .bids)) (rw e (h .bids)) (u .bids) (λ k. a .few k .0)
 
-  asks-sane : SaneSide Asks (p .terms .depth) (asksAfter p m)
+  asks-sane : SaneSide Asks (p .config .depth) (asksAfter p m)
   unfolding asksAfter
   asks-sane = at (m .snapshot) refl
     where
-      at : (b : Bool) → m .snapshot ≡ b → SaneSide Asks (p .terms .depth) (afterQuotes (p .terms) Asks (m .asks) (cond (m .snapshot) [] (p .asks)))
-      at true e = after-sane (p .terms) g Asks (m .asks) (cond (m .snapshot) [] (p .asks)) (rw e (empty-sane Asks (p .terms .depth))) (u .asks) (λ k. a .few k .1)
-      at false e = after-sane (p .terms) g Asks (m .asks) (cond (m .snapshot) [] (p .asks)) (rw e (h .asks)) (u .asks) (λ k. a .few k .1)
+      at : (b : Bool) → m .snapshot ≡ b → SaneSide Asks (p .config .depth) (afterChanges (p .config) Asks (m .asks) (cond (m .snapshot) [] (p .asks)))
+      at true e = after-sane (p .config) g Asks (m .asks) (cond (m .snapshot) [] (p .asks)) (rw e (empty-sane Asks (p .config .depth))) (u .asks) (λ k. a .few k .1)
+      at false e = after-sane (p .config) g Asks (m .asks) (cond (m .snapshot) [] (p .asks)) (rw e (h .asks)) (u .asks) (λ k. a .few k .1)
 
-  taken-low : p .terms .dialect ≡ M → mChecksum (bidsAfter p m) (asksAfter p m) ≤ 4294967295
+  taken-low : p .config .dialect ≡ M → mChecksum (bidsAfter p m) (asksAfter p m) ≤ 4294967295
   unfolding checksumOf
   taken-low e = go (a .checksum)
     where
-      go : Agrees (m .checksum) (checksumOf (p .terms .dialect) (bidsAfter p m) (asksAfter p m)) → mChecksum (bidsAfter p m) (asksAfter p m) ≤ 4294967295
+      go : Agrees (m .checksum) (checksumOf (p .config .dialect) (bidsAfter p m) (asksAfter p m)) → mChecksum (bidsAfter p m) (asksAfter p m) ≤ 4294967295
       go (carries-none c) =
-          let k = said-carries (p .terms) s m q .compared c .0 in
+          let k = said-carries (p .config) s m q .compared c .0 in
           let z : _≡_ {A = Dialect} M K = sym e ∙ k in
           let w : _≡_ {A = ℕ} 1 0 = ap (λ (d : Dialect). elim d [ K ↦ 0 | M ↦ 1 | Unknown ↦ 2 ]) z in
           absurd (omega arith)
@@ -263,20 +263,20 @@ module _ (p : Reference) (s : List ℕ) (m : Message) (q : said (p .terms) s ≡
   unfolding taken
   sane-taken = record { bids = bids-sane; asks = asks-sane; small = u .small; low = taken-low }
 
-good-kept : (t : Terms) (p : Reference) → Reached t p → isShut (p .status) ≡ false → good (p .terms) ≡ true
+good-kept : (t : Config) (p : Reference) → Reached t p → isShut (p .status) ≡ false → good (p .config) ≡ true
 unfolding opened kept isShut
 good-kept t p r h = at (good t) refl (sym (r .shut) ∙ h)
   where
-    at : (b : Bool) → good t ≡ b → isShut (cond (good t) waiting shut) ≡ false → good (p .terms) ≡ true
-    at true e k = ap good (r .terms) ∙ rw e e
+    at : (b : Bool) → good t ≡ b → isShut (cond (good t) waiting shut) ≡ false → good (p .config) ≡ true
+    at true e k = ap good (r .config) ∙ rw e e
     at false e k = absurd (true≢false (sym (rw e) ∙ k))
 
-sane-step : (t : Terms) (p : Reference) (ask : Ask) (q : Reference) → Reached t p → Steps p ask q → Sane p → Sane q
+sane-step : (t : Config) (p : Reference) (ask : Ask) (q : Reference) → Reached t p → Steps p ask q → Sane p → Sane q
 unfolding withStatus
 sane-step t p ask q r (stays status k l n e) h = rw e (record { bids = h .bids; asks = h .asks; small = h .small; low = h .low })
 sane-step t p ask q r (moves s m d a n e) h = rw e (sane-taken p s m d a (good-kept t p r (ready-open p m (a .ready))) h)
 
-sane-final : (t : Terms) (p : Reference) (cs : List Call) → Reached t p → Sane p → Sane (final p cs)
+sane-final : (t : Config) (p : Reference) (cs : List Call) → Reached t p → Sane p → Sane (final p cs)
 unfolding final
 sane-final t p [] r h = h
 sane-final t p (c ∷ cs) r h =
@@ -284,48 +284,48 @@ sane-final t p (c ∷ cs) r h =
     let x = steps p (c .ask) (c .buffer) in
     sane-final t q cs (reached-step t p (c .ask) q x r) (sane-step t p (c .ask) q r x h)
 
-pub sane : (t : Terms) (cs : List Call) → Sane (final (opened t) cs)
+pub sane : (t : Config) (cs : List Call) → Sane (final (opened t) cs)
 sane t cs = sane-final t (opened t) cs (reached-opened t) (sane-opened t)
 
 -- ---- reading back
 
 -- the snapshot of a sane side gives the side again
-module _ (t : Terms) (g : good t ≡ true) (side : Side) (l : List PriceLevel) (h : SaneSide side (t .depth) l) where
-  pub back : afterQuotes t side (map quoteOf l) [] ≡ l
-  unfolding afterQuotes cut
+module _ (t : Config) (g : good t ≡ true) (side : Side) (l : List PriceLevel) (h : SaneSide side (t .depth) l) where
+  pub back : afterChanges t side (map levelChangeOf l) [] ≡ l
+  unfolding afterChanges cut
   back = go (good-readable t g) refl
     where
-      is : ranked shownPrice side (applyAll shownPrice (map editOf (map quoteOf l)) []) ≡ l
+      is : ranked shownPrice side (applyAll shownPrice (map editOf (map levelChangeOf l)) []) ≡ l
       is = ap (λ (x : List (Edit PriceLevel)). ranked shownPrice side (applyAll shownPrice x [])) (fine-sets l (h .fine)) ∙ side-back side l (h .sorted)
 
-      go : {d : Dialect} → Readable d → t .dialect ≡ d → cut (t .dialect) (t .depth) (ranked shownPrice side (applyAll shownPrice (map editOf (map quoteOf l)) [])) ≡ l
+      go : {d : Dialect} → Readable d → t .dialect ≡ d → cut (t .dialect) (t .depth) (ranked shownPrice side (applyAll shownPrice (map editOf (map levelChangeOf l)) [])) ≡ l
       go is-k e = rw e (ap (take (t .depth)) is ∙ take-all (t .depth) l (h .few))
       go is-m e = rw e is
 
-  pub back-fine : Fine l
+  pub back-fine : Valid l
   back-fine = let d = good-depth t g .0 in let f = h .few in record { few = omega arith; each = each-fine l (h .fine) }
 
-  pub back-once : namesTwice (pricesOf (map quoteOf l)) ≡ false
+  pub back-once : namesTwice (pricesOf (map levelChangeOf l)) ≡ false
   back-once = ap namesTwice (prices-back l) ∙ distinct-once shownPrice l (sorted-distinct shownPrice side l (h .sorted))
 
 -- the message that a snapshot of a book is
 snapshotOf : Reference → Printed → Message
-snapshotOf p c = record { snapshot = true; bids = map quoteOf (p .bids); asks = map quoteOf (p .asks); checksum = c; number = p .number }
+snapshotOf p c = record { snapshot = true; bids = map levelChangeOf (p .bids); asks = map levelChangeOf (p .asks); checksum = c; number = p .number }
 
-module _ (t : Terms) (p : Reference) (r : Reached t p) (h : Sane p) (g : good t ≡ true) where
-  same-terms : p .terms ≡ t
+module _ (t : Config) (p : Reference) (r : Reached t p) (h : Sane p) (g : good t ≡ true) where
+  same-terms : p .config ≡ t
   unfolding kept
-  same-terms = r .terms ∙ rw g
+  same-terms = r .config ∙ rw g
 
-  open-terms : opened t .terms ≡ t
+  open-terms : opened t .config ≡ t
   unfolding opened kept
   open-terms = rw g
 
   abbrev at-bids : SaneSide Bids (t .depth) (p .bids)
-  at-bids = subst (λ (x : Terms). SaneSide Bids (x .depth) (p .bids)) same-terms (h .bids)
+  at-bids = subst (λ (x : Config). SaneSide Bids (x .depth) (p .bids)) same-terms (h .bids)
 
   abbrev at-asks : SaneSide Asks (t .depth) (p .asks)
-  at-asks = subst (λ (x : Terms). SaneSide Asks (x .depth) (p .asks)) same-terms (h .asks)
+  at-asks = subst (λ (x : Config). SaneSide Asks (x .depth) (p .asks)) same-terms (h .asks)
 
   module _ (c : Printed) where
     bids-back : bidsAfter (opened t) (snapshotOf p c) ≡ p .bids
@@ -352,10 +352,10 @@ module _ (t : Terms) (p : Reference) (r : Reached t p) (h : Sane p) (g : good t 
         open-status : opened t .status ≡ waiting
         open-status = rw g
 
-    read-back : said t (snapshotText p) ≡ says (snapshotOf p c) → Agrees c (checksumOf (t .dialect) (p .bids) (p .asks)) → ReadsBack t p
+    read-back : decode t (snapshotText p) ≡ decodes (snapshotOf p c) → Agrees c (checksumOf (t .dialect) (p .bids) (p .asks)) → ReadsBack t p
     unfolding taken snapshotOf
     read-back q x =
-        let q′ : said (opened t .terms) (snapshotText p) ≡ says (snapshotOf p c) = subst (λ (y : Terms). said y (snapshotText p) ≡ says (snapshotOf p c)) (sym open-terms) q in
+        let q′ : decode (opened t .config) (snapshotText p) ≡ decodes (snapshotOf p c) = subst (λ (y : Config). decode y (snapshotText p) ≡ decodes (snapshotOf p c)) (sym open-terms) q in
         let e = acceptable-taken (opened t) (snapshotText p) (snapshotOf p c) q′ (acceptable-back x) in
         record {
           answer = ap (λ (y : After). y .answer) e;
@@ -373,17 +373,17 @@ module _ (t : Terms) (p : Reference) (r : Reached t p) (h : Sane p) (g : good t 
 
   text-in : (d : Dialect) → t .dialect ≡ d → snapshotText p ≡ textIn d p
   unfolding snapshotText
-  text-in d e = ap (λ (x : Terms). textIn (x .dialect) p) same-terms ∙ ap (λ (x : Dialect). textIn x p) e
+  text-in d e = ap (λ (x : Config). textIn (x .dialect) p) same-terms ∙ ap (λ (x : Dialect). textIn x p) e
 
   k-back : t .dialect ≡ K → ReadsBack t p
   unfolding snapshotOf textIn
   k-back e =
       let i = in-dialect K e in
-      let g′ : good (record { dialect = K; depth = t .depth; name = t .name }) ≡ true = subst (λ (x : Terms). good x ≡ true) (sym i) g in
+      let g′ : good (record { dialect = K; depth = t .depth; name = t .name }) ≡ true = subst (λ (x : Config). good x ≡ true) (sym i) g in
       let w = k-round-trip (t .depth) (t .name) (p .bids) (p .asks) g′ (back-fine t g Bids (p .bids) at-bids) (back-fine t g Asks (p .asks) at-asks) in
-      let n : p .number ≡ 0 = r .number (ap (λ (x : Terms). x .dialect) (sym (r .terms) ∙ same-terms) ∙ e) in
-      let x : snapshotText p ≡ kSnapshot (t .depth) (t .name) (p .bids) (p .asks) = text-in K e ∙ ap (λ (y : Terms). kSnapshot (y .depth) (y .name) (p .bids) (p .asks)) same-terms in
-      let q : said t (snapshotText p) ≡ says (snapshotOf p unprinted) = ap₂ said (sym i) x ∙ w ∙ rw n in
+      let n : p .number ≡ 0 = r .number (ap (λ (x : Config). x .dialect) (sym (r .config) ∙ same-terms) ∙ e) in
+      let x : snapshotText p ≡ kSnapshot (t .depth) (t .name) (p .bids) (p .asks) = text-in K e ∙ ap (λ (y : Config). kSnapshot (y .depth) (y .name) (p .bids) (p .asks)) same-terms in
+      let q : decode t (snapshotText p) ≡ decodes (snapshotOf p unprinted) = ap₂ decode (sym i) x ∙ w ∙ rw n in
       read-back unprinted q (carries-none refl)
 
   m-back : t .dialect ≡ M → ReadsBack t p
@@ -392,12 +392,12 @@ module _ (t : Terms) (p : Reference) (r : Reached t p) (h : Sane p) (g : good t 
       let i = in-dialect M e in
       let d : t .depth ≡ 100 = good-depth t g .1 (ap isM e) in
       let j : record { dialect = M; depth = 100; name = t .name } ≡ t = ap (λ (x : ℕ). record { dialect = M; depth = x; name = t .name }) (sym d) ∙ i in
-      let g′ : good (record { dialect = M; depth = 100; name = t .name }) ≡ true = subst (λ (x : Terms). good x ≡ true) (sym j) g in
+      let g′ : good (record { dialect = M; depth = 100; name = t .name }) ≡ true = subst (λ (x : Config). good x ≡ true) (sym j) g in
       let sum : ℕ = mChecksum (p .bids) (p .asks) in
-      let low = h .low (ap (λ (x : Terms). x .dialect) same-terms ∙ e) in
+      let low = h .low (ap (λ (x : Config). x .dialect) same-terms ∙ e) in
       let w = m-round-trip (t .name) (p .bids) (p .asks) sum (p .number) g′ (back-fine t g Bids (p .bids) at-bids) (back-fine t g Asks (p .asks) at-asks) low (h .small) in
-      let x : snapshotText p ≡ mSnapshot (t .name) (p .bids) (p .asks) sum (p .number) = text-in M e ∙ ap (λ (y : Terms). mSnapshot (y .name) (p .bids) (p .asks) sum (p .number)) same-terms in
-      let q : said t (snapshotText p) ≡ says (snapshotOf p (printed sum)) = ap₂ said (sym j) x ∙ w in
+      let x : snapshotText p ≡ mSnapshot (t .name) (p .bids) (p .asks) sum (p .number) = text-in M e ∙ ap (λ (y : Config). mSnapshot (y .name) (p .bids) (p .asks) sum (p .number)) same-terms in
+      let q : decode t (snapshotText p) ≡ decodes (snapshotOf p (printed sum)) = ap₂ decode (sym j) x ∙ w in
       read-back (printed sum) q (the-same (rw e))
 
   pub either-back : ReadsBack t p
@@ -407,7 +407,7 @@ module _ (t : Terms) (p : Reference) (r : Reached t p) (h : Sane p) (g : good t 
       go is-k e = k-back e
       go is-m e = m-back e
 
-live-good : (t : Terms) (p : Reference) → Reached t p → isLive (p .status) ≡ true → good t ≡ true
+live-good : (t : Config) (p : Reference) → Reached t p → isLive (p .status) ≡ true → good t ≡ true
 unfolding opened isShut isLive
 live-good t p r l = at (good t) refl (p .status) refl
   where

@@ -8,16 +8,16 @@ use native.Mathlib.Omega.{arith}
 use Rattle.text.specs.Text.{ascii}
 use Rattle.decimal.specs.Digits.{Reading, reads, refused}
 use Rattle.json.specs.Json.{Span, Pair, maxDepth}
-use Rattle.settings.specs.Settings.{Terms}
+use Rattle.settings.specs.Settings.{Config}
 use Rattle.settings.specs.declared.Dialect.{Dialect}
 use Rattle.settings.specs.declared.Dialect.the-variants.{K, M, Unknown}
 use Rattle.entries.specs.Places.{andThen, all, top, arrayAt, objectAt, valuesOf, only, wholeAt, checksumAt, quotedChecksumAt}
-use Rattle.layout.specs.Layout.{Printed, printed, unprinted, Listed, Layout, Heard, laid}
-use Rattle.message_k.specs.LayoutK.{Frame, frameOf, together, isSnapshot, isUpdate, objectsLayout, layoutK, heardK}
+use Rattle.layout.specs.Layout.{Printed, printed, unprinted, Listed, Layout, Envelope, laid}
+use Rattle.message_k.specs.LayoutK.{Frame, frameOf, together, isSnapshot, isUpdate, objectsLayout, layoutK, envelopeK}
 use Rattle.message_k.specs.LayoutK as k·
-use Rattle.message_m.specs.LayoutM.{isSnapshotAt, layoutM, heardM}
+use Rattle.message_m.specs.LayoutM.{isSnapshotAt, layoutM, envelopeM}
 use Rattle.message_m.specs.LayoutM as m·
-use Rattle.message.specs.Meaning.{Message, says, said, Checked, fails, passes, heardIn, checked, saidOf, messageOf}
+use Rattle.message.specs.Meaning.{Message, decodes, decode, Checked, fails, passes, envelopeIn, checked, decodedOf, messageOf}
 use Rattle.reference.specs.Claims.{Carries}
 use Rattle.reference.proofs.Checks.{Refusals, Read, Either, checked-either}
 
@@ -85,24 +85,24 @@ m-carries s ms =
     P : Layout → Type 0
     P = Carrying M
 
-abbrev Heard-carries : Dialect → Heard → Type 0
+abbrev Heard-carries : Dialect → Envelope → Type 0
 Heard-carries d h = Read (Carrying d) (h .layout)
 
-heard-carries : (d : Dialect) (t : Terms) (s : List ℕ) (a : Span) → Read (Heard-carries d) (heardIn d t s a)
-unfolding heardIn heardK heardM
+heard-carries : (d : Dialect) (t : Config) (s : List ℕ) (a : Span) → Read (Heard-carries d) (envelopeIn d t s a)
+unfolding envelopeIn envelopeK envelopeM
 heard-carries K t s a = then-read (Heard-carries K) (andThen (arrayAt maxDepth s a) frameOf) _ (k-carries s)
 heard-carries M t s a = then-read (Heard-carries M) (objectAt maxDepth s a) _ (m-carries s)
 heard-carries Unknown t s a = tt
 
 -- ---- the message
 
-pub said-carries : (t : Terms) (s : List ℕ) (m : Message) → said t s ≡ says m → Carries (t .dialect) (m .snapshot) (m .checksum) (m .number)
-unfolding said saidOf messageOf
+pub said-carries : (t : Config) (s : List ℕ) (m : Message) → decode t s ≡ decodes m → Carries (t .dialect) (m .snapshot) (m .checksum) (m .number)
+unfolding decode decodedOf messageOf
 said-carries t s m h = go (checked t s) (checked-either (λ a. Unit {0}) (Carrying (t .dialect)) none t s (heard-carries (t .dialect) t s (top s))) h
   where
     none : Refusals (λ a. Unit {0})
     none = record { long = tt; not-json = tt; escaped = tt; not-ours = tt; layout = tt; entries = tt; decimal = tt }
 
-    go : (x : Checked) → Either (λ a. Unit {0}) (Carrying (t .dialect)) x → saidOf s x ≡ says m → Carries (t .dialect) (m .snapshot) (m .checksum) (m .number)
+    go : (x : Checked) → Either (λ a. Unit {0}) (Carrying (t .dialect)) x → decodedOf s x ≡ decodes m → Carries (t .dialect) (m .snapshot) (m .checksum) (m .number)
     go (passes l) r g = let e : messageOf s l ≡ m = cc in rw (← e) r
     go (fails a) r g = let z : _≡_ {A = ℕ} 0 1 = cc in absurd (omega arith)

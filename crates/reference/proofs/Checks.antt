@@ -7,10 +7,10 @@ use lib.Dec.{ltb}
 use lib.ListN.{length}
 use Rattle.decimal.specs.Digits.{Reading, reads, refused}
 use Rattle.json.specs.Json.{Span, text}
-use Rattle.settings.specs.Settings.{Terms}
+use Rattle.settings.specs.Settings.{Config}
 use Rattle.entries.specs.Places.{top}
-use Rattle.layout.specs.Layout.{Layout, Heard}
-use Rattle.message.specs.Meaning.{Checked, fails, passes, tooMany, counted, laidOut, addressed, heardIn, framed, bad, decimals, alsoDecimals, checked, maxMessage}
+use Rattle.layout.specs.Layout.{Layout, Envelope}
+use Rattle.message.specs.Meaning.{Checked, fails, passes, tooMany, counted, laidOut, addressed, envelopeIn, framed, bad, decimals, alsoDecimals, checked, maxMessage}
 use Rattle.answer.specs.declared.Answer.{Answer}
 use Rattle.answer.specs.declared.Answer.the-variants.{TooLong, NotJson, Escaped, NotOurs, BadLayout, TooManyEntries, BadDecimal}
 
@@ -42,7 +42,7 @@ module _ (F : Answer → Type 0) (P : Layout → Type 0) (f : Refusals F) where
       at false = h
   laid-either refused h = f .layout
 
-  addressed-either : (x : Reading Heard) → Read (λ h. Read P (h .layout)) x → Either F P (addressed x)
+  addressed-either : (x : Reading Envelope) → Read (λ h. Read P (h .layout)) x → Either F P (addressed x)
   unfolding addressed
   addressed-either (reads h) r = at (h .escaped) (h .ours)
     where
@@ -52,13 +52,13 @@ module _ (F : Answer → Type 0) (P : Layout → Type 0) (f : Refusals F) where
       at false false = f .not-ours
   addressed-either refused r = f .not-ours
 
-  framed-either : (t : Terms) (s : List ℕ) → Read (λ h. Read P (h .layout)) (heardIn (t .dialect) t s (top s)) → Either F P (framed t s)
+  framed-either : (t : Config) (s : List ℕ) → Read (λ h. Read P (h .layout)) (envelopeIn (t .dialect) t s (top s)) → Either F P (framed t s)
   unfolding framed
   framed-either t s r = at (ltb maxMessage (length s)) (text s)
     where
-      at : (a b : Bool) → Either F P (cond a (fails TooLong) (cond b (addressed (heardIn (t .dialect) t s (top s))) (fails NotJson)))
+      at : (a b : Bool) → Either F P (cond a (fails TooLong) (cond b (addressed (envelopeIn (t .dialect) t s (top s))) (fails NotJson)))
       at true b = f .long
-      at false true = addressed-either (heardIn (t .dialect) t s (top s)) r
+      at false true = addressed-either (envelopeIn (t .dialect) t s (top s)) r
       at false false = f .not-json
 
   decimals-either : (s : List ℕ) (x : Checked) → Either F P x → Either F P (alsoDecimals s x)
@@ -70,6 +70,6 @@ module _ (F : Answer → Type 0) (P : Layout → Type 0) (f : Refusals F) where
       at [] = h
       at (a ∷ x) = f .decimal
 
-  pub checked-either : (t : Terms) (s : List ℕ) → Read (λ h. Read P (h .layout)) (heardIn (t .dialect) t s (top s)) → Either F P (checked t s)
+  pub checked-either : (t : Config) (s : List ℕ) → Read (λ h. Read P (h .layout)) (envelopeIn (t .dialect) t s (top s)) → Either F P (checked t s)
   unfolding checked
   checked-either t s r = decimals-either s (framed t s) (framed-either t s r)

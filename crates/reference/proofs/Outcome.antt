@@ -9,18 +9,18 @@ use borrow.Author.Tests.{ltb-false, le-ltb, leb-true, leb-false, lt-leb, eqb-tru
 use lib.Dec.{leb, ltb, eqb}
 use lib.ListN.{length}
 use Rattle.decimal.specs.Digits.{Reading, reads, refused}
-use Rattle.settings.specs.Settings.{Terms}
+use Rattle.settings.specs.Settings.{Config}
 use Rattle.settings.specs.declared.Dialect.{Dialect}
 use Rattle.settings.specs.declared.Dialect.the-variants.{K, M, Unknown}
 use Rattle.level.specs.Side.{namesTwice}
 use Rattle.entries.specs.Places.{top}
-use Rattle.layout.specs.Layout.{Printed, printed, unprinted, Layout, Heard}
-use Rattle.answer.specs.Answers.{number, oneOf, toMessages, isTaken, leavesStatus}
+use Rattle.layout.specs.Layout.{Printed, printed, unprinted, Layout, Envelope}
+use Rattle.answer.specs.Answers.{answerNumber, oneOf, toMessages, isTaken, leavesStatus}
 use Rattle.answer.proofs.Laws.{taken-answer}
-use Rattle.message.specs.Meaning.{Message, Said, refuses, says, said, Checked, fails, passes, heardIn, checked, saidOf}
+use Rattle.message.specs.Meaning.{Message, Decoded, refuses, decodes, decode, Checked, fails, passes, envelopeIn, checked, decodedOf}
 use Rattle.answer.specs.declared.Answer.{Answer}
 use Rattle.answer.specs.declared.Answer.the-variants.{Taken, Shut, TooLong, NotJson, Escaped, NotOurs, BadLayout, TooManyEntries, BadDecimal, PriceTwice, NoSnapshot, OldNumber, TooManyLevels, WrongChecksum, NoLevel, NoRoom}
-use Rattle.reference.specs.Reference.{Status, shut, waiting, live, isShut, isLive, Reference, checksumOf, pricesOf, namesPriceTwice, lacksSnapshot, isOld, hasTooMany, differs, hasWrongChecksum, bidsAfter, asksAfter, verdict, taken, withStatus, refusedBy, answered, hearing, hear}
+use Rattle.reference.specs.Reference.{Status, shut, waiting, live, isShut, isLive, Reference, checksumOf, pricesOf, namesPriceTwice, lacksSnapshot, isOld, hasTooMany, differs, hasWrongChecksum, bidsAfter, asksAfter, verdict, taken, withStatus, refusedBy, answered, received, receive}
 use Rattle.settings.specs.Settings.{isM}
 use Rattle.reference.proofs.Checks.{Refusals, Read, Either, checked-either}
 use Rattle.reference.specs.Claims.{statusAfter, Ready, is-live, restarts, Agrees, carries-none, the-same, Acceptable}
@@ -29,11 +29,11 @@ use Rattle.reference.specs.Claims.{statusAfter, Ready, is-live, restarts
 
 -- a refusal that a message can get
 refusal : Answer → Bool
-refusal a = not (isTaken a) && oneOf toMessages (number a)
+refusal a = not (isTaken a) && oneOf toMessages (answerNumber a)
 
-said-refusal : (t : Terms) (s : List ℕ) (a : Answer) → said t s ≡ refuses a → refusal a ≡ true
-unfolding said saidOf refusal isTaken number oneOf
-said-refusal t s a h = go (checked t s) (checked-either F (λ l. Unit {0}) every t s (any (heardIn (t .dialect) t s (top s)))) h
+said-refusal : (t : Config) (s : List ℕ) (a : Answer) → decode t s ≡ refuses a → refusal a ≡ true
+unfolding decode decodedOf refusal isTaken answerNumber oneOf
+said-refusal t s a h = go (checked t s) (checked-either F (λ l. Unit {0}) every t s (any (envelopeIn (t .dialect) t s (top s)))) h
   where
     F : Answer → Type 0
     F b = refusal b ≡ true
@@ -45,11 +45,11 @@ said-refusal t s a h = go (checked t s) (checked-either F (λ l. Unit {0}) every
     any-layout (reads l) = tt
     any-layout refused = tt
 
-    any : (x : Reading Heard) → Read (λ k. Read (λ l. Unit {0}) (k .layout)) x
+    any : (x : Reading Envelope) → Read (λ k. Read (λ l. Unit {0}) (k .layout)) x
     any (reads k) = any-layout (k .layout)
     any refused = tt
 
-    go : (x : Checked) → Either F (λ l. Unit {0}) x → saidOf s x ≡ refuses a → refusal a ≡ true
+    go : (x : Checked) → Either F (λ l. Unit {0}) x → decodedOf s x ≡ refuses a → refusal a ≡ true
     go (fails b) r g = let e : b ≡ a = cc in rw e at r
     go (passes l) r g = let z : _≡_ {A = ℕ} 0 1 = cc in absurd (omega arith)
 
@@ -57,11 +57,11 @@ refusal-other : (a : Answer) → refusal a ≡ true → isTaken a ≡ false
 unfolding refusal
 refusal-other a h = at (isTaken a) h
   where
-    at : (b : Bool) → (not b && oneOf toMessages (number a)) ≡ true → b ≡ false
+    at : (b : Bool) → (not b && oneOf toMessages (answerNumber a)) ≡ true → b ≡ false
     at true h = absurd (false≢true h)
     at false h = refl
 
-refusal-number : (a : Answer) → refusal a ≡ true → oneOf toMessages (number a) ≡ true
+refusal-number : (a : Answer) → refusal a ≡ true → oneOf toMessages (answerNumber a) ≡ true
 unfolding refusal
 refusal-number a h = rw (refusal-other a h) at h
 
@@ -99,7 +99,7 @@ agrees-same c sum (the-same e) = rw (e, differs, eq-eqb sum sum refl)
 none-fits : (a b c d e : Bool)
     → isTaken (cond a PriceTwice (cond b NoSnapshot (cond c OldNumber (cond d TooManyLevels (cond e WrongChecksum Taken))))) ≡ true
     → (a ≡ false) × (b ≡ false) × (c ≡ false) × (d ≡ false) × (e ≡ false)
-unfolding isTaken number
+unfolding isTaken answerNumber
 none-fits true b c d e h = absurd (false≢true h)
 none-fits false true c d e h = absurd (false≢true h)
 none-fits false false true d e h = absurd (false≢true h)
@@ -110,7 +110,7 @@ none-fits false false false false false h = (refl, refl, refl, refl, refl)
 some-fits : (a b c d e : Bool)
     → isTaken (cond a PriceTwice (cond b NoSnapshot (cond c OldNumber (cond d TooManyLevels (cond e WrongChecksum Taken))))) ≡ false
     → refusal (cond a PriceTwice (cond b NoSnapshot (cond c OldNumber (cond d TooManyLevels (cond e WrongChecksum Taken))))) ≡ true
-unfolding refusal isTaken number oneOf
+unfolding refusal isTaken answerNumber oneOf
 some-fits true b c d e h = refl
 some-fits false true c d e h = refl
 some-fits false false true d e h = refl
@@ -151,7 +151,7 @@ module _ (p : Reference) (m : Message) where
   unfolding verdict namesPriceTwice isOld hasTooMany hasWrongChecksum
   verdict-acceptable u h =
       let f = none-fits (namesPriceTwice m) (lacksSnapshot p m) (isOld p m) (hasTooMany p m) (hasWrongChecksum p m) h in
-      let d : Dialect = p .terms .dialect in
+      let d : Dialect = p .config .dialect in
       record {
         ready = ready-from u (f .1);
         once = λ k. or-none (namesTwice (pricesOf (m .bids))) (namesTwice (pricesOf (m .asks))) (rw k at (f .0));
@@ -172,29 +172,29 @@ module _ (p : Reference) (m : Message) where
 
   acceptable-newer : Acceptable p m → isOld p m ≡ false
   unfolding isOld
-  acceptable-newer a = only-m (p .terms .dialect) _ (λ e. at (m .snapshot) refl e)
+  acceptable-newer a = only-m (p .config .dialect) _ (λ e. at (m .snapshot) refl e)
     where
-      at : (b : Bool) → m .snapshot ≡ b → p .terms .dialect ≡ M → (not b && leb (m .number) (p .number)) ≡ false
+      at : (b : Bool) → m .snapshot ≡ b → p .config .dialect ≡ M → (not b && leb (m .number) (p .number)) ≡ false
       at true k e = refl
       at false k e = lt-leb (m .number) (p .number) (a .newer e k)
 
   acceptable-few : Acceptable p m → hasTooMany p m ≡ false
   unfolding hasTooMany
   acceptable-few a =
-      only-m (p .terms .dialect) _ (λ e. neither _ _ (le-ltb 100 (length (bidsAfter p m)) (a .few e .0)) (le-ltb 100 (length (asksAfter p m)) (a .few e .1)))
+      only-m (p .config .dialect) _ (λ e. neither _ _ (le-ltb 100 (length (bidsAfter p m)) (a .few e .0)) (le-ltb 100 (length (asksAfter p m)) (a .few e .1)))
 
   acceptable-verdict : Acceptable p m → verdict p m ≡ Taken
   unfolding verdict hasWrongChecksum
   acceptable-verdict a =
-      let h = agrees-same (m .checksum) (checksumOf (p .terms .dialect) (bidsAfter p m) (asksAfter p m)) (a .checksum) in
+      let h = agrees-same (m .checksum) (checksumOf (p .config .dialect) (bidsAfter p m) (asksAfter p m)) (a .checksum) in
       rw (acceptable-once a, ready-has (a .ready), acceptable-newer a, acceptable-few a, h)
 
 -- ---- a message is refused or taken
 
 pub data Outcome (p : Reference) (s : List ℕ) : Type 0 where
-  is-refused : isTaken (hear p s .answer) ≡ false → oneOf toMessages (number (hear p s .answer)) ≡ true → isShut (statusAfter (hear p s .answer) (p .status)) ≡ isShut (p .status)
-      → hear p s .book ≡ withStatus (statusAfter (hear p s .answer) (p .status)) p → Outcome p s
-  is-accepted : (m : Message) → said (p .terms) s ≡ says m → Acceptable p m → hear p s ≡ record { book = taken p m; answer = Taken } → Outcome p s
+  is-refused : isTaken (receive p s .answer) ≡ false → oneOf toMessages (answerNumber (receive p s .answer)) ≡ true → isShut (statusAfter (receive p s .answer) (p .status)) ≡ isShut (p .status)
+      → receive p s .book ≡ withStatus (statusAfter (receive p s .answer) (p .status)) p → Outcome p s
+  is-accepted : (m : Message) → decode (p .config) s ≡ decodes m → Acceptable p m → receive p s ≡ record { book = taken p m; answer = Taken } → Outcome p s
 
 refused-book : (p : Reference) (a : Answer) → refusedBy p a .book ≡ withStatus (statusAfter a (p .status)) p
 unfolding refusedBy withStatus statusAfter
@@ -213,30 +213,30 @@ stays-open a status u = at (leavesStatus a)
     at false = sym u
 
 module _ (p : Reference) (s : List ℕ) where
-  refusing : (a : Answer) → refusal a ≡ true → isShut (statusAfter a (p .status)) ≡ isShut (p .status) → hear p s ≡ refusedBy p a → Outcome p s
+  refusing : (a : Answer) → refusal a ≡ true → isShut (statusAfter a (p .status)) ≡ isShut (p .status) → receive p s ≡ refusedBy p a → Outcome p s
   unfolding refusedBy
   refusing a h k e = is-refused (rw e (refusal-other a h)) (rw e (refusal-number a h)) (rw e k) (rw e (refused-book p a))
 
-  pub acceptable-taken : (m : Message) → said (p .terms) s ≡ says m → Acceptable p m → hear p s ≡ record { book = taken p m; answer = Taken }
-  unfolding hear hearing answered isTaken number
-  acceptable-taken m q a = rw (ready-open p m (a .ready), q, hear, hearing, acceptable-verdict p m a, answered, isTaken, number)
+  pub acceptable-taken : (m : Message) → decode (p .config) s ≡ decodes m → Acceptable p m → receive p s ≡ record { book = taken p m; answer = Taken }
+  unfolding receive received answered isTaken answerNumber
+  acceptable-taken m q a = rw (ready-open p m (a .ready), q, receive, received, acceptable-verdict p m a, answered, isTaken, answerNumber)
 
   shut-out : isShut (p .status) ≡ true → Outcome p s
-  unfolding hear refusal isTaken number oneOf refusedBy leavesStatus statusAfter
-  shut-out u = refusing Shut refl refl (rw (u, hear))
+  unfolding receive refusal isTaken answerNumber oneOf refusedBy leavesStatus statusAfter
+  shut-out u = refusing Shut refl refl (rw (u, receive))
 
   pub outcome : Outcome p s
-  unfolding hear hearing answered
+  unfolding receive received answered
   outcome = open-or-shut (isShut (p .status)) refl
     where
-      weighed : (m : Message) → isShut (p .status) ≡ false → said (p .terms) s ≡ says m → (b : Bool) → isTaken (verdict p m) ≡ b → Outcome p s
+      weighed : (m : Message) → isShut (p .status) ≡ false → decode (p .config) s ≡ decodes m → (b : Bool) → isTaken (verdict p m) ≡ b → Outcome p s
       weighed m u q true h = let a = verdict-acceptable p m u h in is-accepted m q a (acceptable-taken m q a)
-      weighed m u q false h = refusing (verdict p m) (verdict-refusal p m h) (stays-open (verdict p m) (p .status) u) (rw (u, q, hear, hearing, answered, h))
+      weighed m u q false h = refusing (verdict p m) (verdict-refusal p m h) (stays-open (verdict p m) (p .status) u) (rw (u, q, receive, received, answered, h))
 
-      by-text : isShut (p .status) ≡ false → (x : Said) → said (p .terms) s ≡ x → Outcome p s
-      by-text u (refuses a) q = refusing a (said-refusal (p .terms) s a q) (stays-open a (p .status) u) (rw (u, q, hear, hearing))
-      by-text u (says m) q = weighed m u q (isTaken (verdict p m)) refl
+      by-text : isShut (p .status) ≡ false → (x : Decoded) → decode (p .config) s ≡ x → Outcome p s
+      by-text u (refuses a) q = refusing a (said-refusal (p .config) s a q) (stays-open a (p .status) u) (rw (u, q, receive, received))
+      by-text u (decodes m) q = weighed m u q (isTaken (verdict p m)) refl
 
       open-or-shut : (b : Bool) → isShut (p .status) ≡ b → Outcome p s
       open-or-shut true u = shut-out u
-      open-or-shut false u = by-text u (said (p .terms) s) refl
+      open-or-shut false u = by-text u (decode (p .config) s) refl

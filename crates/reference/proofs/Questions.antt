@@ -6,7 +6,7 @@ use mathlib.Core.Bool.{Bool, true, false, true≢false, _&&_, cond}
 use Prim.Native.Nat.{ℕ}
 use lib.Dec.{ltb}
 use lib.ListN.{length}
-use Rattle.answer.specs.Answers.{number, isTaken}
+use Rattle.answer.specs.Answers.{answerNumber, isTaken}
 use Rattle.answer.specs.declared.Answer.{Answer}
 use Rattle.answer.specs.declared.Answer.the-variants.{Taken, Shut, NoSnapshot, NoLevel, NoRoom}
 use Rattle.reference.specs.Reference.{isShut, isLive, Reference, stands, asked, ifTaken, noLevel, sideOf, askedLevel, snapshotText, askedWriting, Ask, message, howMany, levelAt, whichNumber, howManyUpdates, write, does}
@@ -81,7 +81,7 @@ if-refused a x z h = rw (h, ifTaken)
 -- ---- a book that is not live gives no current price
 
 asked-waits : (p : Reference) → isLive (p .status) ≡ false → isTaken (asked Current p) ≡ false
-unfolding asked stands isTaken number
+unfolding asked stands isTaken answerNumber
 asked-waits p h = rw (h, asked, stands) (at (isShut (p .status)))
   where
     at : (b : Bool) → isTaken (cond b Shut NoSnapshot) ≡ false

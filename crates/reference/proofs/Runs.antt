@@ -5,13 +5,13 @@ use mathlib.Core.List.{List, [], _∷_, _++_}
 use mathlib.Core.Bool.{Bool, true, false, true≢false, false≢true, _||_, cond, or-true, or-assoc, or-comm}
 use Prim.Native.Nat.{ℕ}
 use Rattle.answer.proofs.Laws.{is-taken}
-use Rattle.settings.specs.Settings.{Terms, kept, good}
+use Rattle.settings.specs.Settings.{Config, kept, good}
 use Rattle.settings.specs.declared.Dialect.the-variants.{K}
-use Rattle.answer.specs.Answers.{number, isTaken, leavesStatus}
-use Rattle.message.specs.Meaning.{Message, Said, refuses, says, said}
+use Rattle.answer.specs.Answers.{answerNumber, isTaken, leavesStatus}
+use Rattle.message.specs.Meaning.{Message, Decoded, refuses, decodes, decode}
 use Rattle.answer.specs.declared.Answer.{Answer}
 use Rattle.answer.specs.declared.Answer.the-variants.{Taken}
-use Rattle.reference.specs.Reference.{Status, shut, waiting, live, isShut, isLive, Reference, opened, bidsAfter, asksAfter, taken, After, hear, Reply, Ask, message, howMany, levelAt, whichNumber, howManyUpdates, write, does, Call, run, final, withStatus}
+use Rattle.reference.specs.Reference.{Status, shut, waiting, live, isShut, isLive, Reference, opened, bidsAfter, asksAfter, taken, After, receive, Reply, Ask, message, howMany, levelAt, whichNumber, howManyUpdates, write, does, Call, repliesTo, final, withStatus}
 use Rattle.reference.specs.Claims.{statusAfter, Ready, is-live, restarts, Acceptable, ifAnswered, takenIn, takenOf, anySnapshot, sinceSnapshot, Begins, begins, rebuilt}
 use Rattle.reference.proofs.Carried.{said-carries}
 use Rattle.reference.proofs.Outcome.{Outcome, is-refused, is-accepted, outcome, ready-open}
@@ -21,25 +21,25 @@ use Rattle.reference.proofs.Outcome.{Outcome, is-refused, is-accepted, 
 pub data Steps (p : Reference) (ask : Ask) : Reference → Type 0 where
   stays : {q : Reference} (status : Status) → isShut status ≡ isShut (p .status) → (isLive status ≡ true → isLive (p .status) ≡ true)
       → takenIn p ask ≡ [] → q ≡ withStatus status p → Steps p ask q
-  moves : {q : Reference} (s : List ℕ) (m : Message) → said (p .terms) s ≡ says m → Acceptable p m → takenIn p ask ≡ m ∷ [] → q ≡ taken p m → Steps p ask q
+  moves : {q : Reference} (s : List ℕ) (m : Message) → decode (p .config) s ≡ decodes m → Acceptable p m → takenIn p ask ≡ m ∷ [] → q ≡ taken p m → Steps p ask q
 
 refused-live : (b : Bool) (s : Status) → isLive (cond b s waiting) ≡ true → isLive s ≡ true
 unfolding isLive
 refused-live true s h = h
 refused-live false s h = absurd (false≢true h)
 
-none-taken : (a : Answer) (x : Said) → isTaken a ≡ false → ifAnswered a x ≡ []
+none-taken : (a : Answer) (x : Decoded) → isTaken a ≡ false → ifAnswered a x ≡ []
 unfolding ifAnswered
 none-taken a (refuses b) h = refl
-none-taken a (says m) h = rw h
+none-taken a (decodes m) h = rw h
 
 pub steps : (p : Reference) (ask : Ask) (buffer : List ℕ) → Steps p ask (does p ask buffer .after)
 unfolding does takenIn withStatus statusAfter ifAnswered isTaken
 steps p (message s) buffer = go (outcome p s)
   where
-    go : Outcome p s → Steps p (message s) (hear p s .book)
+    go : Outcome p s → Steps p (message s) (receive p s .book)
     go (is-refused h n k e) =
-        stays (statusAfter (hear p s .answer) (p .status)) k (refused-live (leavesStatus (hear p s .answer)) (p .status)) (none-taken (hear p s .answer) (said (p .terms) s) h) e
+        stays (statusAfter (receive p s .answer) (p .status)) k (refused-live (leavesStatus (receive p s .answer)) (p .status)) (none-taken (receive p s .answer) (decode (p .config) s) h) e
     go (is-accepted m q a e) = moves s m q a (rw (e, q, is-taken Taken refl)) (ap (λ (x : After). x .book) e)
 steps p (howMany scope) buffer = stays (p .status) refl (λ h. h) refl refl
 steps p (levelAt scope side i) buffer = stays (p .status) refl (λ h. h) refl refl
@@ -49,38 +49,38 @@ steps p write buffer = stays (p .status) refl (λ h. h) refl refl
 
 -- ---- what every book that is reached has: the settings it was opened with, shut or not as it was opened, live only after a snapshot, in K no number
 
-pub record Reached (t : Terms) (p : Reference) : Type 0 where
-  pub terms : p .terms ≡ kept t
+pub record Reached (t : Config) (p : Reference) : Type 0 where
+  pub config : p .config ≡ kept t
   pub shut : isShut (p .status) ≡ isShut (opened t .status)
-  pub ever : isLive (p .status) ≡ true → p .ever ≡ true
+  pub had-snapshot : isLive (p .status) ≡ true → p .had-snapshot ≡ true
   pub number : kept t .dialect ≡ K → p .number ≡ 0
 
-reached-taken : (t : Terms) (p : Reference) (s : List ℕ) (m : Message) → said (p .terms) s ≡ says m → Acceptable p m → Reached t p → Reached t (taken p m)
+reached-taken : (t : Config) (p : Reference) (s : List ℕ) (m : Message) → decode (p .config) s ≡ decodes m → Acceptable p m → Reached t p → Reached t (taken p m)
 unfolding taken isShut isLive
 reached-taken t p s m q a r =
     record {
-      terms = r .terms;
+      config = r .config;
       shut = sym (ready-open p m (a .ready)) ∙ r .shut;
-      ever = λ h. go (a .ready);
-      number = λ k. said-carries (p .terms) s m q .number (rw (r .terms) k);
+      had-snapshot = λ h. go (a .ready);
+      number = λ k. said-carries (p .config) s m q .number (rw (r .config) k);
     }
   where
-    go : Ready p m → (m .snapshot || p .ever) ≡ true
-    go (is-live e) = rw (r .ever (rw e)) (or-true (m .snapshot))
+    go : Ready p m → (m .snapshot || p .had-snapshot) ≡ true
+    go (is-live e) = rw (r .had-snapshot (rw e)) (or-true (m .snapshot))
     go (restarts e k) = rw k
 
-pub reached-step : (t : Terms) (p : Reference) (ask : Ask) (q : Reference) → Steps p ask q → Reached t p → Reached t q
+pub reached-step : (t : Config) (p : Reference) (ask : Ask) (q : Reference) → Steps p ask q → Reached t p → Reached t q
 unfolding withStatus
-reached-step t p ask q (stays status k l n e) r = rw e (record { terms = r .terms; shut = k ∙ r .shut; ever = λ h. r .ever (l h); number = r .number })
+reached-step t p ask q (stays status k l n e) r = rw e (record { config = r .config; shut = k ∙ r .shut; had-snapshot = λ h. r .had-snapshot (l h); number = r .number })
 reached-step t p ask q (moves s m d a n e) r = rw e (reached-taken t p s m d a r)
 
-reached-final : (t : Terms) (p : Reference) (cs : List Call) → Reached t p → Reached t (final p cs)
+reached-final : (t : Config) (p : Reference) (cs : List Call) → Reached t p → Reached t (final p cs)
 unfolding final
 reached-final t p [] r = r
 reached-final t p (c ∷ cs) r =
     reached-final t (does p (c .ask) (c .buffer) .after) cs (reached-step t p (c .ask) (does p (c .ask) (c .buffer) .after) (steps p (c .ask) (c .buffer)) r)
 
-pub opened-waits : (t : Terms) → isLive (opened t .status) ≡ false
+pub opened-waits : (t : Config) → isLive (opened t .status) ≡ false
 unfolding opened isLive
 opened-waits t = at (good t)
   where
@@ -88,23 +88,23 @@ opened-waits t = at (good t)
     at true = refl
     at false = refl
 
-pub reached-opened : (t : Terms) → Reached t (opened t)
+pub reached-opened : (t : Config) → Reached t (opened t)
 unfolding opened
-reached-opened t = record { terms = refl; shut = refl; ever = λ h. absurd (true≢false (sym h ∙ opened-waits t)); number = λ k. refl }
+reached-opened t = record { config = refl; shut = refl; had-snapshot = λ h. absurd (true≢false (sym h ∙ opened-waits t)); number = λ k. refl }
 
-pub reached : (t : Terms) (cs : List Call) → Reached t (final (opened t) cs)
+pub reached : (t : Config) (cs : List Call) → Reached t (final (opened t) cs)
 reached t cs = reached-final t (opened t) cs (reached-opened t)
 
 -- ---- lists one after another
 
-pub run-append : (p : Reference) (cs ds : List Call) → run p (cs ++ ds) ≡ run p cs ++ run (final p cs) ds
-unfolding run final
+pub run-append : (p : Reference) (cs ds : List Call) → repliesTo p (cs ++ ds) ≡ repliesTo p cs ++ repliesTo (final p cs) ds
+unfolding repliesTo final
 run-append p [] ds = refl
 run-append p (c ∷ cs) ds = ap (λ (rs : List Reply). does p (c .ask) (c .buffer) ∷ rs) (run-append (does p (c .ask) (c .buffer) .after) cs ds)
 
 -- ---- a snapshot makes the same of every book with the same settings
 
-module _ (p q : Reference) (m : Message) (k : m .snapshot ≡ true) (h : p .terms ≡ q .terms) where
+module _ (p q : Reference) (m : Message) (k : m .snapshot ≡ true) (h : p .config ≡ q .config) where
   bids-fresh : bidsAfter p m ≡ bidsAfter q m
   unfolding bidsAfter
   bids-fresh = rw (k, h)
@@ -147,10 +147,10 @@ final-rebuilt p (c ∷ cs) =
     let q : Reference = does p (c .ask) (c .buffer) .after in
     final-rebuilt q cs ∙ rebuilt-step (final q cs .status) p q (c .ask) (takenOf q cs) (steps p (c .ask) (c .buffer))
 
-pub rebuilt-ever : (p : Reference) (ms : List Message) → rebuilt p ms .ever ≡ (anySnapshot ms || p .ever)
+pub rebuilt-ever : (p : Reference) (ms : List Message) → rebuilt p ms .had-snapshot ≡ (anySnapshot ms || p .had-snapshot)
 unfolding rebuilt anySnapshot taken
 rebuilt-ever p [] = refl
-rebuilt-ever p (m ∷ ms) = rebuilt-ever (taken p m) ms ∙ sym (or-assoc (anySnapshot ms) (m .snapshot) (p .ever)) ∙ ap (λ (b : Bool). b || p .ever) (or-comm (anySnapshot ms) (m .snapshot))
+rebuilt-ever p (m ∷ ms) = rebuilt-ever (taken p m) ms ∙ sym (or-assoc (anySnapshot ms) (m .snapshot) (p .had-snapshot)) ∙ ap (λ (b : Bool). b || p .had-snapshot) (or-comm (anySnapshot ms) (m .snapshot))
 
 pub since-begins : (ms : List Message) → anySnapshot ms ≡ true → Begins (sinceSnapshot ms)
 unfolding anySnapshot sinceSnapshot
@@ -163,7 +163,7 @@ since-begins (m ∷ ms) h = go (anySnapshot ms) (m .snapshot) refl refl h (since
     go false true n k h later = begins m ms k n
     go false false n k h later = absurd (false≢true h)
 
-pub since-rebuilt : (p q : Reference) (ms : List Message) → p .terms ≡ q .terms → anySnapshot ms ≡ true → rebuilt p ms ≡ rebuilt q (sinceSnapshot ms)
+pub since-rebuilt : (p q : Reference) (ms : List Message) → p .config ≡ q .config → anySnapshot ms ≡ true → rebuilt p ms ≡ rebuilt q (sinceSnapshot ms)
 unfolding anySnapshot sinceSnapshot rebuilt taken
 since-rebuilt p q [] e h = absurd (false≢true h)
 since-rebuilt p q (m ∷ ms) e h = go (anySnapshot ms) (m .snapshot) refl refl h (since-rebuilt (taken p m) q ms e)

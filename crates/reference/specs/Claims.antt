@@ -5,16 +5,16 @@ use mathlib.Core.Path.{_≡_}
 use mathlib.Core.Bool.{Bool, true, false, _&&_, _||_, cond}
 use mathlib.Core.List.{List, [], _∷_, _++_}
 use lib.ListN.{length}
-use Rattle.settings.specs.Settings.{Terms, kept}
+use Rattle.settings.specs.Settings.{Config, kept}
 use Rattle.settings.specs.declared.Dialect.{Dialect}
 use Rattle.settings.specs.declared.Dialect.the-variants.{K, M}
 use Rattle.level.specs.Side.{namesTwice}
 use Rattle.layout.specs.Layout.{Printed, printed, unprinted}
-use Rattle.answer.specs.Answers.{number as numberOf, oneOf, toMessages, toQuestions, isTaken, leavesStatus}
-use Rattle.message.specs.Meaning.{Message, Said, refuses, says, said}
+use Rattle.answer.specs.Answers.{answerNumber as numberOf, oneOf, toMessages, toQuestions, isTaken, leavesStatus}
+use Rattle.message.specs.Meaning.{Message, Decoded, refuses, decodes, decode}
 use Rattle.answer.specs.declared.Answer.{Answer}
 use Rattle.answer.specs.declared.Answer.the-variants.{Taken}
-use Rattle.reference.specs.Reference.{Status, waiting, live, withStatus, Reference, isLive, opened, bidsAfter, asksAfter, maxLevels, pricesOf, checksumOf, taken, hear, Value, nothing, counts, level, amount, Reply, noLevel, Ask, message, howMany, levelAt, whichNumber, howManyUpdates, write, does, Call, run, final, snapshotText}
+use Rattle.reference.specs.Reference.{Status, waiting, live, withStatus, Reference, isLive, opened, bidsAfter, asksAfter, maxLevels, pricesOf, checksumOf, taken, receive, Value, nothing, counts, level, amount, Reply, noLevel, Ask, message, howMany, levelAt, whichNumber, howManyUpdates, write, does, Call, repliesTo, final, snapshotText}
 use Rattle.reference.specs.declared.Scope.{Scope}
 use Rattle.reference.specs.declared.Scope.the-variants.{Current, LastGood}
 
@@ -35,13 +35,13 @@ statusAfter a status = cond (leavesStatus a) status waiting
 
 -- "Waiting" keeps levels, number and count as last good.
 pub record Refused (p : Reference) (ask : Ask) (lent : List ℕ) (r : Reply) : Type 0 where
-  pub terms : r .after .terms ≡ p .terms
+  pub config : r .after .config ≡ p .config
   pub status : r .after .status ≡ statusAfter (r .answer) (p .status)
   pub bids : r .after .bids ≡ p .bids
   pub asks : r .after .asks ≡ p .asks
   pub number : r .after .number ≡ p .number
   pub updates : r .after .updates ≡ p .updates
-  pub ever : r .after .ever ≡ p .ever
+  pub had-snapshot : r .after .had-snapshot ≡ p .had-snapshot
   pub value : r .value ≡ zeros ask
   pub buffer : r .buffer ≡ lent
 
@@ -76,16 +76,16 @@ pub record Acceptable (p : Reference) (m : Message) : Type 0 where
   -- A snapshot names no price twice on a side.
   pub once : m .snapshot ≡ true → (namesTwice (pricesOf (m .bids)) ≡ false) × (namesTwice (pricesOf (m .asks)) ≡ false)
   -- An M update's number is greater than the book's.
-  pub newer : p .terms .dialect ≡ M → m .snapshot ≡ false → p .number < m .number
+  pub newer : p .config .dialect ≡ M → m .snapshot ≡ false → p .number < m .number
   -- An M book has at most 100 levels a side afterwards.
-  pub few : p .terms .dialect ≡ M → (length (bidsAfter p m) ≤ maxLevels) × (length (asksAfter p m) ≤ maxLevels)
+  pub few : p .config .dialect ≡ M → (length (bidsAfter p m) ≤ maxLevels) × (length (asksAfter p m) ≤ maxLevels)
   -- A checksum, if the message carries one, is that of the book afterwards.
-  pub checksum : Agrees (m .checksum) (checksumOf (p .terms .dialect) (bidsAfter p m) (asksAfter p m))
+  pub checksum : Agrees (m .checksum) (checksumOf (p .config .dialect) (bidsAfter p m) (asksAfter p m))
 
 pub record Demand2 (p : Reference) (s : List ℕ) : Type 0 where
-  pub only-when : hear p s .answer ≡ Taken → (m : Message) × (said (p .terms) s ≡ says m) × Acceptable p m
-  pub when : (m : Message) → said (p .terms) s ≡ says m → Acceptable p m → hear p s .answer ≡ Taken
-  pub then : (m : Message) → said (p .terms) s ≡ says m → hear p s .answer ≡ Taken → hear p s .book ≡ taken p m
+  pub only-when : receive p s .answer ≡ Taken → (m : Message) × (decode (p .config) s ≡ decodes m) × Acceptable p m
+  pub when : (m : Message) → decode (p .config) s ≡ decodes m → Acceptable p m → receive p s .answer ≡ Taken
+  pub then : (m : Message) → decode (p .config) s ≡ decodes m → receive p s .answer ≡ Taken → receive p s .book ≡ taken p m
 
 abbrev pub Demand-2 : Type 0
 Demand-2 = (p : Reference) (s : List ℕ) → Demand2 p s
@@ -97,7 +97,7 @@ pub record Carries (d : Dialect) (snapshot : Bool) (checksum : Printed) (sequenc
   pub number : d ≡ K → sequence ≡ 0
 
 abbrev pub All-compared : Type 0
-All-compared = (t : Terms) (s : List ℕ) (m : Message) → said t s ≡ says m → Carries (t .dialect) (m .snapshot) (m .checksum) (m .number)
+All-compared = (t : Config) (s : List ℕ) (m : Message) → decode t s ≡ decodes m → Carries (t .dialect) (m .snapshot) (m .checksum) (m .number)
 
 -- ---- demand 3, of lists of calls
 
@@ -107,17 +107,17 @@ call ask buffer = record { ask = ask; buffer = buffer }
 -- From any taken snapshot on, every reply, with every byte of buffer and the whole book afterwards, is what a new book with the same settings gives,
 -- handed that snapshot and what followed. Rules out a past that shows through a snapshot: an old level, number, count or gsn.
 abbrev pub From-snapshot : Type 0
-From-snapshot = (t : Terms) (cs ds : List Call) (s buffer : List ℕ) (m : Message) → said (kept t) s ≡ says m → m .snapshot ≡ true
-    → hear (final (opened t) cs) s .answer ≡ Taken
-    → run (opened t) (cs ++ (call (message s) buffer ∷ ds)) ≡ run (opened t) cs ++ run (opened t) (call (message s) buffer ∷ ds)
+From-snapshot = (t : Config) (cs ds : List Call) (s buffer : List ℕ) (m : Message) → decode (kept t) s ≡ decodes m → m .snapshot ≡ true
+    → receive (final (opened t) cs) s .answer ≡ Taken
+    → repliesTo (opened t) (cs ++ (call (message s) buffer ∷ ds)) ≡ repliesTo (opened t) cs ++ repliesTo (opened t) (call (message s) buffer ∷ ds)
 
 -- The messages that a list of calls has taken, in their order.
-unfoldable pub ifAnswered : Answer → Said → List Message
+unfoldable pub ifAnswered : Answer → Decoded → List Message
 ifAnswered a (refuses b) = []
-ifAnswered a (says m) = cond (isTaken a) (m ∷ []) []
+ifAnswered a (decodes m) = cond (isTaken a) (m ∷ []) []
 
 unfoldable pub takenIn : Reference → Ask → List Message
-takenIn p (message s) = ifAnswered (hear p s .answer) (said (p .terms) s)
+takenIn p (message s) = ifAnswered (receive p s .answer) (decode (p .config) s)
 takenIn p (howMany scope) = []
 takenIn p (levelAt scope side i) = []
 takenIn p (whichNumber scope) = []
@@ -147,19 +147,19 @@ rebuilt p (m ∷ ms) = rebuilt (taken p m) ms
 
 -- A live book is the one that the rules make of the latest taken snapshot and the messages taken after it, and of nothing else in the list. A book that
 -- waits after a snapshot is that one too, but for its status. Rules out a book that applies only the first message, or drops one, or keeps an invented count.
-pub record Latest (t : Terms) (cs : List Call) : Type 0 where
-  pub snapshot-first : final (opened t) cs .ever ≡ true → Begins (sinceSnapshot (takenOf (opened t) cs))
-  pub last-good : final (opened t) cs .ever ≡ true
+pub record Latest (t : Config) (cs : List Call) : Type 0 where
+  pub snapshot-first : final (opened t) cs .had-snapshot ≡ true → Begins (sinceSnapshot (takenOf (opened t) cs))
+  pub last-good : final (opened t) cs .had-snapshot ≡ true
       → final (opened t) cs ≡ withStatus (final (opened t) cs .status) (rebuilt (opened t) (sinceSnapshot (takenOf (opened t) cs)))
-  pub ever : final (opened t) cs .status ≡ live → final (opened t) cs .ever ≡ true
+  pub had-snapshot : final (opened t) cs .status ≡ live → final (opened t) cs .had-snapshot ≡ true
   pub current : final (opened t) cs .status ≡ live → final (opened t) cs ≡ rebuilt (opened t) (sinceSnapshot (takenOf (opened t) cs))
 
 abbrev pub Latest-snapshot : Type 0
-Latest-snapshot = (t : Terms) (cs : List Call) → Latest t cs
+Latest-snapshot = (t : Config) (cs : List Call) → Latest t cs
 
 -- "A K book's number is always 0."
 abbrev pub K-number : Type 0
-K-number = (t : Terms) (cs : List Call) → kept t .dialect ≡ K → final (opened t) cs .number ≡ 0
+K-number = (t : Config) (cs : List Call) → kept t .dialect ≡ K → final (opened t) cs .number ≡ 0
 
 -- "A current price is what the writer, or any of these questions but those on the last good book, gives with answer number 0."
 unfoldable pub isCurrent : Scope → Bool
@@ -186,22 +186,22 @@ prices p (c ∷ cs) =
 -- Rules out a price from a book that the venue's checksum, or anything else, has put in doubt.
 pub record No-price : Type 0 where
   -- A book that is not live takes no update.
-  pub update : (p : Reference) (s : List ℕ) (m : Message) → isLive (p .status) ≡ false → said (p .terms) s ≡ says m → m .snapshot ≡ false
-      → hear p s .answer ≡ Taken → ⊥
+  pub update : (p : Reference) (s : List ℕ) (m : Message) → isLive (p .status) ≡ false → decode (p .config) s ≡ decodes m → m .snapshot ≡ false
+      → receive p s .answer ≡ Taken → ⊥
   pub not-live : (p : Reference) (cs : List Call) → isLive (p .status) ≡ false → anySnapshot (takenOf p cs) ≡ false → prices p cs ≡ []
-  pub at-first : (t : Terms) (cs : List Call) → anySnapshot (takenOf (opened t) cs) ≡ false → prices (opened t) cs ≡ []
-  pub after-refusal : (p : Reference) (s : List ℕ) (cs : List Call) → (hear p s .answer ≡ Taken → ⊥) → leavesStatus (hear p s .answer) ≡ false
-      → anySnapshot (takenOf (hear p s .book) cs) ≡ false → prices (hear p s .book) cs ≡ []
+  pub at-first : (t : Config) (cs : List Call) → anySnapshot (takenOf (opened t) cs) ≡ false → prices (opened t) cs ≡ []
+  pub after-refusal : (p : Reference) (s : List ℕ) (cs : List Call) → (receive p s .answer ≡ Taken → ⊥) → leavesStatus (receive p s .answer) ≡ false
+      → anySnapshot (takenOf (receive p s .book) cs) ≡ false → prices (receive p s .book) cs ≡ []
 
 -- ---- the round trip: what the writer writes of a live book is taken by a new book with the same settings, which then shows the same levels and number,
 -- with a count of 0. Rules out a writer that loses a text, a level or the number, and one whose snapshot our own reader refuses.
-pub record ReadsBack (t : Terms) (p : Reference) : Type 0 where
-  pub answer : hear (opened t) (snapshotText p) .answer ≡ Taken
-  pub status : hear (opened t) (snapshotText p) .book .status ≡ live
-  pub bids : hear (opened t) (snapshotText p) .book .bids ≡ p .bids
-  pub asks : hear (opened t) (snapshotText p) .book .asks ≡ p .asks
-  pub number : hear (opened t) (snapshotText p) .book .number ≡ p .number
-  pub updates : hear (opened t) (snapshotText p) .book .updates ≡ 0
+pub record ReadsBack (t : Config) (p : Reference) : Type 0 where
+  pub answer : receive (opened t) (snapshotText p) .answer ≡ Taken
+  pub status : receive (opened t) (snapshotText p) .book .status ≡ live
+  pub bids : receive (opened t) (snapshotText p) .book .bids ≡ p .bids
+  pub asks : receive (opened t) (snapshotText p) .book .asks ≡ p .asks
+  pub number : receive (opened t) (snapshotText p) .book .number ≡ p .number
+  pub updates : receive (opened t) (snapshotText p) .book .updates ≡ 0
 
 abbrev pub Round-trip : Type 0
-Round-trip = (t : Terms) (cs : List Call) → isLive (final (opened t) cs .status) ≡ true → ReadsBack t (final (opened t) cs)
+Round-trip = (t : Config) (cs : List Call) → isLive (final (opened t) cs .status) ≡ true → ReadsBack t (final (opened t) cs)

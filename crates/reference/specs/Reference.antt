@@ -7,7 +7,7 @@ use lib.Dec.{leb, ltb, eqb}
 use lib.ListN.{length, take, getD}
 use Rattle.decimal.specs.Decimal.{Number, isZero}
 use Rattle.decimal.specs.Buffer.{overlaid}
-use Rattle.settings.specs.Settings.{Terms, isM, good, kept}
+use Rattle.settings.specs.Settings.{Config, isM, good, kept}
 use Rattle.settings.specs.declared.Dialect.{Dialect}
 use Rattle.settings.specs.declared.Dialect.the-variants.{K, M, Unknown}
 use Rattle.level.specs.Level.{PriceLevel, shownPrice}
@@ -17,7 +17,7 @@ use Rattle.level.specs.declared.Side.the-variants.{Bids, Asks}
 use Rattle.checksum.specs.Text.{kChecksum, mChecksum}
 use Rattle.layout.specs.Layout.{Printed, printed, unprinted}
 use Rattle.answer.specs.Answers.{isTaken, leavesStatus}
-use Rattle.message.specs.Meaning.{Quote, Message, Said, refuses, says, said}
+use Rattle.message.specs.Meaning.{LevelChange, Message, Decoded, refuses, decodes, decode}
 use Rattle.answer.specs.declared.Answer.{Answer}
 use Rattle.answer.specs.declared.Answer.the-variants.{Taken, Shut, TooLong, NotJson, Escaped, NotOurs, BadLayout, TooManyEntries, BadDecimal, PriceTwice, NoSnapshot, OldNumber, TooManyLevels, WrongChecksum, NoLevel, NoRoom}
 use Rattle.writer.specs.Snapshot.{kSnapshot, mSnapshot}
@@ -31,14 +31,14 @@ pub data Status : Type 0 where
 
 -- The sides best first. While the book waits, sides, number and count of updates are as last good.
 pub record Reference : Type 0 where
-  pub terms : Terms
+  pub config : Config
   pub status : Status
   pub bids : List PriceLevel
   pub asks : List PriceLevel
   pub number : ℕ
   pub updates : ℕ
   -- whether a snapshot was ever taken
-  pub ever : Bool
+  pub had-snapshot : Bool
 
 unfoldable pub isShut : Status → Bool
 isShut shut = true
@@ -52,12 +52,12 @@ isLive live = true
 
 -- ---- opening: shut or waiting by the settings, sides empty, number and count 0, no snapshot taken
 
-unfoldable pub opened : Terms → Reference
-opened t = record { terms = kept t; status = cond (good t) waiting shut; bids = []; asks = []; number = 0; updates = 0; ever = false }
+unfoldable pub opened : Config → Reference
+opened t = record { config = kept t; status = cond (good t) waiting shut; bids = []; asks = []; number = 0; updates = 0; had-snapshot = false }
 
 -- ---- what a message would make of a side: entry by entry the level at a price is set or removed; then the side is ranked, and cut in K
 
-unfoldable pub editOf : Quote → Edit PriceLevel
+unfoldable pub editOf : LevelChange → Edit PriceLevel
 editOf q = cond (isZero (q .size)) (removes (q .price)) (sets (record { price = q .price; size = q .size }))
 
 unfoldable pub cut : Dialect → ℕ → List PriceLevel → List PriceLevel
@@ -65,23 +65,23 @@ cut K depth s = take depth s
 cut M depth s = s
 cut Unknown depth s = s
 
-unfoldable pub afterQuotes : Terms → Side → List Quote → List PriceLevel → List PriceLevel
-afterQuotes t side qs s = cut (t .dialect) (t .depth) (ranked shownPrice side (applyAll shownPrice (map editOf qs) s))
+unfoldable pub afterChanges : Config → Side → List LevelChange → List PriceLevel → List PriceLevel
+afterChanges t side qs s = cut (t .dialect) (t .depth) (ranked shownPrice side (applyAll shownPrice (map editOf qs) s))
 
 -- A snapshot replaces the book.
 unfoldable pub bidsAfter : Reference → Message → List PriceLevel
-bidsAfter p m = afterQuotes (p .terms) Bids (m .bids) (cond (m .snapshot) [] (p .bids))
+bidsAfter p m = afterChanges (p .config) Bids (m .bids) (cond (m .snapshot) [] (p .bids))
 
 unfoldable pub asksAfter : Reference → Message → List PriceLevel
-asksAfter p m = afterQuotes (p .terms) Asks (m .asks) (cond (m .snapshot) [] (p .asks))
+asksAfter p m = afterChanges (p .config) Asks (m .asks) (cond (m .snapshot) [] (p .asks))
 
 -- ---- checks 9 to 13
 
 abbrev pub maxLevels : ℕ
 maxLevels = 100
 
-abbrev pub pricesOf : List Quote → List Number
-pricesOf qs = map (λ (q : Quote). q .price) qs
+abbrev pub pricesOf : List LevelChange → List Number
+pricesOf qs = map (λ (q : LevelChange). q .price) qs
 
 unfoldable pub checksumOf : Dialect → List PriceLevel → List PriceLevel → ℕ
 checksumOf K bids asks = kChecksum bids asks
@@ -98,11 +98,11 @@ lacksSnapshot p m = not (m .snapshot) && not (isLive (p .status))
 
 -- 11: M update, gsn not greater
 unfoldable pub isOld : Reference → Message → Bool
-isOld p m = isM (p .terms .dialect) && (not (m .snapshot) && leb (m .number) (p .number))
+isOld p m = isM (p .config .dialect) && (not (m .snapshot) && leb (m .number) (p .number))
 
 -- 12: M, over 100 levels on a side after the message
 unfoldable pub hasTooMany : Reference → Message → Bool
-hasTooMany p m = isM (p .terms .dialect) && (ltb maxLevels (length (bidsAfter p m)) || ltb maxLevels (length (asksAfter p m)))
+hasTooMany p m = isM (p .config .dialect) && (ltb maxLevels (length (bidsAfter p m)) || ltb maxLevels (length (asksAfter p m)))
 
 -- 13: checksum differs
 unfoldable pub differs : Printed → ℕ → Bool
@@ -110,7 +110,7 @@ differs (printed n) sum = not (eqb n sum)
 differs unprinted sum = false
 
 unfoldable pub hasWrongChecksum : Reference → Message → Bool
-hasWrongChecksum p m = differs (m .checksum) (checksumOf (p .terms .dialect) (bidsAfter p m) (asksAfter p m))
+hasWrongChecksum p m = differs (m .checksum) (checksumOf (p .config .dialect) (bidsAfter p m) (asksAfter p m))
 
 unfoldable pub verdict : Reference → Message → Answer
 verdict p m =
@@ -136,17 +136,17 @@ oneMore n = cond (ltb n maxUpdates) (n + 1) n
 unfoldable pub taken : Reference → Message → Reference
 taken p m =
     record {
-      terms = p .terms;
+      config = p .config;
       status = live;
       bids = bidsAfter p m;
       asks = asksAfter p m;
       number = m .number;
       updates = cond (m .snapshot) 0 (oneMore (p .updates));
-      ever = m .snapshot || p .ever;
+      had-snapshot = m .snapshot || p .had-snapshot;
     }
 
 unfoldable pub withStatus : Status → Reference → Reference
-withStatus status p = record { terms = p .terms; status = status; bids = p .bids; asks = p .asks; number = p .number; updates = p .updates; ever = p .ever }
+withStatus status p = record { config = p .config; status = status; bids = p .bids; asks = p .asks; number = p .number; updates = p .updates; had-snapshot = p .had-snapshot }
 
 unfoldable pub refusedBy : Reference → Answer → After
 refusedBy p a = record { book = cond (leavesStatus a) p (withStatus waiting p); answer = a }
@@ -154,12 +154,12 @@ refusedBy p a = record { book = cond (leavesStatus a) p (withStatus waiting p); 
 unfoldable pub answered : Reference → Message → Answer → After
 answered p m a = cond (isTaken a) (record { book = taken p m; answer = Taken }) (refusedBy p a)
 
-unfoldable pub hearing : Reference → Said → After
-hearing p (refuses a) = refusedBy p a
-hearing p (says m) = answered p m (verdict p m)
+unfoldable pub received : Reference → Decoded → After
+received p (refuses a) = refusedBy p a
+received p (decodes m) = answered p m (verdict p m)
 
-unfoldable pub hear : Reference → List ℕ → After
-hear p s = cond (isShut (p .status)) (record { book = p; answer = Shut }) (hearing p (said (p .terms) s))
+unfoldable pub receive : Reference → List ℕ → After
+receive p s = cond (isShut (p .status)) (record { book = p; answer = Shut }) (received p (decode (p .config) s))
 
 -- ---- questions and the writer: 1, 10, 14, 15 in that order; none changes the book
 
@@ -180,7 +180,7 @@ pub record Reply : Type 0 where
 
 unfoldable pub stands : Scope → Reference → Bool
 stands Current p = isLive (p .status)
-stands LastGood p = p .ever
+stands LastGood p = p .had-snapshot
 
 -- Whether the book can be asked, of its current or its last good levels.
 unfoldable pub asked : Scope → Reference → Answer
@@ -206,12 +206,12 @@ levelAsked scope side i p = ifTaken (askedLevel scope side i p) (getD (sideOf si
 
 -- The text of the book as a snapshot.
 unfoldable pub textIn : Dialect → Reference → List ℕ
-textIn K p = kSnapshot (p .terms .depth) (p .terms .name) (p .bids) (p .asks)
-textIn M p = mSnapshot (p .terms .name) (p .bids) (p .asks) (mChecksum (p .bids) (p .asks)) (p .number)
+textIn K p = kSnapshot (p .config .depth) (p .config .name) (p .bids) (p .asks)
+textIn M p = mSnapshot (p .config .name) (p .bids) (p .asks) (mChecksum (p .bids) (p .asks)) (p .number)
 textIn Unknown p = []
 
 unfoldable pub snapshotText : Reference → List ℕ
-snapshotText p = textIn (p .terms .dialect) p
+snapshotText p = textIn (p .config .dialect) p
 
 unfoldable pub askedWriting : Reference → List ℕ → Answer
 askedWriting p buffer = ifTaken (asked Current p) (cond (ltb (length buffer) (length (snapshotText p))) NoRoom Taken) (asked Current p)
@@ -230,7 +230,7 @@ abbrev pub replied : Reference → Answer → Value → List ℕ → Reply
 replied p a value buffer = record { after = p; answer = a; value = value; buffer = buffer }
 
 unfoldable pub does : Reference → Ask → List ℕ → Reply
-does p (message s) buffer = replied (hear p s .book) (hear p s .answer) nothing buffer
+does p (message s) buffer = replied (receive p s .book) (receive p s .answer) nothing buffer
 does p (howMany scope) buffer = replied p (asked scope p) (ifTaken (asked scope p) (counts (length (p .bids)) (length (p .asks))) (counts 0 0)) buffer
 does p (levelAt scope side i) buffer = replied p (askedLevel scope side i p) (level (levelAsked scope side i p)) buffer
 does p (whichNumber scope) buffer = replied p (asked scope p) (amount (ifTaken (asked scope p) (p .number) 0)) buffer
@@ -245,9 +245,9 @@ pub record Call : Type 0 where
   pub ask : Ask
   pub buffer : List ℕ
 
-unfoldable pub run : Reference → List Call → List Reply
-run p [] = []
-run p (c ∷ cs) = does p (c .ask) (c .buffer) ∷ run (does p (c .ask) (c .buffer) .after) cs
+unfoldable pub repliesTo : Reference → List Call → List Reply
+repliesTo p [] = []
+repliesTo p (c ∷ cs) = does p (c .ask) (c .buffer) ∷ repliesTo (does p (c .ask) (c .buffer) .after) cs
 
 -- The book that a list of calls leaves.
 unfoldable pub final : Reference → List Call → Reference

@@ -9,19 +9,19 @@ use lib.Dec.{eqb}
 use lib.ListN.{length, take, drop, length-drop}
 use lib.Seq.{take-all}
 use Rattle.decimal.specs.Decimal as decimal
-use Rattle.answer.specs.Answers.{number}
+use Rattle.answer.specs.Answers.{answerNumber}
 use Rattle.answer.specs.declared.Answer.{Answer}
 use Rattle.level.specs.declared.Side.{Side}
 use Rattle.reference.specs.declared.Scope.{Scope}
 use Rattle.book.specs.declared.Book.{Book}
 use Rattle.book.specs.declared.Step.{Step}
-use Rattle.book.specs.declared.Counted.{Counted}
-use Rattle.book.specs.declared.Levelled.{Levelled}
-use Rattle.book.specs.declared.Amounted.{Amounted}
-use Rattle.reference.specs.Reference.{Reference, Reply, Value, Ask, message, howMany, levelAt, whichNumber, howManyUpdates, write, does, hear}
-use Rattle.book.specs.Shown.{Good, shows, Told, AnswersCounts, AnswersLevel, AnswersAmount, Wrote}
+use Rattle.book.specs.declared.CountsReply.{CountsReply}
+use Rattle.book.specs.declared.LevelReply.{LevelReply}
+use Rattle.book.specs.declared.NumberReply.{NumberReply}
+use Rattle.reference.specs.Reference.{Reference, Reply, Value, Ask, message, howMany, levelAt, whichNumber, howManyUpdates, write, does, receive}
+use Rattle.book.specs.Shown.{Good, shows, Received, AnswersCounts, AnswersLevel, AnswersAmount, Wrote}
 use Rattle.replay.specs.Format.{wordAt, opcode, scopeOf, sideOf, askOf, levelWords, valueWords, replyWords}
-use Rattle.replay.specs.Calls.{Answered, toldOf, countedOf, levelledOf, amountedOf}
+use Rattle.replay.specs.Calls.{Answered, stepReplied, countsReplied, levelReplied, numberReplied}
 use Rattle.replay.specs.declared.asking.Replied.{Replied}
 
 -- ---- what a header asks
@@ -58,40 +58,40 @@ pub as-asked : {p : Reference} {ask ask' : Ask} {before after : List ℕ} {r r' 
 as-asked {p} {ask} {ask'} {before} {after} {r} {r'} e f a =
     subst (λ (x : Ask). Answered p x before after r') e (subst (Answered p ask before after) (sym f) a)
 
-worded : {a a' : Answer} {v v' : Value} → a ≡ a' → v ≡ v' → number a ∷ valueWords v ≡ number a' ∷ valueWords v'
-worded e f = ap₂ (λ (x : Answer) (y : Value). number x ∷ valueWords y) e f
+worded : {a a' : Answer} {v v' : Value} → a ≡ a' → v ≡ v' → answerNumber a ∷ valueWords v ≡ answerNumber a' ∷ valueWords v'
+worded e f = ap₂ (λ (x : Answer) (y : Value). answerNumber x ∷ valueWords y) e f
 
 module _ (b : Book) (buffer : List ℕ) where
-  pub told-answered : (m : List ℕ) (s : Step) → Told (hear (shows b) m) s → Answered (shows b) (message m) buffer buffer (toldOf s)
-  unfolding does toldOf valueWords replyWords
+  pub told-answered : (m : List ℕ) (s : Step) → Received (receive (shows b) m) s → Answered (shows b) (message m) buffer buffer (stepReplied s)
+  unfolding does stepReplied valueWords replyWords
   told-answered m s t =
-      record { good = t .good; same = t .same; words = ap (λ (a : Answer). number a ∷ 0 ∷ 0 ∷ 0 ∷ 0 ∷ []) (t .answer); buffer = refl }
+      record { good = t .good; same = t .same; words = ap (λ (a : Answer). answerNumber a ∷ 0 ∷ 0 ∷ 0 ∷ 0 ∷ []) (t .answer); buffer = refl }
 
   module _ (g : Good b) where
-    pub counts-answered : (scope : Scope) (s : Counted) → AnswersCounts b scope s → Answered (shows b) (howMany scope) buffer buffer (countedOf s)
-    unfolding does countedOf valueWords replyWords
+    pub counts-answered : (scope : Scope) (s : CountsReply) → AnswersCounts b scope s → Answered (shows b) (howMany scope) buffer buffer (countsReplied s)
+    unfolding does countsReplied valueWords replyWords
     counts-answered scope s a =
         record { good = subst Good (sym (a .book)) g; same = ap shows (a .book); words = worded (a .answer buffer) (a .value buffer); buffer = refl }
 
-    pub level-answered : (scope : Scope) (side : Side) (i : ℕ) (s : Levelled) → AnswersLevel b scope side i s →
-        Answered (shows b) (levelAt scope side i) buffer buffer (levelledOf s)
-    unfolding does levelledOf valueWords levelWords replyWords decimal.number
+    pub level-answered : (scope : Scope) (side : Side) (i : ℕ) (s : LevelReply) → AnswersLevel b scope side i s →
+        Answered (shows b) (levelAt scope side i) buffer buffer (levelReplied s)
+    unfolding does levelReplied valueWords levelWords replyWords decimal.number
     level-answered scope side i s a =
         record { good = subst Good (sym (a .book)) g; same = ap shows (a .book); words = worded (a .answer buffer) (a .value buffer); buffer = refl }
 
-    pub number-answered : (scope : Scope) (s : Amounted) → AnswersAmount b (whichNumber scope) s →
-        Answered (shows b) (whichNumber scope) buffer buffer (amountedOf s)
-    unfolding does amountedOf valueWords replyWords
+    pub number-answered : (scope : Scope) (s : NumberReply) → AnswersAmount b (whichNumber scope) s →
+        Answered (shows b) (whichNumber scope) buffer buffer (numberReplied s)
+    unfolding does numberReplied valueWords replyWords
     number-answered scope s a =
         record { good = subst Good (sym (a .book)) g; same = ap shows (a .book); words = worded (a .answer buffer) (a .value buffer); buffer = refl }
 
-    pub updates-answered : (scope : Scope) (s : Amounted) → AnswersAmount b (howManyUpdates scope) s →
-        Answered (shows b) (howManyUpdates scope) buffer buffer (amountedOf s)
-    unfolding does amountedOf valueWords replyWords
+    pub updates-answered : (scope : Scope) (s : NumberReply) → AnswersAmount b (howManyUpdates scope) s →
+        Answered (shows b) (howManyUpdates scope) buffer buffer (numberReplied s)
+    unfolding does numberReplied valueWords replyWords
     updates-answered scope s a =
         record { good = subst Good (sym (a .book)) g; same = ap shows (a .book); words = worded (a .answer buffer) (a .value buffer); buffer = refl }
 
-    pub write-answered : (after : List ℕ) (s : Amounted) → Wrote b buffer after s → Answered (shows b) write buffer after (amountedOf s)
-    unfolding does amountedOf valueWords replyWords
+    pub write-answered : (after : List ℕ) (s : NumberReply) → Wrote b buffer after s → Answered (shows b) write buffer after (numberReplied s)
+    unfolding does numberReplied valueWords replyWords
     write-answered after s a =
         record { good = subst Good (sym (a .book)) g; same = ap shows (a .book); words = worded (a .answer) (a .value); buffer = a .buffer }

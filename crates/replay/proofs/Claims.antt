@@ -16,7 +16,7 @@ use Rattle.level.specs.declared.Side.{Side}
 use Rattle.level.specs.declared.Side.the-variants.{Bids, Asks}
 use Rattle.reference.specs.declared.Scope.{Scope}
 use Rattle.reference.specs.declared.Scope.the-variants.{Current, LastGood}
-use Rattle.reference.specs.Reference.{Ask, message, howMany, levelAt, whichNumber, howManyUpdates, write, Call, run, opened}
+use Rattle.reference.specs.Reference.{Ask, message, howMany, levelAt, whichNumber, howManyUpdates, write, Call, repliesTo, opened}
 use Rattle.reference.specs.Claims.{call}
 use Rattle.reference.proofs.Claims.{from-snapshot}
 use Rattle.replay.specs.Format.{bytesOf, wordsOf, wordAt, isWhole, scopeOf, sideOf, askOf, callLength, replyLength, called, decode, script, laidIn}

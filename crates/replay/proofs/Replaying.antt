@@ -6,8 +6,8 @@ use mathlib.Core.List.{List, [], _∷_, _++_, append-assoc}
 use native.Mathlib.Omega.{arith}
 use lib.ListN.{take-append-drop, length, take, drop, length-drop, length-append}
 use lib.Seq.{drop-drop, length-take-le, take-at, drop-at}
-use Rattle.settings.specs.Settings.{Terms}
-use Rattle.reference.specs.Reference.{Reference, Ask, Call, Reply, opened, does, run}
+use Rattle.settings.specs.Settings.{Config}
+use Rattle.reference.specs.Reference.{Reference, Ask, Call, Reply, opened, does, repliesTo}
 use Rattle.book.specs.Shown.{Good, shows}
 use Rattle.book.specs.declared.Book.{Book}
 use Rattle.replay.specs.Format.{askOf, isWhole, callLength, replyLength, replyBytes, called, decode, script, laidIn}
@@ -25,7 +25,7 @@ pub record Going (p : Reference) (s before out : List ℕ) (b : Book) (at done c
   pub room : done ≤ length out
   pub same : length out ≡ length before
   pub few : calls ≤ at
-  pub replies : laidIn (run p (script s before)) before ≡ take done out ++ laidIn (run (shows b) (left s out at done calls)) (drop done out)
+  pub replies : laidIn (repliesTo p (script s before)) before ≡ take done out ++ laidIn (repliesTo (shows b) (left s out at done calls)) (drop done out)
   pub count : length (script s before) ≡ calls + length (left s out at done calls)
 
 pub going-none : (s out : List ℕ) (b : Book) → Good b → Going (shows b) s out out b 0 0 0
@@ -56,17 +56,17 @@ one-more turns s out w = rw w
 -- the reply to the first call, and those to the rest
 one-laid : (turns : ℕ) (p p' : Reference) (s out part : List ℕ) → isWhole s (length out) ≡ true → length part ≡ replyLength s →
     p' ≡ does p (called s out .ask) (called s out .buffer) .after → part ≡ replyBytes (does p (called s out .ask) (called s out .buffer)) →
-    laidIn (run p (decode (suc turns) s out)) out ≡
-    part ++ laidIn (run p' (decode turns (drop (callLength s) s) (drop (replyLength s) out))) (drop (replyLength s) out)
-unfolding run laidIn
+    laidIn (repliesTo p (decode (suc turns) s out)) out ≡
+    part ++ laidIn (repliesTo p' (decode turns (drop (callLength s) s) (drop (replyLength s) out))) (drop (replyLength s) out)
+unfolding repliesTo laidIn
 one-laid turns p p' s out part w n e f = rw (one-more turns s out w, ← f, ← e, n)
 
 module _ {p : Reference} {s before out : List ℕ} {b : Book} {at done calls : ℕ} (g : Going p s before out b at done calls) where
   there : length out - done ≡ length (drop done out)
   there = sym (length-drop done out)
 
-  pub stop : (t : Terms) → p ≡ opened t → isWhole (drop at s) (length out - done) ≡ false → Replayed t s before out calls
-  unfolding run laidIn
+  pub stop : (t : Config) → p ≡ opened t → isWhole (drop at s) (length out - done) ≡ false → Replayed t s before out calls
+  unfolding repliesTo laidIn
   stop t e w =
       let n = none-left (length s - calls) (drop at s) (drop done out) (rw there at w) in
       record {

@@ -3,39 +3,39 @@ use Prim.Native.Nat.{ℕ, _≤_}
 use mathlib.Core.Path.{_≡_}
 use mathlib.Core.List.{List, [], _∷_}
 use lib.ListN.{length, drop}
-use Rattle.settings.specs.Settings.{Terms}
-use Rattle.answer.specs.Answers.{number}
-use Rattle.reference.specs.Reference.{Reference, Ask, opened, does, run}
+use Rattle.settings.specs.Settings.{Config}
+use Rattle.answer.specs.Answers.{answerNumber}
+use Rattle.reference.specs.Reference.{Reference, Ask, opened, does, repliesTo}
 use Rattle.book.specs.Shown.{Good, shows}
 use Rattle.book.specs.declared.Book.{Book}
 use Rattle.book.specs.declared.Step.{Step}
-use Rattle.book.specs.declared.Counted.{Counted}
-use Rattle.book.specs.declared.Levelled.{Levelled}
-use Rattle.book.specs.declared.Amounted.{Amounted}
+use Rattle.book.specs.declared.CountsReply.{CountsReply}
+use Rattle.book.specs.declared.LevelReply.{LevelReply}
+use Rattle.book.specs.declared.NumberReply.{NumberReply}
 use Rattle.replay.specs.Format.{headerLength, wordsLength, messageLength, bufferLength, replyWords, replyBytes, script, laidIn}
 use Rattle.replay.specs.declared.asking.Replied.{Replied}
 
 -- ---- an answer of the book as a reply's words
 
-unfoldable pub toldOf : Step → Replied
-toldOf s = record { book = s .book; answer = number (s .answer); first = 0; second = 0; third = 0; fourth = 0 }
+unfoldable pub stepReplied : Step → Replied
+stepReplied s = record { book = s .book; answer = answerNumber (s .answer); first = 0; second = 0; third = 0; fourth = 0 }
 
-unfoldable pub countedOf : Counted → Replied
-countedOf s = record { book = s .book; answer = number (s .answer); first = s .bids; second = s .asks; third = 0; fourth = 0 }
+unfoldable pub countsReplied : CountsReply → Replied
+countsReplied s = record { book = s .book; answer = answerNumber (s .answer); first = s .bids; second = s .asks; third = 0; fourth = 0 }
 
-unfoldable pub levelledOf : Levelled → Replied
-levelledOf s =
+unfoldable pub levelReplied : LevelReply → Replied
+levelReplied s =
     record {
       book = s .book;
-      answer = number (s .answer);
+      answer = answerNumber (s .answer);
       first = s .price .digits;
       second = s .price .decimals;
       third = s .size .digits;
       fourth = s .size .decimals;
     }
 
-unfoldable pub amountedOf : Amounted → Replied
-amountedOf s = record { book = s .book; answer = number (s .answer); first = s .amount; second = 0; third = 0; fourth = 0 }
+unfoldable pub numberReplied : NumberReply → Replied
+numberReplied s = record { book = s .book; answer = answerNumber (s .answer); first = s .value; second = 0; third = 0; fourth = 0 }
 
 abbrev pub wordsIn : Replied → List ℕ
 wordsIn r = r .answer ∷ r .first ∷ r .second ∷ r .third ∷ r .fourth ∷ []
@@ -62,6 +62,6 @@ pub record Called (p : Reference) (ask : Ask) (before after : List ℕ) (r : Boo
 -- ---- a script
 
 -- The replies are those of the reference book, opened with these settings and run over the script's calls.
-pub record Replayed (t : Terms) (s before after : List ℕ) (calls : ℕ) : Type 0 where
-  pub out : after ≡ laidIn (run (opened t) (script s before)) before
+pub record Replayed (t : Config) (s before after : List ℕ) (calls : ℕ) : Type 0 where
+  pub out : after ≡ laidIn (repliesTo (opened t) (script s before)) before
   pub count : calls ≡ length (script s before)

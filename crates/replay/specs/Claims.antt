@@ -6,15 +6,15 @@ use mathlib.Core.Bool.{true}
 use mathlib.Core.List.{List, [], _∷_, _++_}
 use lib.ListN.{length}
 use Rattle.crc32_spec.specs.Text.{Bytes}
-use Rattle.settings.specs.Settings.{Terms, kept}
+use Rattle.settings.specs.Settings.{Config, kept}
 use Rattle.level.specs.Ranked.{All}
 use Rattle.level.specs.declared.Side.{Side}
 use Rattle.level.specs.declared.Side.the-variants.{Bids, Asks}
-use Rattle.message.specs.Meaning.{Message, says, said}
+use Rattle.message.specs.Meaning.{Message, decodes, decode}
 use Rattle.answer.specs.declared.Answer.the-variants.{Taken}
 use Rattle.reference.specs.declared.Scope.{Scope}
 use Rattle.reference.specs.declared.Scope.the-variants.{Current, LastGood}
-use Rattle.reference.specs.Reference.{Ask, message, howMany, levelAt, whichNumber, howManyUpdates, write, Call, opened, hear, run, final}
+use Rattle.reference.specs.Reference.{Ask, message, howMany, levelAt, whichNumber, howManyUpdates, write, Call, opened, receive, repliesTo, final}
 use Rattle.reference.specs.Claims.{call}
 use Rattle.replay.specs.Format.{wordsOf, script, laidIn}
 use Rattle.replay.specs.Calls.{Replayed}
@@ -103,18 +103,18 @@ Every-script = (cs : List Call) → All Plain cs → Bytes (scriptOf cs) × Byte
 
 -- ---- what `replay` ensures for a list of calls
 
-pub record Listed (t : Terms) (cs : List Call) (after : List ℕ) (calls : ℕ) : Type 0 where
-  pub out : after ≡ laidIn (run (opened t) cs) (outOf cs)
+pub record Listed (t : Config) (cs : List Call) (after : List ℕ) (calls : ℕ) : Type 0 where
+  pub out : after ≡ laidIn (repliesTo (opened t) cs) (outOf cs)
   pub count : calls ≡ length cs
 
 abbrev pub Replayed-list : Type 0
-Replayed-list = (t : Terms) (cs : List Call) (after : List ℕ) (calls : ℕ) → All Holds cs → Replayed t (scriptOf cs) (outOf cs) after calls →
+Replayed-list = (t : Config) (cs : List Call) (after : List ℕ) (calls : ℕ) → All Holds cs → Replayed t (scriptOf cs) (outOf cs) after calls →
     Listed t cs after calls
 
 -- From a taken snapshot on, the replies are those of a book that was opened just before it.
 abbrev pub Replayed-snapshot : Type 0
-Replayed-snapshot = (t : Terms) (cs ds : List Call) (s buffer : List ℕ) (m : Message) (after : List ℕ) (calls : ℕ) →
-    All Holds (cs ++ (call (message s) buffer ∷ ds)) → said (kept t) s ≡ says m → m .snapshot ≡ true → hear (final (opened t) cs) s .answer ≡ Taken →
+Replayed-snapshot = (t : Config) (cs ds : List Call) (s buffer : List ℕ) (m : Message) (after : List ℕ) (calls : ℕ) →
+    All Holds (cs ++ (call (message s) buffer ∷ ds)) → decode (kept t) s ≡ decodes m → m .snapshot ≡ true → receive (final (opened t) cs) s .answer ≡ Taken →
     Replayed t (scriptOf (cs ++ (call (message s) buffer ∷ ds))) (outOf (cs ++ (call (message s) buffer ∷ ds))) after calls →
     after ≡
-    laidIn (run (opened t) cs ++ run (opened t) (call (message s) buffer ∷ ds)) (outOf (cs ++ (call (message s) buffer ∷ ds)))
+    laidIn (repliesTo (opened t) cs ++ repliesTo (opened t) (call (message s) buffer ∷ ds)) (outOf (cs ++ (call (message s) buffer ∷ ds)))

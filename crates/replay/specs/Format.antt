@@ -10,7 +10,7 @@ use Rattle.settings.specs.declared.Dialect.the-variants.{K, M, Unknown}
 use Rattle.level.specs.Level.{PriceLevel}
 use Rattle.level.specs.declared.Side.{Side}
 use Rattle.level.specs.declared.Side.the-variants.{Bids, Asks}
-use Rattle.answer.specs.Answers.{number}
+use Rattle.answer.specs.Answers.{answerNumber}
 use Rattle.reference.specs.declared.Scope.{Scope}
 use Rattle.reference.specs.declared.Scope.the-variants.{Current, LastGood}
 use Rattle.reference.specs.Reference.{Reply, Value, nothing, counts, level, amount, Ask, message, howMany, levelAt, whichNumber, howManyUpdates, write, Call}
@@ -80,7 +80,7 @@ valueWords (level l) = levelWords l
 valueWords (amount n) = n ∷ 0 ∷ 0 ∷ 0 ∷ []
 
 unfoldable pub replyWords : Reply → List ℕ
-replyWords r = number (r .answer) ∷ valueWords (r .value)
+replyWords r = answerNumber (r .answer) ∷ valueWords (r .value)
 
 unfoldable pub replyBytes : Reply → List ℕ
 replyBytes r = wordsOf (replyWords r) ++ r .buffer

@@ -7,10 +7,10 @@ use crate::words::SIDE;
 use crate::words::lay_word;
 use crate::words::word_at;
 use answer::number_of;
-use book::Amounted;
 use book::Book;
-use book::Counted;
-use book::Levelled;
+use book::CountsReply;
+use book::LevelReply;
+use book::NumberReply;
 use book::Step;
 use level::Side;
 use reference::Scope;
@@ -20,7 +20,7 @@ ghost use lib.ListN.{length};
 ghost use Rattle.writer.specs.Parts.{Put};
 ghost use Rattle.book.specs.Shown.{shows, Good};
 ghost use Rattle.replay.specs.Format.{askOf, scopeOf, sideOf, wordsLength, wordsOf};
-ghost use Rattle.replay.specs.Calls.{HasHeader, Answered, wordsIn, toldOf, countedOf, levelledOf, amountedOf};
+ghost use Rattle.replay.specs.Calls.{HasHeader, Answered, wordsIn, stepReplied, countsReplied, levelReplied, numberReplied};
 
 // The words of a reply, and the book after the call.
 pub struct Replied {
@@ -39,24 +39,24 @@ pub fn answer(book: Book, call: &[u8], buffer: &mut [u8]) -> Replied
 {
     let opcode = word_at(call, OPCODE);
     if opcode == 0 {
-        return told(book.take(&call[HEADER..]));
+        return step_replied(book.take(&call[HEADER..]));
     }
     let scope = scope_of(word_at(call, SCOPE));
     if opcode == 1 {
-        return counted(book.counts(scope));
+        return counts_replied(book.counts(scope));
     }
     if opcode == 2 {
         let side = side_of(word_at(call, SIDE));
         let i = word_at(call, INDEX) as usize;
-        return levelled(book.level(scope, side, i));
+        return level_replied(book.level(scope, side, i));
     }
     if opcode == 3 {
-        return amounted(book.number(scope));
+        return number_replied(book.number(scope));
     }
     if opcode == 4 {
-        return amounted(book.updates(scope));
+        return number_replied(book.updates(scope));
     }
-    amounted(book.write(buffer))
+    number_replied(book.write(buffer))
 }
 
 // Lays the words of a reply, and answers the position past them.
@@ -89,8 +89,8 @@ fn side_of(n: u64) -> Side
     Side::Asks
 }
 
-fn told(step: Step) -> Replied
-    ensures { λ r. ⌜ r ≡ toldOf step ⌝ }
+fn step_replied(step: Step) -> Replied
+    ensures { λ r. ⌜ r ≡ stepReplied step ⌝ }
 {
     let book = step.book;
     let answer = step.answer;
@@ -104,8 +104,8 @@ fn told(step: Step) -> Replied
     }
 }
 
-fn counted(counts: Counted) -> Replied
-    ensures { λ r. ⌜ r ≡ countedOf counts ⌝ }
+fn counts_replied(counts: CountsReply) -> Replied
+    ensures { λ r. ⌜ r ≡ countsReplied counts ⌝ }
 {
     let book = counts.book;
     let answer = counts.answer;
@@ -119,8 +119,8 @@ fn counted(counts: Counted) -> Replied
     }
 }
 
-fn levelled(level: Levelled) -> Replied
-    ensures { λ r. ⌜ r ≡ levelledOf level ⌝ }
+fn level_replied(level: LevelReply) -> Replied
+    ensures { λ r. ⌜ r ≡ levelReplied level ⌝ }
 {
     let book = level.book;
     let answer = level.answer;
@@ -136,15 +136,15 @@ fn levelled(level: Levelled) -> Replied
     }
 }
 
-fn amounted(amount: Amounted) -> Replied
-    ensures { λ r. ⌜ r ≡ amountedOf amount ⌝ }
+fn number_replied(amount: NumberReply) -> Replied
+    ensures { λ r. ⌜ r ≡ numberReplied amount ⌝ }
 {
     let book = amount.book;
     let answer = amount.answer;
     Replied {
         book,
         answer: number_of(answer),
-        first: amount.amount,
+        first: amount.value,
         second: 0,
         third: 0,
         fourth: 0,

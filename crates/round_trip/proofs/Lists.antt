@@ -6,7 +6,7 @@ use mathlib.Core.List.{List, [], _∷_, _++_, map, append-assoc}
 use native.Mathlib.Omega.{arith}
 use lib.ListN.{length, getD, drop, length-append}
 use Rattle.json_tokens.specs.Tokens.{Broken, blanks, closing}
-use Rattle.json.specs.Json.{Next, item, Items, items, before, onward, list, listOf}
+use Rattle.json.specs.Json.{Next, item, Items, items, prepended, onward, list, listOf}
 use Rattle.json.proofs.Laws.{first-ends, first-item, later-item, later-ends}
 use Rattle.writer.specs.Snapshot.{commaJoined}
 use Rattle.round_trip.specs.Claims.{Each, each-more}
@@ -36,19 +36,19 @@ module _ {A D : Type 0} (one : ℕ → Next A) (close : ℕ) (s : List ℕ) (wri
     -- the last item, and the bracket
     last-step : (m : ℕ) (a : A) (j e : ℕ) (u : List ℕ) → one j ≡ item a e → drop e s ≡ close ∷ u
         → onward (λ k. list one close s (suc m) false k) (one j) ≡ items (a ∷ []) (e + 1)
-    unfolding onward list before
+    unfolding onward list prepended
     last-step m a j e u h r =
         rw (h, onward)
-        (ap (λ (x : Next A). before a (onward (λ k. list one close s m false k) x))
+        (ap (λ (x : Next A). prepended a (onward (λ k. list one close s m false k) x))
         (later-ends one close s e (e + 1) (separates-not 44 s e close u r (omega arith) (λ q. omega arith)) (closes close s e close u r (omega arith) refl)))
 
     -- an item, a comma and the next item
     next-step : (m : ℕ) (a : A) (j e : ℕ) (u : List ℕ) → one j ≡ item a e → drop e s ≡ 44 ∷ u → 32 < getD u 0 0
-        → onward (λ k. list one close s (suc m) false k) (one j) ≡ before a (onward (λ k. list one close s m false k) (one (e + 1)))
+        → onward (λ k. list one close s (suc m) false k) (one j) ≡ prepended a (onward (λ k. list one close s m false k) (one (e + 1)))
     unfolding onward list
     next-step m a j e u h r l =
         rw (h, onward)
-        (ap (λ (x : Next A). before a (onward (λ k. list one close s m false k) x))
+        (ap (λ (x : Next A). prepended a (onward (λ k. list one close s m false k) x))
         (later-item one close s e (e + 1) (separates 44 s e 44 u r (omega arith) refl l)))
 
     joined : D → List D → List ℕ
@@ -67,7 +67,7 @@ module _ {A D : Type 0} (one : ℕ → Next A) (close : ℕ) (s : List ℕ) (wri
 
     walked : (n : ℕ) (d : D) (ds : List D) (j : ℕ) (u : List ℕ) → Each Item (d ∷ ds) → length s ≤ n + j → drop j s ≡ joined d ds ++ (close ∷ u)
         → Read is (d ∷ ds) (j + (length (joined d ds) + 1)) (onward (λ k. list one close s n false k) (one j))
-    unfolding joined commaJoined before
+    unfolding joined commaJoined prepended
     walked zero d ds j u r l h = let p = in-text s j _ h (first-seen d ds (close ∷ u) (first-of r)) in absurd (omega arith)
     walked (suc m) d [] j u (each-more i r) l h =
         let f = i .finds j (close ∷ u) h (stops u) in
@@ -89,7 +89,7 @@ module _ {A D : Type 0} (one : ℕ → Next A) (close : ℕ) (s : List ℕ) (wri
           found = f .0 ∷ rest .found;
           reads-them =
               next-step m (f .0) j k (joined e ds ++ (close ∷ u)) (f .1) q (first-seen e ds (close ∷ u) (first-of r))
-              ∙ ap (before (f .0)) (rest .reads-them)
+              ∙ ap (prepended (f .0)) (rest .reads-them)
               ∙ ap (items (f .0 ∷ rest .found)) n;
           matches = both-more (f .2) (rest .matches);
         }

@@ -10,7 +10,7 @@ use lib.ListN.{length, take, drop}
 use lib.Seq.{take-append-seam}
 use Rattle.decimal.specs.Digits.{Reading, reads}
 use Rattle.text.specs.Text.{byteAt}
-use Rattle.json_tokens.specs.Tokens.{At, prefix, word}
+use Rattle.json_tokens.specs.Tokens.{At, startsWith, literal}
 use Rattle.json.specs.Json.{Span, Pair, value}
 use Rattle.json.specs.Names.{means, holds, hasBackslash}
 use Rattle.json.proofs.Names.{means-part, snoc-is, holds-append}
@@ -68,10 +68,10 @@ same-is (c ∷ t) (d ∷ n) h =
     cc
 
 -- ---- strings
-prefix-here : (w u : List ℕ) (i : ℕ) → prefix w (w ++ u) i ≡ At (i + length w)
-unfolding prefix
+prefix-here : (w u : List ℕ) (i : ℕ) → startsWith w (w ++ u) i ≡ At (i + length w)
+unfolding startsWith
 prefix-here [] u i = ap At (omega arith)
-prefix-here (c ∷ w) u i = rw (eq-eqb c c refl, prefix) (prefix-here w u (i + 1) ∙ ap At (omega arith))
+prefix-here (c ∷ w) u i = rw (eq-eqb c c refl, startsWith) (prefix-here w u (i + 1) ∙ ap At (omega arith))
 
 tail-is : (x y : ℕ) (l m : List ℕ) → x ∷ l ≡ y ∷ m → l ≡ m
 tail-is x y l m h = cc
@@ -109,10 +109,10 @@ module _ {s : List ℕ} {a : Span} (t : List ℕ) (h : Is s a (quoted t)) where
   no-backslash p = ap (holds 92) (part-is h) ∙ holds-append 92 t (34 ∷ []) (plain-holds t p) refl
 
   pub means-it : means s a t ≡ true
-  unfolding means word quoted
+  unfolding means literal quoted
   means-it =
-      let w : word (34 ∷ (t ++ (34 ∷ []))) s (a .from) ≡ At (a .from + length (quoted t)) =
-      ap (λ (l : List ℕ). prefix (34 ∷ (t ++ (34 ∷ []))) l (a .from)) (h .here) ∙ prefix-here (quoted t) (h .rest) (a .from) in
+      let w : literal (34 ∷ (t ++ (34 ∷ []))) s (a .from) ≡ At (a .from + length (quoted t)) =
+      ap (λ (l : List ℕ). startsWith (34 ∷ (t ++ (34 ∷ []))) l (a .from)) (h .here) ∙ prefix-here (quoted t) (h .rest) (a .from) in
       rw (w, means) (eq-eqb _ _ (sym (h .ends)))
 
   -- it means what is between its quotes, and nothing else

@@ -15,10 +15,10 @@ use Rattle.json.specs.Json.{Span}
 use Rattle.entries.specs.Places.{andThen, all, arrayAt, inner}
 use Rattle.entries.specs.Rows.{Row, rowK, entryK, rowM, entryM, entriesAt, badPrice, badSize, badTexts, numberAt}
 use Rattle.layout.specs.Layout.{Listed, listedAt}
-use Rattle.message.specs.Meaning.{Quote, quoteAt}
+use Rattle.message.specs.Meaning.{LevelChange, levelChangeAt}
 use Rattle.level.specs.Level.{PriceLevel}
 use Rattle.writer.specs.Snapshot.{quoted, array, kEntry, mEntry}
-use Rattle.round_trip.specs.Claims.{quoteOf, Positive, FineLevel, Each, each-none, each-more}
+use Rattle.round_trip.specs.Claims.{levelChangeOf, Positive, ValidLevel, Each, each-none, each-more}
 use Rattle.round_trip.proofs.Places.{Is}
 use Rattle.round_trip.proofs.Tokens.{plain}
 use Rattle.round_trip.proofs.Lists.{Matched, both-none, both-more}
@@ -70,12 +70,12 @@ module _ {s : List ℕ} {a : Span} (n : Number) (p : Positive n) (h : Is s a (qu
 
 -- ---- an entry is a level
 pub record IsLevel (s : List ℕ) (r : Row) (l : PriceLevel) : Type 0 where
-  pub says-it : quoteAt s r ≡ quoteOf l
+  pub says-it : levelChangeAt s r ≡ levelChangeOf l
   pub good-price : badPrice s (r .price) ≡ false
   pub good-size : badSize true s (r .size) ≡ false
 
-level-is : {s : List ℕ} {p z : Span} (l : PriceLevel) → FineLevel l → Is s p (quoted (text (l .price))) → Is s z (quoted (text (l .size))) → IsLevel s (record { price = p; size = z }) l
-unfolding quoteAt quoteOf
+level-is : {s : List ℕ} {p z : Span} (l : PriceLevel) → ValidLevel l → Is s p (quoted (text (l .price))) → Is s z (quoted (text (l .size))) → IsLevel s (record { price = p; size = z }) l
+unfolding levelChangeAt levelChangeOf
 level-is l f h k = record {
   says-it = rw (number-is (l .price) (f .price) h, number-is (l .size) (f .size) k);
   good-price = price-fine (l .price) (f .price) h;
@@ -91,12 +91,12 @@ pub record EntryAt (s : List ℕ) (l : PriceLevel) (x : Reading Row) : Type 0 wh
 -- what an entry of a dialect is to be
 pub record Entry (write : PriceLevel → List ℕ) (entry : List ℕ → Span → Reading Row) : Type 0 where
   pub entry-reads : (l : PriceLevel) → Reads 13 (write l)
-  pub entry-at : (s : List ℕ) (a : Span) (l : PriceLevel) → FineLevel l → Is s a (write l) → EntryAt s l (entry s a)
+  pub entry-at : (s : List ℕ) (a : Span) (l : PriceLevel) → ValidLevel l → Is s a (write l) → EntryAt s l (entry s a)
 
 -- an entry is an array of strings, of which a dialect's `row` makes the row
 module _ (texts : PriceLevel → List (List ℕ)) (row : List ℕ → List Span → Reading Row) (strings : (l : PriceLevel) → Each (λ t. Reads 12 (quoted t)) (texts l))
-    (row-at : (s : List ℕ) (parts : List Span) (l : PriceLevel) → FineLevel l → Matched (IsText quoted s) parts (texts l) → EntryAt s l (row s parts)) where
-  array-row : (s : List ℕ) (a : Span) (l : PriceLevel) → FineLevel l → Is s a (array (map quoted (texts l))) → EntryAt s l (andThen (arrayAt 13 s a) (row s))
+    (row-at : (s : List ℕ) (parts : List Span) (l : PriceLevel) → ValidLevel l → Matched (IsText quoted s) parts (texts l) → EntryAt s l (row s parts)) where
+  array-row : (s : List ℕ) (a : Span) (l : PriceLevel) → ValidLevel l → Is s a (array (map quoted (texts l))) → EntryAt s l (andThen (arrayAt 13 s a) (row s))
   unfolding andThen
   array-row s a l f h =
       let g = array-at 12 quoted (texts l) (strings l) s a h in
@@ -124,7 +124,7 @@ stamp-reads : Each (λ t. Reads 12 (quoted t)) (stamp ∷ [])
 unfolding plain unescaped
 stamp-reads = each-more (string-reads 12 stamp refl) each-none
 
-k-row : (s : List ℕ) (parts : List Span) (l : PriceLevel) → FineLevel l → Matched (IsText quoted s) parts (entryTexts (stamp ∷ []) l) → EntryAt s l (rowK s parts)
+k-row : (s : List ℕ) (parts : List Span) (l : PriceLevel) → ValidLevel l → Matched (IsText quoted s) parts (entryTexts (stamp ∷ []) l) → EntryAt s l (rowK s parts)
 unfolding entryTexts rowK
 k-row s parts l f (both-more {a = p} h (both-more {a = z} k (both-more m both-none))) = record {
   row = record { price = p; size = z };
@@ -137,7 +137,7 @@ unfolding kEntry entryTexts entryK
 k-entry = entry-of (entryTexts (stamp ∷ [])) rowK (strings-read (stamp ∷ []) stamp-reads) k-row
 
 -- ---- M's entries
-m-row : (s : List ℕ) (parts : List Span) (l : PriceLevel) → FineLevel l → Matched (IsText quoted s) parts (entryTexts [] l) → EntryAt s l (rowM s parts)
+m-row : (s : List ℕ) (parts : List Span) (l : PriceLevel) → ValidLevel l → Matched (IsText quoted s) parts (entryTexts [] l) → EntryAt s l (rowM s parts)
 unfolding entryTexts rowM
 m-row s parts l f (both-more {a = p} h (both-more {a = z} k both-none)) = record {
   row = record { price = p; size = z };
@@ -164,7 +164,7 @@ module _ (write : PriceLevel → List ℕ) (entry : List ℕ → Span → Readin
   pub side-reads : (levels : List PriceLevel) → Reads 14 (array (map write levels))
   side-reads levels = array-reads 13 write levels (each-of (e .entry-reads) levels)
 
-  all-rows : (s : List ℕ) {parts : List Span} {levels : List PriceLevel} → Each FineLevel levels → Matched (IsText write s) parts levels
+  all-rows : (s : List ℕ) {parts : List Span} {levels : List PriceLevel} → Each ValidLevel levels → Matched (IsText write s) parts levels
       → Gives (IsLevel s) levels (all (entry s) parts)
   unfolding all andThen
   all-rows s each-none both-none = record { found = []; gives = refl; matches = both-none }
@@ -173,23 +173,23 @@ module _ (write : PriceLevel → List ℕ) (entry : List ℕ → Span → Readin
       let g = all-rows s r m in
       record { found = x .row ∷ g .found; gives = rw (x .is-row, g .gives); matches = both-more (x .row-is) (g .matches) }
 
-  entries-at : (s : List ℕ) (a : Span) (levels : List PriceLevel) → Each FineLevel levels → Is s a (array (map write levels)) → Gives (IsLevel s) levels (entriesAt entry s a)
+  entries-at : (s : List ℕ) (a : Span) (levels : List PriceLevel) → Each ValidLevel levels → Is s a (array (map write levels)) → Gives (IsLevel s) levels (entriesAt entry s a)
   unfolding entriesAt andThen
   entries-at s a levels each h =
       let p = array-at 13 write levels (each-of (e .entry-reads) levels) s a h in
       let g = all-rows s each (p .matches) in
       record { found = g .found; gives = rw (p .gives, andThen) (g .gives); matches = g .matches }
 
-  pub listed-at : (s : List ℕ) (a : Span) (levels : List PriceLevel) → Each FineLevel levels → Is s a (array (map write levels)) → SideAt s levels (listedAt entry s a)
+  pub listed-at : (s : List ℕ) (a : Span) (levels : List PriceLevel) → Each ValidLevel levels → Is s a (array (map write levels)) → SideAt s levels (listedAt entry s a)
   unfolding listedAt andThen
   listed-at s a levels each h =
       let g = entries-at s a levels each h in
       record { listed = record { at = a .from; rows = g .found }; is-listed = rw (g .gives, andThen); rows-are = g .matches }
 
 -- ---- the rows of a side
-pub quotes-are : {s : List ℕ} {rows : List Row} {levels : List PriceLevel} → Matched (IsLevel s) rows levels → map (quoteAt s) rows ≡ map quoteOf levels
+pub quotes-are : {s : List ℕ} {rows : List Row} {levels : List PriceLevel} → Matched (IsLevel s) rows levels → map (levelChangeAt s) rows ≡ map levelChangeOf levels
 quotes-are both-none = refl
-quotes-are {s} (both-more {a = r} {d = l} {l = rs} {k = ls} h m) = ap₂ (λ (q : Quote) (qs : List Quote). q ∷ qs) (h .says-it) (quotes-are m)
+quotes-are {s} (both-more {a = r} {d = l} {l = rs} {k = ls} h m) = ap₂ (λ (q : LevelChange) (qs : List LevelChange). q ∷ qs) (h .says-it) (quotes-are m)
 
 pub none-bad : {s : List ℕ} {rows : List Row} {levels : List PriceLevel} → Matched (IsLevel s) rows levels → badTexts true s rows ≡ []
 unfolding badTexts

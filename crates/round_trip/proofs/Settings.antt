@@ -10,7 +10,7 @@ use lib.ListN.{length}
 use Rattle.decimal.specs.Digits.{written}
 use Rattle.decimal.proofs.Digits.{length-written}
 use Rattle.json_tokens.specs.Ends.{unescaped}
-use Rattle.settings.specs.Settings.{Terms, goodDepth, nameByte, nameBytes, goodName, good}
+use Rattle.settings.specs.Settings.{Config, goodDepth, nameByte, nameBytes, goodName, good}
 use Rattle.settings.specs.declared.Dialect.the-variants.{K}
 use Rattle.round_trip.proofs.Tokens.{plain}
 
@@ -29,7 +29,7 @@ bytes-plain (c ∷ s) h =
     let p = and-eq-true-iff (nameByte c) (nameBytes s) .0 h in
     rw (byte-plain c (p .0)) (bytes-plain s (p .1))
 
-module _ (t : Terms) (h : good t ≡ true) where
+module _ (t : Config) (h : good t ≡ true) where
   name-good : goodName (t .name) ≡ true
   unfolding good
   name-good = and-eq-true-iff (goodDepth (t .dialect) (t .depth)) (goodName (t .name)) .0 h .1

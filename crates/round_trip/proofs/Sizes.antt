@@ -9,7 +9,7 @@ use Rattle.decimal.specs.Decimal.{Number, text}
 use Rattle.decimal.proofs.Text.{length-text}
 use Rattle.level.specs.Level.{PriceLevel}
 use Rattle.writer.specs.Snapshot.{quoted, commaJoined, array, kEntry, mEntry}
-use Rattle.round_trip.specs.Claims.{Positive, FineLevel, Fine, Each, each-none, each-more}
+use Rattle.round_trip.specs.Claims.{Positive, ValidLevel, Valid, Each, each-none, each-more}
 use Rattle.round_trip.proofs.Tokens.{length-quoted}
 
 length-decimal : (n : Number) → Positive n → length (quoted (text n)) ≤ 22
@@ -28,7 +28,7 @@ unfolding commaJoined
 length-one t = refl
 
 -- an entry of either dialect
-pub length-k : (l : PriceLevel) → FineLevel l → length (kEntry l) ≤ 58
+pub length-k : (l : PriceLevel) → ValidLevel l → length (kEntry l) ≤ 58
 unfolding kEntry
 length-k l f =
     let p : List ℕ = quoted (text (l .price)) in
@@ -39,7 +39,7 @@ length-k l f =
     let c : length t ≡ 10 = length-quoted (ascii "0.000000") in
     omega (arith, length-array (p ∷ (z ∷ (t ∷ []))), length-comma p z (t ∷ []), length-comma z t [], length-one t)
 
-pub length-m : (l : PriceLevel) → FineLevel l → length (mEntry l) ≤ 58
+pub length-m : (l : PriceLevel) → ValidLevel l → length (mEntry l) ≤ 58
 unfolding mEntry
 length-m l f =
     let p : List ℕ = quoted (text (l .price)) in
@@ -49,8 +49,8 @@ length-m l f =
     omega (arith, length-array (p ∷ (z ∷ [])), length-comma p z [], length-one z)
 
 -- a side
-module _ (write : PriceLevel → List ℕ) (short : (l : PriceLevel) → FineLevel l → length (write l) ≤ 58) where
-  length-joined : (levels : List PriceLevel) → Each FineLevel levels → length (commaJoined (map write levels)) ≤ length levels * 59
+module _ (write : PriceLevel → List ℕ) (short : (l : PriceLevel) → ValidLevel l → length (write l) ≤ 58) where
+  length-joined : (levels : List PriceLevel) → Each ValidLevel levels → length (commaJoined (map write levels)) ≤ length levels * 59
   unfolding commaJoined
   length-joined [] each-none = zero-le
   length-joined (l ∷ []) (each-more f r) = let a = short l f in omega arith
@@ -60,7 +60,7 @@ module _ (write : PriceLevel → List ℕ) (short : (l : PriceLevel) → FineLev
       let e = length-comma (write l) (write m) (map write ls) in
       omega arith
 
-  pub length-side : (levels : List PriceLevel) → Fine levels → length (array (map write levels)) ≤ 5902
+  pub length-side : (levels : List PriceLevel) → Valid levels → length (array (map write levels)) ≤ 5902
   length-side levels f =
       let n : length levels ≤ 100 = f .few in
       omega (arith, length-array (map write levels), length-joined levels (f .each))

@@ -15,13 +15,13 @@ use Rattle.json.specs.Json.{Span, Pair}
 use Rattle.entries.specs.Places.{andThen, all, arrayAt, objectAt, valuesOf, wholeAt}
 use Rattle.entries.specs.Rows.{entryK}
 use Rattle.layout.specs.Layout.{unprinted, laid}
-use Rattle.message_k.specs.LayoutK.{Frame, frameOf, escapedK, oursK, times, together, isSnapshot, listedOf, listedIn, objectsLayout, layoutK, heardK}
-use Rattle.message.specs.Meaning.{heardIn, said, says}
-use Rattle.settings.specs.Settings.{Terms, good}
+use Rattle.message_k.specs.LayoutK.{Frame, frameOf, escapedK, oursK, times, together, isSnapshot, listedOf, listedIn, objectsLayout, layoutK, envelopeK}
+use Rattle.message.specs.Meaning.{envelopeIn, decode, decodes}
+use Rattle.settings.specs.Settings.{Config, good}
 use Rattle.settings.specs.declared.Dialect.the-variants.{K}
 use Rattle.level.specs.Level.{PriceLevel}
 use Rattle.writer.specs.Snapshot.{quoted, commaJoined, array, kEntry, kSnapshot}
-use Rattle.round_trip.specs.Claims.{Each, each-none, each-more, FineLevel, Fine, quoteOf}
+use Rattle.round_trip.specs.Claims.{Each, each-none, each-more, ValidLevel, Valid, levelChangeOf}
 use Rattle.round_trip.proofs.Places.{Is, part-is}
 use Rattle.round_trip.proofs.Tokens.{plain, length-quoted}
 use Rattle.round_trip.proofs.Lists.{Matched, both-none, both-more}
@@ -90,7 +90,7 @@ module _ (bids asks : List PriceLevel) where
     tree-reads = array-reads 15 itself (tree depth name) elements-read
 
 -- ---- what is read of the object with the sides
-module _ (s : List ℕ) (bids asks : List PriceLevel) (fine-bids : Each FineLevel bids) (fine-asks : Each FineLevel asks) where
+module _ (s : List ℕ) (bids asks : List PriceLevel) (fine-bids : Each ValidLevel bids) (fine-asks : Each ValidLevel asks) where
   abbrev the-fields : List Field
   the-fields = fields (side asks) (side bids)
 
@@ -110,7 +110,7 @@ module _ (s : List ℕ) (bids asks : List PriceLevel) (fine-bids : Each FineLeve
     unfolding isSnapshot named same
     a-snapshot = rw (times-are (ascii "as"), times-are (ascii "bs"), times-are (ascii "a"), times-are (ascii "b"), times-are (ascii "c"))
 
-    side-in : (name : List ℕ) (levels : List PriceLevel) → Each FineLevel levels → One (Is s) (valuesOf s name (together (ms ∷ []))) (side levels) → SideAt s levels (listedIn s name (ms ∷ []))
+    side-in : (name : List ℕ) (levels : List PriceLevel) → Each ValidLevel levels → One (Is s) (valuesOf s name (together (ms ∷ []))) (side levels) → SideAt s levels (listedIn s name (ms ∷ []))
     unfolding listedIn listedOf
     side-in name levels each o = rw (o .alone, listedOf) (listed-at kEntry entryK k-entry s (o .the) levels each (o .is-it))
 
@@ -157,8 +157,8 @@ module _ (s : List ℕ) (bids asks : List PriceLevel) (fine-bids : Each FineLeve
       unfolding layoutK andThen all the-bids the-asks
       layout = rw (whole, the-object .gives) (laid-out (the-object .found) (the-object .matches))
 
-      heard : (a : Span) → arrayAt 16 s a ≡ reads (n ∷ (o ∷ (c ∷ (p ∷ [])))) → HeardAs s bids asks unprinted 0 (heardK depth name s a)
-      unfolding heardK andThen frameOf
+      heard : (a : Span) → arrayAt 16 s a ≡ reads (n ∷ (o ∷ (c ∷ (p ∷ [])))) → HeardAs s bids asks unprinted 0 (envelopeK depth name s a)
+      unfolding envelopeK andThen frameOf
       heard a e = record {
         the-bids = the-bids .listed;
         the-asks = the-asks .listed;
@@ -167,16 +167,16 @@ module _ (s : List ℕ) (bids asks : List PriceLevel) (fine-bids : Each FineLeve
         asks-are = the-asks .rows-are;
       }
 
-    heard-in : (a : Span) (found : List Span) → arrayAt 16 s a ≡ reads found → Matched (IsText itself s) found (tree bids asks depth name) → HeardAs s bids asks unprinted 0 (heardK depth name s a)
+    heard-in : (a : Span) (found : List Span) → arrayAt 16 s a ≡ reads found → Matched (IsText itself s) found (tree bids asks depth name) → HeardAs s bids asks unprinted 0 (envelopeK depth name s a)
     heard-in a found e (both-more {a = n} hn (both-more {a = o} ho (both-more {a = c} hc (both-more {a = p} hp both-none)))) = heard n o c p hn ho hc hp a e
 
-    heard-tree : (a : Span) → Is s a (array (tree bids asks depth name)) → HeardAs s bids asks unprinted 0 (heardK depth name s a)
+    heard-tree : (a : Span) → Is s a (array (tree bids asks depth name)) → HeardAs s bids asks unprinted 0 (envelopeK depth name s a)
     heard-tree a h = let g = array-at 15 itself (tree bids asks depth name) (elements-read bids asks depth name name-is) s a h in heard-in a (g .found) (g .gives) (g .matches)
 
 -- ---- the claim
-module _ (depth : ℕ) (name : List ℕ) (bids asks : List PriceLevel) (g : good (record { dialect = K; depth = depth; name = name }) ≡ true) (fine-bids : Fine bids)
-    (fine-asks : Fine asks) where
-  abbrev terms : Terms
+module _ (depth : ℕ) (name : List ℕ) (bids asks : List PriceLevel) (g : good (record { dialect = K; depth = depth; name = name }) ≡ true) (fine-bids : Valid bids)
+    (fine-asks : Valid asks) where
+  abbrev terms : Config
   terms = record { dialect = K; depth = depth; name = name }
 
   abbrev the-text : List ℕ
@@ -194,11 +194,11 @@ module _ (depth : ℕ) (name : List ℕ) (bids asks : List PriceLevel) (g : good
       (omega (arith, length-quoted (channel depth), depth-short depth name g))
       (omega (arith, length-quoted name, name-short terms g))
 
-  pub said-k : said terms (kSnapshot depth name bids asks)
-      ≡ says (record { snapshot = true; bids = map quoteOf bids; asks = map quoteOf asks; checksum = unprinted; number = 0 })
-  unfolding heardIn
+  pub said-k : decode terms (kSnapshot depth name bids asks)
+      ≡ decodes (record { snapshot = true; bids = map levelChangeOf bids; asks = map levelChangeOf asks; checksum = unprinted; number = 0 })
+  unfolding envelopeIn
   said-k =
-      ap (said terms) snapshot-spelled
+      ap (decode terms) snapshot-spelled
       ∙ says-tree terms the-text (array (tree bids asks depth name))
       (spelled-tree (side asks) (side bids) (quoted (channel depth)) (quoted name)) short
       (tree-reads bids asks depth name (name-plain terms g)) bids asks unprinted 0

@@ -16,13 +16,13 @@ use Rattle.json.specs.Json.{Span, Pair}
 use Rattle.entries.specs.Places.{andThen, objectAt, valuesOf, only, wholeAt, checksumAt}
 use Rattle.entries.specs.Rows.{entryM}
 use Rattle.layout.specs.Layout.{printed, laid}
-use Rattle.message_m.specs.LayoutM.{someName, someString, escapedM, someMeans, oursM, isSnapshotAt, listedIn, layoutM, heardM}
-use Rattle.message.specs.Meaning.{heardIn, said, says}
-use Rattle.settings.specs.Settings.{Terms, good}
+use Rattle.message_m.specs.LayoutM.{someName, someString, escapedM, someMeans, oursM, isSnapshotAt, listedIn, layoutM, envelopeM}
+use Rattle.message.specs.Meaning.{envelopeIn, decode, decodes}
+use Rattle.settings.specs.Settings.{Config, good}
 use Rattle.settings.specs.declared.Dialect.the-variants.{M}
 use Rattle.level.specs.Level.{PriceLevel}
 use Rattle.writer.specs.Snapshot.{quoted, commaJoined, array, mEntry, mSnapshot}
-use Rattle.round_trip.specs.Claims.{Each, each-none, each-more, FineLevel, Fine, quoteOf}
+use Rattle.round_trip.specs.Claims.{Each, each-none, each-more, ValidLevel, Valid, levelChangeOf}
 use Rattle.round_trip.proofs.Places.{Is, part-is}
 use Rattle.round_trip.proofs.Tokens.{plain, length-quoted}
 use Rattle.round_trip.proofs.Lists.{Matched, both-none, both-more}
@@ -119,12 +119,12 @@ module _ (s : List ℕ) where
   unfolding someMeans
   means-one t o = rw (o .alone, someMeans, means-it t (o .is-it))
 
-  side-in : (name : List ℕ) (ms : List Pair) (levels : List PriceLevel) → Each FineLevel levels → One (Is s) (valuesOf s name ms) (side levels) → SideAt s levels (listedIn s name ms)
+  side-in : (name : List ℕ) (ms : List Pair) (levels : List PriceLevel) → Each ValidLevel levels → One (Is s) (valuesOf s name ms) (side levels) → SideAt s levels (listedIn s name ms)
   unfolding listedIn andThen
   side-in name ms levels each o = rw (only-one o) (listed-at mEntry entryM m-entry s (o .the) levels each (o .is-it))
 
 -- ---- what is read of the message
-module _ (s : List ℕ) (bids asks : List PriceLevel) (fine-bids : Each FineLevel bids) (fine-asks : Each FineLevel asks) (name : List ℕ) (name-is : plain name ≡ true) (checksum number : ℕ)
+module _ (s : List ℕ) (bids asks : List PriceLevel) (fine-bids : Each ValidLevel bids) (fine-asks : Each ValidLevel asks) (name : List ℕ) (name-is : plain name ≡ true) (checksum number : ℕ)
     (low : checksum ≤ 4294967295) (few : number < 10 ^ 19) where
   abbrev the-tree : List Field
   the-tree = tree bids asks name checksum number
@@ -210,8 +210,8 @@ module _ (s : List ℕ) (bids asks : List PriceLevel) (fine-bids : Each FineLeve
           asks-at .is-listed,
         )
 
-    heard : (a : Span) → objectAt 16 s a ≡ reads ms → HeardAs s bids asks (printed checksum) number (heardM name s a)
-    unfolding heardM andThen
+    heard : (a : Span) → objectAt 16 s a ≡ reads ms → HeardAs s bids asks (printed checksum) number (envelopeM name s a)
+    unfolding envelopeM andThen
     heard a e = record {
       the-bids = bids-at .listed;
       the-asks = asks-at .listed;
@@ -220,13 +220,13 @@ module _ (s : List ℕ) (bids asks : List PriceLevel) (fine-bids : Each FineLeve
       asks-are = asks-at .rows-are;
     }
 
-  heard-tree : (a : Span) → Is s a (object the-tree) → HeardAs s bids asks (printed checksum) number (heardM name s a)
+  heard-tree : (a : Span) → Is s a (object the-tree) → HeardAs s bids asks (printed checksum) number (envelopeM name s a)
   heard-tree a h = let g = object-at 15 the-tree (fields-good bids asks name name-is checksum number) s a h in heard (g .found) (g .matches) a (g .gives)
 
 -- ---- the claim
-module _ (name : List ℕ) (bids asks : List PriceLevel) (checksum number : ℕ) (g : good (record { dialect = M; depth = 100; name = name }) ≡ true) (fine-bids : Fine bids)
-    (fine-asks : Fine asks) (low : checksum ≤ 4294967295) (few : number < 10 ^ 19) where
-  abbrev terms : Terms
+module _ (name : List ℕ) (bids asks : List PriceLevel) (checksum number : ℕ) (g : good (record { dialect = M; depth = 100; name = name }) ≡ true) (fine-bids : Valid bids)
+    (fine-asks : Valid asks) (low : checksum ≤ 4294967295) (few : number < 10 ^ 19) where
+  abbrev terms : Config
   terms = record { dialect = M; depth = 100; name = name }
 
   abbrev the-text : List ℕ
@@ -245,11 +245,11 @@ module _ (name : List ℕ) (bids asks : List PriceLevel) (checksum number : ℕ)
       (length-written 9 checksum (omega arith))
       (length-written 18 number few)
 
-  pub said-m : said terms (mSnapshot name bids asks checksum number)
-      ≡ says (record { snapshot = true; bids = map quoteOf bids; asks = map quoteOf asks; checksum = printed checksum; number = number })
-  unfolding heardIn
+  pub said-m : decode terms (mSnapshot name bids asks checksum number)
+      ≡ decodes (record { snapshot = true; bids = map levelChangeOf bids; asks = map levelChangeOf asks; checksum = printed checksum; number = number })
+  unfolding envelopeIn
   said-m =
-      ap (said terms) snapshot-spelled
+      ap (decode terms) snapshot-spelled
       ∙ says-tree terms the-text (object (tree bids asks name checksum number))
       (spelled-tree (quoted name) (side bids) (side asks) (written checksum) (written number)) short
       (tree-reads bids asks name (name-plain terms g) checksum number) bids asks (printed checksum) number

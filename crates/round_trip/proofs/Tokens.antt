@@ -12,7 +12,7 @@ use Rattle.text.specs.Text.{isDigit, byteAt}
 use Rattle.decimal.specs.Digits.{written, significant}
 use Rattle.decimal.proofs.Digits.{Digits, none, one, digit-in, written-digits, written-positive, significant-zero, first-significant}
 use Rattle.json_tokens.specs.Ends.{unescaped}
-use Rattle.json_tokens.specs.Tokens.{At, Broken, run, digits, blanks, closing, separator, chars, stringRest, string, int, number}
+use Rattle.json_tokens.specs.Tokens.{At, Broken, skipWhile, digits, blanks, closing, separator, chars, stringRest, string, int, jsonNumber}
 use Rattle.json_tokens.proofs.Laws.{closing-yes, closing-no, separator-yes, separator-no, string-yes, minus-no, int-zero, int-more, some-yes, fraction-none, exponent-none, number-is}
 use Rattle.writer.specs.Snapshot.{quoted}
 use Rattle.round_trip.proofs.Places.{byte-here, past, past-byte, no-blanks, Stops, stops-is}
@@ -79,11 +79,11 @@ string-here s i t u p h =
     ∙ ap At n
 
 -- ---- whole numbers
-run-digits : {w : List ℕ} → Digits w → (u : List ℕ) (i : ℕ) → isDigit (getD u 0 0) ≡ false → run isDigit (w ++ u) i ≡ i + length w
-unfolding run isDigit
+run-digits : {w : List ℕ} → Digits w → (u : List ℕ) (i : ℕ) → isDigit (getD u 0 0) ≡ false → skipWhile isDigit (w ++ u) i ≡ i + length w
+unfolding skipWhile isDigit
 run-digits none [] i h = omega arith
-run-digits none (c ∷ u) i h = rw (h, run) (omega arith)
-run-digits (one {c} {s = w} e d) u i h = rw (e, run) (run-digits d u (i + 1) h ∙ omega arith)
+run-digits none (c ∷ u) i h = rw (h, skipWhile) (omega arith)
+run-digits (one {c} {s = w} e d) u i h = rw (e, skipWhile) (run-digits d u (i + 1) h ∙ omega arith)
 
 pub first-digit : {c : ℕ} {w : List ℕ} → Digits (c ∷ w) → isDigit c ≡ true
 first-digit (one e k) = e
@@ -114,9 +114,9 @@ module _ (s : List ℕ) (i c : ℕ) (w u : List ℕ) (h : drop i s ≡ (c ∷ w)
       at false e =
           int-more s i (λ q. eqb-false c 48 e (sym the-first ∙ q))
           ∙ some-yes s i (ap isDigit the-first ∙ first-digit d)
-          ∙ ap At (ap (λ (l : List ℕ). run isDigit l i) h ∙ run-digits d u i (stops-is u stop .0))
+          ∙ ap At (ap (λ (l : List ℕ). skipWhile isDigit l i) h ∙ run-digits d u i (stops-is u stop .0))
 
-  pub number-here : number s i ≡ At (i + length (c ∷ w))
+  pub number-here : jsonNumber s i ≡ At (i + length (c ∷ w))
   unfolding ends-at
   number-here =
       number-is s i ends-at ends-at

@@ -9,17 +9,17 @@ use lib.ListN.{length}
 use lib.Seq.{drop-length}
 use Rattle.decimal.specs.Digits.{Reading, reads}
 use Rattle.json_tokens.specs.Bytes.{blank}
-use Rattle.json_tokens.specs.Tokens.{At, run, blanks, ended}
+use Rattle.json_tokens.specs.Tokens.{At, skipWhile, blanks, ended}
 use Rattle.json.specs.Json.{Span, value}
 use Rattle.json.specs.Json as json·
 use Rattle.json.proofs.Laws.{text-ends}
-use Rattle.settings.specs.Settings.{Terms}
+use Rattle.settings.specs.Settings.{Config}
 use Rattle.entries.specs.Places.{top}
-use Rattle.layout.specs.Layout.{Printed, Listed, Layout, Heard}
-use Rattle.message.specs.Meaning.{fails, passes, says, tooMany, counted, laidOut, addressed, heardIn, framed, bad, decimals, alsoDecimals, checked, messageOf, saidOf, said}
+use Rattle.layout.specs.Layout.{Printed, Listed, Layout, Envelope}
+use Rattle.message.specs.Meaning.{fails, passes, decodes, tooMany, counted, laidOut, addressed, envelopeIn, framed, bad, decimals, alsoDecimals, checked, messageOf, decodedOf, decode}
 use Rattle.answer.specs.declared.Answer.the-variants.{TooManyEntries}
 use Rattle.level.specs.Level.{PriceLevel}
-use Rattle.round_trip.specs.Claims.{quoteOf}
+use Rattle.round_trip.specs.Claims.{levelChangeOf}
 use Rattle.round_trip.proofs.Places.{no-blanks, nothing-stops, Is}
 use Rattle.round_trip.proofs.Lists.{Matched}
 use Rattle.round_trip.proofs.Values.{Reads}
@@ -37,8 +37,8 @@ module _ (s : List ℕ) (r : Reads 16 s) where
       ap (value 16 s) at-start ∙ r .ends s 0 [] (sym (append-nil s)) nothing-stops ∙ ap At n
 
   to-the-end : blanks s (length s) ≡ length s
-  unfolding blanks run
-  to-the-end = ap (λ (l : List ℕ). run blank l (length s)) (drop-length s)
+  unfolding blanks skipWhile
+  to-the-end = ap (λ (l : List ℕ). skipWhile blank l (length s)) (drop-length s)
 
   text-yes : json·.text s ≡ true
   unfolding ended
@@ -57,15 +57,15 @@ abbrev pub laidAs : Listed → Listed → Printed → ℕ → Layout
 laidAs bids asks sum number = record { snapshot = true; bids = bids; asks = asks; checksum = sum; number = number }
 
 -- it is this book's, and has the layout of a snapshot of these levels
-pub record HeardAs (s : List ℕ) (bids asks : List PriceLevel) (sum : Printed) (number : ℕ) (x : Reading Heard) : Type 0 where
+pub record HeardAs (s : List ℕ) (bids asks : List PriceLevel) (sum : Printed) (number : ℕ) (x : Reading Envelope) : Type 0 where
   pub the-bids : Listed
   pub the-asks : Listed
   pub is-heard : x ≡ reads (record { escaped = false; ours = true; layout = reads (laidAs the-bids the-asks sum number) })
   pub bids-are : Matched (IsLevel s) (the-bids .rows) bids
   pub asks-are : Matched (IsLevel s) (the-asks .rows) asks
 
-module _ (t : Terms) (s : List ℕ) (short : length s ≤ 32768) (r : Reads 16 s) (bids asks : List PriceLevel) (sum : Printed) (number : ℕ)
-    (h : HeardAs s bids asks sum number (heardIn (t .dialect) t s (top s))) (few-bids : length bids ≤ 100) (few-asks : length asks ≤ 100) where
+module _ (t : Config) (s : List ℕ) (short : length s ≤ 32768) (r : Reads 16 s) (bids asks : List PriceLevel) (sum : Printed) (number : ℕ)
+    (h : HeardAs s bids asks sum number (envelopeIn (t .dialect) t s (top s))) (few-bids : length bids ≤ 100) (few-asks : length asks ≤ 100) where
   l : Layout
   l = laidAs (h .the-bids) (h .the-asks) sum number
 
@@ -88,14 +88,14 @@ module _ (t : Terms) (s : List ℕ) (short : length s ≤ 32768) (r : Reads 16 s
   unfolding checked alsoDecimals decimals
   is-checked = ap (alsoDecimals s) is-framed ∙ rw (no-bad, decimals)
 
-  says-them : said t s ≡ says (record { snapshot = true; bids = map quoteOf bids; asks = map quoteOf asks; checksum = sum; number = number })
-  unfolding said saidOf messageOf l
-  says-them = ap (saidOf s) is-checked ∙ rw (quotes-are (h .bids-are), quotes-are (h .asks-are))
+  says-them : decode t s ≡ decodes (record { snapshot = true; bids = map levelChangeOf bids; asks = map levelChangeOf asks; checksum = sum; number = number })
+  unfolding decode decodedOf messageOf l
+  says-them = ap (decodedOf s) is-checked ∙ rw (quotes-are (h .bids-are), quotes-are (h .asks-are))
 
 -- the same of a text that is a tree of values
-pub says-tree : (t : Terms) (s tree : List ℕ) → s ≡ tree → length s ≤ 32768 → Reads 16 tree → (bids asks : List PriceLevel) (sum : Printed) (number : ℕ)
-    → ((a : Span) → Is s a tree → HeardAs s bids asks sum number (heardIn (t .dialect) t s a)) → length bids ≤ 100 → length asks ≤ 100
-    → said t s ≡ says (record { snapshot = true; bids = map quoteOf bids; asks = map quoteOf asks; checksum = sum; number = number })
+pub says-tree : (t : Config) (s tree : List ℕ) → s ≡ tree → length s ≤ 32768 → Reads 16 tree → (bids asks : List PriceLevel) (sum : Printed) (number : ℕ)
+    → ((a : Span) → Is s a tree → HeardAs s bids asks sum number (envelopeIn (t .dialect) t s a)) → length bids ≤ 100 → length asks ≤ 100
+    → decode t s ≡ decodes (record { snapshot = true; bids = map levelChangeOf bids; asks = map levelChangeOf asks; checksum = sum; number = number })
 says-tree t s tree e short r bids asks sum number h few-bids few-asks =
     let q : Reads 16 s = subst (Reads 16) (sym e) r in
     says-them t s short q bids asks sum number (h (top s) (subst (Is s (top s)) e (top-is s q))) few-bids few-asks

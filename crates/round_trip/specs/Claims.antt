@@ -10,19 +10,19 @@ use Rattle.level.specs.Level.{PriceLevel}
 use Rattle.settings.specs.Settings.{good}
 use Rattle.settings.specs.declared.Dialect.the-variants.{K, M}
 use Rattle.layout.specs.Layout.{printed, unprinted}
-use Rattle.message.specs.Meaning.{Quote, said, says}
+use Rattle.message.specs.Meaning.{LevelChange, decode, decodes}
 use Rattle.writer.specs.Snapshot.{kSnapshot, mSnapshot}
 
 -- A level as an entry that says its price and its size.
-unfoldable pub quoteOf : PriceLevel → Quote
-quoteOf l = record { price = l .price; size = l .size }
+unfoldable pub levelChangeOf : PriceLevel → LevelChange
+levelChangeOf l = record { price = l .price; size = l .size }
 
 -- A price or a size that a book can hold.
 pub record Positive (n : Number) : Type 0 where
   pub within : Within n
   pub some : isZero n ≡ false
 
-pub record FineLevel (l : PriceLevel) : Type 0 where
+pub record ValidLevel (l : PriceLevel) : Type 0 where
   pub price : Positive (l .price)
   pub size : Positive (l .size)
 
@@ -32,19 +32,19 @@ pub data Each {A : Type 0} (P : A → Type 0) : List A → Type 0 where
   each-more : {a : A} {l : List A} → P a → Each P l → Each P (a ∷ l)
 
 -- The levels of a side, as many as a message may have.
-pub record Fine (levels : List PriceLevel) : Type 0 where
+pub record Valid (levels : List PriceLevel) : Type 0 where
   pub few : length levels ≤ 100
-  pub each : Each FineLevel levels
+  pub each : Each ValidLevel levels
 
 -- ---- the claims
 
 abbrev pub K-round-trip : Type 0
-K-round-trip = (depth : ℕ) (name : List ℕ) (bids asks : List PriceLevel) → good (record { dialect = K; depth = depth; name = name }) ≡ true → Fine bids → Fine asks
-    → said (record { dialect = K; depth = depth; name = name }) (kSnapshot depth name bids asks)
-    ≡ says (record { snapshot = true; bids = map quoteOf bids; asks = map quoteOf asks; checksum = unprinted; number = 0 })
+K-round-trip = (depth : ℕ) (name : List ℕ) (bids asks : List PriceLevel) → good (record { dialect = K; depth = depth; name = name }) ≡ true → Valid bids → Valid asks
+    → decode (record { dialect = K; depth = depth; name = name }) (kSnapshot depth name bids asks)
+    ≡ decodes (record { snapshot = true; bids = map levelChangeOf bids; asks = map levelChangeOf asks; checksum = unprinted; number = 0 })
 
 abbrev pub M-round-trip : Type 0
-M-round-trip = (name : List ℕ) (bids asks : List PriceLevel) (checksum number : ℕ) → good (record { dialect = M; depth = 100; name = name }) ≡ true → Fine bids → Fine asks
+M-round-trip = (name : List ℕ) (bids asks : List PriceLevel) (checksum number : ℕ) → good (record { dialect = M; depth = 100; name = name }) ≡ true → Valid bids → Valid asks
     → checksum ≤ 4294967295 → number < 10 ^ 19
-    → said (record { dialect = M; depth = 100; name = name }) (mSnapshot name bids asks checksum number)
-    ≡ says (record { snapshot = true; bids = map quoteOf bids; asks = map quoteOf asks; checksum = printed checksum; number = number })
+    → decode (record { dialect = M; depth = 100; name = name }) (mSnapshot name bids asks checksum number)
+    ≡ decodes (record { snapshot = true; bids = map levelChangeOf bids; asks = map levelChangeOf asks; checksum = printed checksum; number = number })

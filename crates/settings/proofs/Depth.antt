@@ -5,7 +5,7 @@ use Prim.Native.Nat.{ℕ, _≤_}
 use native.Mathlib.Omega.{arith}
 use borrow.Author.Tests.{leb-true, eqb-true}
 use lib.Dec.{leb}
-use Rattle.settings.specs.Settings.{Terms, isM, good, goodDepth, goodName}
+use Rattle.settings.specs.Settings.{Config, isM, good, goodDepth, goodName}
 use Rattle.settings.specs.declared.Dialect.{Dialect}
 use Rattle.settings.specs.declared.Dialect.the-variants.{K, M, Unknown}
 
@@ -23,6 +23,6 @@ depth-goes K depth h = (leb-true depth 100 (and-second (leb 10 depth) (leb depth
 depth-goes M depth h = let e : depth ≡ 100 = eqb-true depth 100 h in (omega arith, λ q. e)
 depth-goes Unknown depth h = absurd (true≢false (sym h))
 
-pub good-depth : (t : Terms) → good t ≡ true → (t .depth ≤ 100) × (isM (t .dialect) ≡ true → t .depth ≡ 100)
+pub good-depth : (t : Config) → good t ≡ true → (t .depth ≤ 100) × (isM (t .dialect) ≡ true → t .depth ≡ 100)
 unfolding good
 good-depth t h = depth-goes (t .dialect) (t .depth) (and-first (goodDepth (t .dialect) (t .depth)) (goodName (t .name)) h)

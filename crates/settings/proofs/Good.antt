@@ -9,7 +9,7 @@ use borrow.Author.Tests.{leb-true, leb-false, le-leb, lt-leb, eq-eqb, ne-eqb}
 use lib.Dec.{leb, eqb}
 use lib.ListN.{length, getD, take, drop, set, drop-of-length-le}
 use lib.Seq.{drop-cons, take-suc, take-suc-set}
-use Rattle.settings.specs.Settings.{Terms, goodDepth, nameByte, nameBytes, goodName, good, kept, shut}
+use Rattle.settings.specs.Settings.{Config, goodDepth, nameByte, nameBytes, goodName, good, kept, shut}
 use Rattle.settings.specs.declared.Dialect.{Dialect}
 use Rattle.settings.specs.declared.Dialect.the-variants.{K, M, Unknown}
 
@@ -86,26 +86,26 @@ copied-more name copy i h k e =
 
 -- ---- settings
 
-pub both-good : (t : Terms) → goodDepth (t .dialect) (t .depth) ≡ true → good t ≡ goodName (t .name)
+pub both-good : (t : Config) → goodDepth (t .dialect) (t .depth) ≡ true → good t ≡ goodName (t .name)
 unfolding good
 both-good t h = rw h
 
-pub bad-depth : (t : Terms) → goodDepth (t .dialect) (t .depth) ≡ false → good t ≡ false
+pub bad-depth : (t : Config) → goodDepth (t .dialect) (t .depth) ≡ false → good t ≡ false
 unfolding good
 bad-depth t h = rw h
 
-pub kept-good : (t : Terms) → good t ≡ true → kept t ≡ t
+pub kept-good : (t : Config) → good t ≡ true → kept t ≡ t
 unfolding kept
 kept-good t h = rw h
 
-pub kept-none : (t : Terms) → good t ≡ false → kept t ≡ shut
+pub kept-none : (t : Config) → good t ≡ false → kept t ≡ shut
 unfolding kept
 kept-none t h = rw h
 
 too-long : (name : List ℕ) → 16 < length name → goodName name ≡ false
 too-long name h = long-name name (omega arith) h
 
-pub good-short : (t : Terms) → good t ≡ true → length (t .name) ≤ 16
+pub good-short : (t : Config) → good t ≡ true → length (t .name) ≤ 16
 good-short t h = at (leb (length (t .name)) 16) refl
   where
     at : (b : Bool) → leb (length (t .name)) 16 ≡ b → length (t .name) ≤ 16

@@ -3,15 +3,15 @@ use Prim.Native.Nat.{ℕ, _≤_}
 use mathlib.Core.Path.{_≡_}
 use mathlib.Core.List.{List}
 use lib.ListN.{length, take}
-use Rattle.settings.specs.Settings.{Terms, kept}
+use Rattle.settings.specs.Settings.{Config, kept}
 use Rattle.settings.specs.declared.Settings.{Settings}
 
 -- The settings that the code's struct holds.
-unfoldable pub termsOf : Settings → Terms
-termsOf s = record { dialect = s .dialect; depth = s .depth; name = take (s .length) (s .name) }
+unfoldable pub configOf : Settings → Config
+configOf s = record { dialect = s .dialect; depth = s .depth; name = take (s .length) (s .name) }
 
-pub record Chosen (t : Terms) (s : Settings) : Type 0 where
-  pub terms : termsOf s ≡ kept t
+pub record Chosen (t : Config) (s : Settings) : Type 0 where
+  pub config : configOf s ≡ kept t
   pub room : length (s .name) ≡ 16
   pub short : s .length ≤ 16
 

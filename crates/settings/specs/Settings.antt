@@ -8,7 +8,7 @@ use lib.ListN.{length, take}
 use Rattle.settings.specs.declared.Dialect.{Dialect}
 use Rattle.settings.specs.declared.Dialect.the-variants.{K, M, Unknown}
 
-pub record Terms : Type 0 where
+pub record Config : Type 0 where
   pub dialect : Dialect
   pub depth : ℕ
   pub name : List ℕ
@@ -36,12 +36,12 @@ unfoldable pub goodName : List ℕ → Bool
 goodName name = leb 1 (length name) && (leb (length name) 16 && nameBytes name)
 
 -- Other settings give a shut book.
-unfoldable pub good : Terms → Bool
+unfoldable pub good : Config → Bool
 good t = goodDepth (t .dialect) (t .depth) && goodName (t .name)
 
 -- What a book keeps of its settings: the settings themselves where they are good, and none where they are not.
-abbrev pub shut : Terms
+abbrev pub shut : Config
 shut = record { dialect = Unknown; depth = 0; name = [] }
 
-unfoldable pub kept : Terms → Terms
+unfoldable pub kept : Config → Config
 kept t = cond (good t) t shut

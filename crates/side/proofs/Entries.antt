@@ -16,8 +16,8 @@ use Rattle.decimal.specs.declared.Order.{Order}
 use Rattle.level.specs.declared.Side.{Side}
 use Rattle.level.specs.declared.Level.{Level}
 use Rattle.level.specs.Words.{levelPrice}
-use Rattle.level.specs.Side.{Edit, sets, removes, before, without, applyAll, ranked}
-use Rattle.level.specs.Ranked.{All, standing, afterMessage, named, meets, met, Sorted, IfSet}
+use Rattle.level.specs.Side.{Edit, sets, removes, nearer, without, applyAll, ranked}
+use Rattle.level.specs.Ranked.{All, standing, afterMessage, named, replaces, replaced, Sorted, IfSet}
 use Rattle.level.specs.Order.{aheadOf, equalOf}
 use Rattle.level.specs.Words.{noLevel, editOf, entriesOf}
 use Rattle.side.specs.Applying.{Given}
@@ -42,21 +42,21 @@ sound-entry side (removes p) s t a = all-without levelPrice Sound (value p) s a
 
 -- the k-th entry
 abbrev pub theEdit : List ℕ → List ℕ → List ℕ → ℕ → Edit Level
-theEdit prices sizes rests k = editOf (getD prices k 0) (getD sizes k 0) (getD rests k 0)
+theEdit prices sizes packs k = editOf (getD prices k 0) (getD sizes k 0) (getD packs k 0)
 
 -- the side s, of n₀ levels, has had k entries, and is now the n levels at the front of a; `seen`: one of them met a level
-pub record Turn (side : Side) (prices sizes rests : List ℕ) (s : List Level) (n₀ : ℕ) (a : List Level) (n : ℕ) (seen : Bool) (k : ℕ) : Type 0 where
+pub record Turn (side : Side) (prices sizes packs : List ℕ) (s : List Level) (n₀ : ℕ) (a : List Level) (n : ℕ) (seen : Bool) (k : ℕ) : Type 0 where
   pub long : length a ≡ 200
   pub within : k ≤ length prices
   pub few : n ≤ n₀ + k
   pub sorted : Sorted levelPrice side (take n a)
   pub sound : All Sound (take n a)
-  pub entries : All SoundEdit (entriesOf (drop k prices) (drop k sizes) (drop k rests))
-  pub rest : allRanked levelPrice side (entriesOf (drop k prices) (drop k sizes) (drop k rests)) (take n a) ≡ allRanked levelPrice side (entriesOf prices sizes rests) s
-  pub meeting : (seen || metRanked levelPrice side (entriesOf (drop k prices) (drop k sizes) (drop k rests)) (take n a)) ≡ metRanked levelPrice side (entriesOf prices sizes rests) s
+  pub entries : All SoundEdit (entriesOf (drop k prices) (drop k sizes) (drop k packs))
+  pub rest : allRanked levelPrice side (entriesOf (drop k prices) (drop k sizes) (drop k packs)) (take n a) ≡ allRanked levelPrice side (entriesOf prices sizes packs) s
+  pub meeting : (seen || metRanked levelPrice side (entriesOf (drop k prices) (drop k sizes) (drop k packs)) (take n a)) ≡ metRanked levelPrice side (entriesOf prices sizes packs) s
 
-module _ (side : Side) (prices sizes rests : List ℕ) (g : Given prices sizes rests) (s : List Level) (n₀ : ℕ) where
-  pub turn-start : (a : List Level) → length a ≡ 200 → take n₀ a ≡ s → Sorted levelPrice side s → All Sound s → Turn side prices sizes rests s n₀ a n₀ false 0
+module _ (side : Side) (prices sizes packs : List ℕ) (g : Given prices sizes packs) (s : List Level) (n₀ : ℕ) where
+  pub turn-start : (a : List Level) → length a ≡ 200 → take n₀ a ≡ s → Sorted levelPrice side s → All Sound s → Turn side prices sizes packs s n₀ a n₀ false 0
   turn-start a l e o t = record {
     long = l;
     within = omega arith;
@@ -68,79 +68,79 @@ module _ (side : Side) (prices sizes rests : List ℕ) (g : Given prices sizes r
     meeting = rw e;
   }
 
-  next-entries : (k : ℕ) → k < length prices → entriesOf (drop k prices) (drop k sizes) (drop k rests)
-      ≡ theEdit prices sizes rests k ∷ entriesOf (drop (suc k) prices) (drop (suc k) sizes) (drop (suc k) rests)
+  next-entries : (k : ℕ) → k < length prices → entriesOf (drop k prices) (drop k sizes) (drop k packs)
+      ≡ theEdit prices sizes packs k ∷ entriesOf (drop (suc k) prices) (drop (suc k) sizes) (drop (suc k) packs)
   unfolding entriesOf
   next-entries k h =
-      rw (drop-cons prices k 0 h, drop-cons sizes k 0 (omega (arith, g .sizes-long)), drop-cons rests k 0 (omega (arith, g .rests-long)))
+      rw (drop-cons prices k 0 h, drop-cons sizes k 0 (omega (arith, g .sizes-long)), drop-cons packs k 0 (omega (arith, g .packs-long)))
 
-  pub sound-next : (a : List Level) (n k : ℕ) (seen : Bool) → Turn side prices sizes rests s n₀ a n seen k → k < length prices → SoundEdit (theEdit prices sizes rests k)
+  pub sound-next : (a : List Level) (n k : ℕ) (seen : Bool) → Turn side prices sizes packs s n₀ a n seen k → k < length prices → SoundEdit (theEdit prices sizes packs k)
   unfolding All
   sound-next a n k seen t h = (rw (next-entries k h) at (t .entries)) .0
 
-  pub turn-step : (a : List Level) (n k : ℕ) (seen : Bool) → Turn side prices sizes rests s n₀ a n seen k → k < length prices
+  pub turn-step : (a : List Level) (n k : ℕ) (seen : Bool) → Turn side prices sizes packs s n₀ a n seen k → k < length prices
       → (c : List Level) (m : ℕ) (now : Bool) → length c ≡ 200 → m ≤ n + 1
-      → take m c ≡ applyRanked levelPrice side (theEdit prices sizes rests k) (take n a)
-      → now ≡ (seen || meets levelPrice (theEdit prices sizes rests k) (take n a))
-      → Turn side prices sizes rests s n₀ c m now (k + 1)
+      → take m c ≡ applyRanked levelPrice side (theEdit prices sizes packs k) (take n a)
+      → now ≡ (seen || replaces levelPrice (theEdit prices sizes packs k) (take n a))
+      → Turn side prices sizes packs s n₀ c m now (k + 1)
   unfolding allRanked metRanked All
   turn-step a n k seen t h c m now l q e f = record {
     long = l;
     within = omega arith;
     few = omega (arith, t .few);
-    sorted = rw e (sorted-entry levelPrice side (theEdit prices sizes rests k) (take n a) (t .sorted));
-    sound = rw e (sound-entry side (theEdit prices sizes rests k) (take n a) (sound-next a n k seen t h) (t .sound));
+    sorted = rw e (sorted-entry levelPrice side (theEdit prices sizes packs k) (take n a) (t .sorted));
+    sound = rw e (sound-entry side (theEdit prices sizes packs k) (take n a) (sound-next a n k seen t h) (t .sound));
     entries = rw add-one ((rw (next-entries k h) at (t .entries)) .1);
     rest = rw (add-one, e) (rw (next-entries k h) at (t .rest));
-    meeting = rw (add-one, e, f) (or-assoc seen (meets levelPrice (theEdit prices sizes rests k) (take n a)) _ ∙ (rw (next-entries k h) at (t .meeting)));
+    meeting = rw (add-one, e, f) (or-assoc seen (replaces levelPrice (theEdit prices sizes packs k) (take n a)) _ ∙ (rw (next-entries k h) at (t .meeting)));
   }
 
-  module _ (a : List Level) (n k : ℕ) (seen : Bool) (t : Turn side prices sizes rests s n₀ a n seen k) (h : length prices ≤ k) (o : Sorted levelPrice side s) where
-    whole : ranked levelPrice side (applyAll levelPrice (entriesOf prices sizes rests) s) ≡ allRanked levelPrice side (entriesOf prices sizes rests) s
+  module _ (a : List Level) (n k : ℕ) (seen : Bool) (t : Turn side prices sizes packs s n₀ a n seen k) (h : length prices ≤ k) (o : Sorted levelPrice side s) where
+    whole : ranked levelPrice side (applyAll levelPrice (entriesOf prices sizes packs) s) ≡ allRanked levelPrice side (entriesOf prices sizes packs) s
     whole =
-        commute-all levelPrice side (entriesOf prices sizes rests) s
-        ∙ ap (allRanked levelPrice side (entriesOf prices sizes rests)) (sorted-ranked levelPrice side s o)
+        commute-all levelPrice side (entriesOf prices sizes packs) s
+        ∙ ap (allRanked levelPrice side (entriesOf prices sizes packs)) (sorted-ranked levelPrice side s o)
 
-    turn-done : take n a ≡ allRanked levelPrice side (entriesOf prices sizes rests) s
+    turn-done : take n a ≡ allRanked levelPrice side (entriesOf prices sizes packs) s
     unfolding allRanked entriesOf
     turn-done = rw (drop-of-length-le prices h) at (t .rest)
 
-    pub turn-levels : (depth : ℕ) → take depth (take n a) ≡ afterMessage levelPrice side depth (entriesOf prices sizes rests) s
+    pub turn-levels : (depth : ℕ) → take depth (take n a) ≡ afterMessage levelPrice side depth (entriesOf prices sizes packs) s
     unfolding afterMessage
     turn-levels depth = ap (take depth) (turn-done ∙ sym whole)
 
-    pub turn-count : n ≤ length a → n ≡ length (applyAll levelPrice (entriesOf prices sizes rests) s)
+    pub turn-count : n ≤ length a → n ≡ length (applyAll levelPrice (entriesOf prices sizes packs) s)
     turn-count l =
         sym (length-take-le n a l) ∙ ap length (turn-done ∙ sym whole)
-        ∙ length-ranked levelPrice side (applyAll levelPrice (entriesOf prices sizes rests) s)
+        ∙ length-ranked levelPrice side (applyAll levelPrice (entriesOf prices sizes packs) s)
 
-    pub turn-met : seen ≡ met levelPrice (entriesOf prices sizes rests) s
+    pub turn-met : seen ≡ replaced levelPrice (entriesOf prices sizes packs) s
     unfolding metRanked entriesOf
     turn-met =
         sym (or-false seen) ∙ (rw (drop-of-length-le prices h) at (t .meeting))
-        ∙ sym (met-ranked levelPrice side (entriesOf prices sizes rests) s ∙ ap (metRanked levelPrice side (entriesOf prices sizes rests)) (sorted-ranked levelPrice side s o))
+        ∙ sym (met-ranked levelPrice side (entriesOf prices sizes packs) s ∙ ap (metRanked levelPrice side (entriesOf prices sizes packs)) (sorted-ranked levelPrice side s o))
 
 -- ---- no entry at all
 
-module _ (side : Side) (prices sizes rests : List ℕ) (s : List Level) (none : length prices ≡ 0) where
-  no-entries : entriesOf prices sizes rests ≡ []
+module _ (side : Side) (prices sizes packs : List ℕ) (s : List Level) (none : length prices ≡ 0) where
+  no-entries : entriesOf prices sizes packs ≡ []
   unfolding entriesOf
   no-entries = at prices none
     where
-      at : (l : List ℕ) → length l ≡ 0 → entriesOf l sizes rests ≡ []
+      at : (l : List ℕ) → length l ≡ 0 → entriesOf l sizes packs ≡ []
       at [] e = refl
       at (x ∷ l) e = absurd (omega arith)
 
-  pub nothing-levels : (depth : ℕ) → length s ≤ depth → Sorted levelPrice side s → s ≡ afterMessage levelPrice side depth (entriesOf prices sizes rests) s
+  pub nothing-levels : (depth : ℕ) → length s ≤ depth → Sorted levelPrice side s → s ≡ afterMessage levelPrice side depth (entriesOf prices sizes packs) s
   unfolding afterMessage applyAll
   nothing-levels depth h o = rw no-entries (sym (ap (take depth) (sorted-ranked levelPrice side s o) ∙ take-all depth s h))
 
-  pub nothing-count : length s ≡ length (applyAll levelPrice (entriesOf prices sizes rests) s)
+  pub nothing-count : length s ≡ length (applyAll levelPrice (entriesOf prices sizes packs) s)
   unfolding applyAll
   nothing-count = rw no-entries
 
-  pub nothing-met : false ≡ met levelPrice (entriesOf prices sizes rests) s
-  unfolding met
+  pub nothing-met : false ≡ replaced levelPrice (entriesOf prices sizes packs) s
+  unfolding replaced
   nothing-met = rw no-entries
 
 -- ---- what a read of the array and the calls on it say of the side
@@ -158,10 +158,10 @@ module _ (a : List Level) (n k : ℕ) (h : k < n) where
       (all-at Sound (take n a) k noLevel (omega (arith, length-take-le n a l)) s)
 
   module _ (read price : Decimal) (o : Order) (is : number read ≡ levelPrice (getD a k noLevel)) (compared : o ≡ order (number read) (number price)) where
-    pub ahead-at : (side : Side) (t u : Bool) → t ≡ aheadOf side o → t ≡ u → before side (key (getD (take n a) k noLevel)) (value (number price)) ≡ u
+    pub ahead-at : (side : Side) (t u : Bool) → t ≡ aheadOf side o → t ≡ u → nearer side (key (getD (take n a) k noLevel)) (value (number price)) ≡ u
     unfolding order
     ahead-at side t u e f =
-        ap (λ (x : ℕ). before side x (value (number price))) (key-at ∙ ap value (sym is))
+        ap (λ (x : ℕ). nearer side x (value (number price))) (key-at ∙ ap value (sym is))
         ∙ sym (ahead-is side (value (number read)) (value (number price))) ∙ ap (aheadOf side) (sym compared) ∙ sym e ∙ f
 
     tested : (t u : Bool) → t ≡ equalOf o → t ≡ u → eqb (key (getD (take n a) k noLevel)) (value (number price)) ≡ u

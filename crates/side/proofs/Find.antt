@@ -10,7 +10,7 @@ use lib.ListN.{length, getD, set, take, drop, take-append-drop, drop-of-length-l
 use lib.Seq.{length-take-le, take-suc, drop-cons, split-at, set-split, take-set-lt}
 use Rattle.decimal.specs.Decimal.{Number, value}
 use Rattle.level.specs.declared.Side.{Side}
-use Rattle.level.specs.Side.{sets, removes, before, without, place}
+use Rattle.level.specs.Side.{sets, removes, nearer, without, place}
 use Rattle.level.specs.Ranked.{All, standing, Sorted}
 use Rattle.level.proofs.Order.{before-ne, before-trans, before-or-after, after-not-before}
 use Rattle.level.proofs.All.{all-map, all-append, all-at}
@@ -23,14 +23,14 @@ module _ {A : Type 0} (priceOf : A → Number) (side : Side) where
   key x = value (priceOf x)
 
   -- the levels before place m are before the one there, and those after it behind it
-  pub sorted-front : (s : List A) (m : ℕ) (d : A) → m < length s → Sorted priceOf side s → All (λ x. before side (key x) (key (getD s m d)) ≡ true) (take m s)
+  pub sorted-front : (s : List A) (m : ℕ) (d : A) → m < length s → Sorted priceOf side s → All (λ x. nearer side (key x) (key (getD s m d)) ≡ true) (take m s)
   unfolding All Sorted
   sorted-front [] m d h o = absurd (not-suc-le-zero h)
   sorted-front (x ∷ s) zero d h o = tt
   sorted-front (x ∷ s) (suc m) d h o =
-      (all-at (λ y. before side (key x) (key y) ≡ true) s m d (le-of-suc-le-suc h) (o .0), sorted-front s m d (le-of-suc-le-suc h) (o .1))
+      (all-at (λ y. nearer side (key x) (key y) ≡ true) s m d (le-of-suc-le-suc h) (o .0), sorted-front s m d (le-of-suc-le-suc h) (o .1))
 
-  pub sorted-back : (s : List A) (m : ℕ) (d : A) → m < length s → Sorted priceOf side s → All (λ x. before side (key (getD s m d)) (key x) ≡ true) (drop (suc m) s)
+  pub sorted-back : (s : List A) (m : ℕ) (d : A) → m < length s → Sorted priceOf side s → All (λ x. nearer side (key (getD s m d)) (key x) ≡ true) (drop (suc m) s)
   unfolding All Sorted
   sorted-back [] m d h o = absurd (not-suc-le-zero h)
   sorted-back (x ∷ s) zero d h o = o .0
@@ -40,8 +40,8 @@ module _ {A : Type 0} (priceOf : A → Number) (side : Side) where
   pub record Bracket (s : List A) (v low high : ℕ) : Type 0 where
     pub low-le : low ≤ high
     pub high-le : high ≤ length s
-    pub ahead : All (λ x. before side (key x) v ≡ true) (take low s)
-    pub rest : All (λ x. before side (key x) v ≡ false) (drop high s)
+    pub ahead : All (λ x. nearer side (key x) v ≡ true) (take low s)
+    pub rest : All (λ x. nearer side (key x) v ≡ false) (drop high s)
 
   pub bracket-start : (s : List A) (v n : ℕ) → length s ≡ n → Bracket s v 0 n
   unfolding All
@@ -53,20 +53,20 @@ module _ {A : Type 0} (priceOf : A → Number) (side : Side) where
   }
 
   module _ (s : List A) (v : ℕ) (o : Sorted priceOf side s) (m : ℕ) (d : A) (h : m < length s) where
-    pub bracket-up : (low high : ℕ) → Bracket s v low high → m < high → before side (key (getD s m d)) v ≡ true → Bracket s v (m + 1) high
+    pub bracket-up : (low high : ℕ) → Bracket s v low high → m < high → nearer side (key (getD s m d)) v ≡ true → Bracket s v (m + 1) high
     unfolding All
     bracket-up low high k l t = record {
       low-le = omega arith;
       high-le = k .high-le;
       ahead =
           rw (add-one m, take-suc s m d h)
-          (all-append (λ x. before side (key x) v ≡ true) (take m s) (getD s m d ∷ [])
+          (all-append (λ x. nearer side (key x) v ≡ true) (take m s) (getD s m d ∷ [])
           (all-map (λ x q. before-trans side (key x) (key (getD s m d)) v q t) (take m s) (sorted-front s m d h o))
           (t, tt));
       rest = k .rest;
     }
 
-    pub bracket-down : (low high : ℕ) → Bracket s v low high → low ≤ m → before side (key (getD s m d)) v ≡ false → Bracket s v low m
+    pub bracket-down : (low high : ℕ) → Bracket s v low high → low ≤ m → nearer side (key (getD s m d)) v ≡ false → Bracket s v low m
     unfolding All
     bracket-down low high k l t = record {
       low-le = l;
@@ -78,32 +78,32 @@ module _ {A : Type 0} (priceOf : A → Number) (side : Side) where
     }
 
     -- another price stands at the place, so that all from there on is behind v
-    pub past : before side (key (getD s m d)) v ≡ false → (key (getD s m d) ≡ v → ⊥) → All (λ x. before side v (key x) ≡ true) (drop m s)
+    pub past : nearer side (key (getD s m d)) v ≡ false → (key (getD s m d) ≡ v → ⊥) → All (λ x. nearer side v (key x) ≡ true) (drop m s)
     unfolding All
     past t n =
         rw (drop-cons s m d h)
-        (let e : before side v (key (getD s m d)) ≡ true = before-or-after side (key (getD s m d)) v t n in
+        (let e : nearer side v (key (getD s m d)) ≡ true = before-or-after side (key (getD s m d)) v t n in
         (e, all-map (λ x q. before-trans side v (key (getD s m d)) (key x) e q) (drop (suc m) s) (sorted-back s m d h o)))
 
     -- or the price itself does
-    pub past-same : key (getD s m d) ≡ v → All (λ x. before side v (key x) ≡ true) (drop (suc m) s)
+    pub past-same : key (getD s m d) ≡ v → All (λ x. nearer side v (key x) ≡ true) (drop (suc m) s)
     past-same e = all-map (λ x q. rw e at q) (drop (suc m) s) (sorted-back s m d h o)
 
   -- or the side ends before it
-  pub past-none : (s : List A) (v m : ℕ) → length s ≤ m → All (λ x. before side v (key x) ≡ true) (drop m s)
+  pub past-none : (s : List A) (v m : ℕ) → length s ≤ m → All (λ x. nearer side v (key x) ≡ true) (drop m s)
   unfolding All
   past-none s v m h = rw (drop-of-length-le s h) tt
 
   -- at the place that the search found
-  pub bracket-head : (s : List A) (v low high : ℕ) (d : A) → Bracket s v low high → high ≤ low → low < length s → before side (key (getD s low d)) v ≡ false
+  pub bracket-head : (s : List A) (v low high : ℕ) (d : A) → Bracket s v low high → high ≤ low → low < length s → nearer side (key (getD s low d)) v ≡ false
   unfolding All
   bracket-head s v low high d k h l =
       let e : high ≡ low = omega (arith, k .low-le) in (rw (e, drop-cons s low d l) at (k .rest)) .0
 
   -- ---- what the code leaves is what the definition says
 
-  module _ (a : List A) (n at : ℕ) (k : n ≤ length a) (h : at ≤ n) (v : ℕ) (low : All (λ x. before side (key x) v ≡ true) (take at (take n a))) where
-    pub set-new : (x : A) → n < length a → key x ≡ v → All (λ y. before side v (key y) ≡ true) (drop at (take n a))
+  module _ (a : List A) (n at : ℕ) (k : n ≤ length a) (h : at ≤ n) (v : ℕ) (low : All (λ x. nearer side (key x) v ≡ true) (take at (take n a))) where
+    pub set-new : (x : A) → n < length a → key x ≡ v → All (λ y. nearer side v (key y) ≡ true) (drop at (take n a))
         → take (n + 1) (set (up a at n) at x) ≡ applyRanked priceOf side (sets x) (take n a)
     unfolding applyRanked
     set-new x k′ e high =
@@ -114,7 +114,7 @@ module _ {A : Type 0} (priceOf : A → Number) (side : Side) where
         ∙ ap (place priceOf side x) (without-new priceOf side v (take at (take n a)) (drop at (take n a)) low high)
         ∙ placed priceOf side v (take at (take n a)) (drop at (take n a)) low high x e)
 
-    module _ (d : A) (lt : at < n) (same : key (getD (take n a) at d) ≡ v) (high : All (λ y. before side v (key y) ≡ true) (drop (suc at) (take n a))) where
+    module _ (d : A) (lt : at < n) (same : key (getD (take n a) at d) ≡ v) (high : All (λ y. nearer side v (key y) ≡ true) (drop (suc at) (take n a))) where
       in-side : at < length (take n a)
       in-side = omega (arith, length-take-le n a k)
 
@@ -136,7 +136,7 @@ module _ {A : Type 0} (priceOf : A → Number) (side : Side) where
           ∙ sym (ap (without priceOf v) (split-at (take n a) at d in-side)
           ∙ without-same priceOf side v (take at (take n a)) (drop (suc at) (take n a)) low high (getD (take n a) at d) same)
 
-    module _ (high : All (λ y. before side v (key y) ≡ true) (drop at (take n a))) where
+    module _ (high : All (λ y. nearer side v (key y) ≡ true) (drop at (take n a))) where
       pub remove-none : take n a ≡ without priceOf v (take n a)
       remove-none =
           sym (ap (without priceOf v) (sym (take-append-drop at (take n a)))

@@ -5,7 +5,7 @@ use mathlib.Core.List.{List, map}
 use lib.ListN.{length}
 use Rattle.level.specs.Level.{shownPrice}
 use Rattle.level.specs.Side.{Edit, applyAll}
-use Rattle.level.specs.Ranked.{afterMessage, met, mapEdit}
+use Rattle.level.specs.Ranked.{afterMessage, replaced, mapEdit}
 use Rattle.level.specs.Words.{shown}
 use Rattle.level.specs.Kept.{keptIn, held}
 use Rattle.level.specs.declared.Side.{Side}
@@ -22,5 +22,5 @@ module _ {side : Side} {depth : ℕ} {es : List (Edit Level)} {kept : Levels} {w
   pub applied-count : applied .count ≡ length (applyAll shownPrice (map (mapEdit shown) es) (map shown (held kept)))
   applied-count = r .count ∙ sym (shown-count es (held kept))
 
-  pub applied-met : applied .met ≡ met shownPrice (map (mapEdit shown) es) (map shown (held kept))
-  applied-met = r .met ∙ sym (shown-met es (held kept))
+  pub applied-met : applied .replaced ≡ replaced shownPrice (map (mapEdit shown) es) (map shown (held kept))
+  applied-met = r .replaced ∙ sym (shown-met es (held kept))

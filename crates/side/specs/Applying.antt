@@ -5,7 +5,7 @@ use mathlib.Core.List.{List}
 use lib.ListN.{length}
 use Rattle.decimal.specs.Limits.{Within}
 use Rattle.level.specs.Side.{Edit, applyAll}
-use Rattle.level.specs.Ranked.{All, named, afterMessage, met}
+use Rattle.level.specs.Ranked.{All, named, afterMessage, replaced}
 use Rattle.level.specs.Words.{levelPrice, entriesOf}
 use Rattle.level.specs.Kept.{held, keptIn, Good}
 use Rattle.level.specs.declared.Side.{Side}
@@ -18,16 +18,16 @@ abbrev pub maxEntries : ℕ
 maxEntries = 100
 
 -- What the words of a message's entries for one side must be.
-pub record Given (prices sizes rests : List ℕ) : Type 0 where
+pub record Given (prices sizes packs : List ℕ) : Type 0 where
   pub few : length prices ≤ maxEntries
   pub sizes-long : length sizes ≡ length prices
-  pub rests-long : length rests ≡ length prices
-  pub within : All (λ e. Within (named levelPrice e)) (entriesOf prices sizes rests)
+  pub packs-long : length packs ≡ length prices
+  pub within : All (λ e. Within (named levelPrice e)) (entriesOf prices sizes packs)
 
--- A side with a message's entries applied: the levels that are left in the words are the definition's, the count is that before the cut, and `met`
+-- A side with a message's entries applied: the levels that are left in the words are the definition's, the count is that before the cut, and `replaced`
 -- says whether some entry set a level at a price where one stood by then.
 pub record AfterEntries (side : Side) (depth : ℕ) (entries : List (Edit Level)) (kept : Levels) (words : List ℕ) (applied : Applied) : Type 0 where
   pub good : Good side (keptIn words (applied .left))
   pub levels : held (keptIn words (applied .left)) ≡ afterMessage levelPrice side depth entries (held kept)
   pub count : applied .count ≡ length (applyAll levelPrice entries (held kept))
-  pub met : applied .met ≡ met levelPrice entries (held kept)
+  pub replaced : applied .replaced ≡ replaced levelPrice entries (held kept)

@@ -1,7 +1,7 @@
 // A message's entries applied to one side of an order book, in their written order; then, and never between entries, the side is cut
 // to its best `depth` levels.
 //
-//     let applied = side::apply(&mut bids, count, Side::Bids, 10, prices, sizes, rests); // each entry a place of the three slices
+//     let applied = side::apply(&mut bids, count, Side::Bids, 10, prices, sizes, packs); // each entry a place of the three slices
 //     level::level_at(Levels { words: bids, count: applied.left }, 0)                    // the best bid now
 ghost use Prim.Native.Nat.{_≤_};
 ghost use Rattle.level.specs.Words.{entriesOf};
@@ -27,7 +27,7 @@ const MAX_WORKING: usize = 200;
 pub struct Applied {
     pub left: usize,
     pub count: usize,
-    pub met: bool,
+    pub replaced: bool,
 }
 
 // A side after a message's entries for it: each a place of the three slices, which are as long as each other. The side is the
@@ -39,21 +39,21 @@ pub fn apply(
     depth: usize,
     prices: &[u64],
     sizes: &[u64],
-    rests: &[u64],
+    packs: &[u64],
 ) -> Applied
-    requires { ⌜ Good side (keptIn (now words) kept) × Given (now prices) (now sizes) (now rests) × (depth ≤ maxLevels) ⌝ }
-    ensures { λ r. ⌜ AfterEntries side depth (entriesOf (now (prices .entry)) (now (sizes .entry)) (now (rests .entry))) (keptIn (now (words .entry)) kept) (now (words .exit)) r ⌝ }
+    requires { ⌜ Good side (keptIn (now words) kept) × Given (now prices) (now sizes) (now packs) × (depth ≤ maxLevels) ⌝ }
+    ensures { λ r. ⌜ AfterEntries side depth (entriesOf (now (prices .entry)) (now (sizes .entry)) (now (packs .entry))) (keptIn (now (words .entry)) kept) (now (words .exit)) r ⌝ }
 {
     if prices.len() == 0 {
         if kept <= depth {
             return Applied {
                 left: kept,
                 count: kept,
-                met: false,
+                replaced: false,
             };
         }
     }
-    work(words, kept, side, depth, prices, sizes, rests)
+    work(words, kept, side, depth, prices, sizes, packs)
 }
 
 // All in one function, since it owns the working side: an entry moves the levels that it shifts, and copies no side.
@@ -65,10 +65,10 @@ fn work(
     depth: usize,
     prices: &[u64],
     sizes: &[u64],
-    rests: &[u64],
+    packs: &[u64],
 ) -> Applied
-    requires { ⌜ Good side (keptIn (now words) kept) × Given (now prices) (now sizes) (now rests) × (depth ≤ maxLevels) ⌝ }
-    ensures { λ r. ⌜ AfterEntries side depth (entriesOf (now (prices .entry)) (now (sizes .entry)) (now (rests .entry))) (keptIn (now (words .entry)) kept) (now (words .exit)) r ⌝ }
+    requires { ⌜ Good side (keptIn (now words) kept) × Given (now prices) (now sizes) (now packs) × (depth ≤ maxLevels) ⌝ }
+    ensures { λ r. ⌜ AfterEntries side depth (entriesOf (now (prices .entry)) (now (sizes .entry)) (now (packs .entry))) (keptIn (now (words .entry)) kept) (now (words .exit)) r ⌝ }
 {
     let mut levels = [EMPTY; MAX_WORKING];
     let mut count = kept;
@@ -77,10 +77,10 @@ fn work(
         levels[i] = level_in(words, i);
         i += 1;
     }
-    let mut met = false;
+    let mut replaced = false;
     let mut k = 0;
     'entry: while k < prices.len() {
-        let entry = entry_at(side, prices[k], sizes[k], rests[k]);
+        let entry = entry_at(side, prices[k], sizes[k], packs[k]);
         k += 1;
         let change = entry.change;
         let price = price_named(change);
@@ -102,7 +102,7 @@ fn work(
                 match change {
                     Change::Set(new) => {
                         levels[low] = new;
-                        met = true;
+                        replaced = true;
                     }
                     Change::Remove(_) => {
                         count -= 1;
@@ -139,6 +139,6 @@ fn work(
     Applied {
         left: left,
         count: count,
-        met: met,
+        replaced: replaced,
     }
 }

@@ -16,7 +16,7 @@ use Rattle.entries.proofs.Numbers.{number-within}
 use Rattle.level.specs.Level.{PriceLevel, shownPrice}
 use Rattle.level.specs.Words.{levelPrice, levelSize, shown}
 use Rattle.level.specs.Side.{Edit, sets, removes, applyAll}
-use Rattle.level.specs.Ranked.{mapEdit, All, IfSet, afterMessage, met}
+use Rattle.level.specs.Ranked.{mapEdit, All, IfSet, afterMessage, replaced}
 use Rattle.level.specs.Words.{entriesOf}
 use Rattle.level.specs.Kept.{held, Good}
 use Rattle.side.specs.Applying.{AfterEntries}
@@ -72,8 +72,8 @@ module _ (m : Bool) (side : Side) (depth : ℕ) (kept : Levels) (s : List ℕ) (
   unchanged g few = sym (ap (take depth) (sorted-ranked levelPrice side (held kept) (g .sorted)) ∙ take-all depth (held kept) few)
 
   pub none-worked : count ≡ 0 → Sound m side kept → length (held kept) ≤ depth
-      → Worked m side depth (editsAt m s at count) kept (record { levels = kept; count = kept .count; met = false })
-  unfolding applyAll met
+      → Worked m side depth (editsAt m s at count) kept (record { levels = kept; count = kept .count; replaced = false })
+  unfolding applyAll replaced
   none-worked h k few =
       let z = no-edits h in
       let l = length-map (held kept) shown in
@@ -81,15 +81,15 @@ module _ (m : Bool) (side : Side) (depth : ℕ) (kept : Levels) (s : List ℕ) (
         sound = k;
         levels = ap (map shown) (unchanged (k .good) few) ∙ shown-afterMessage side depth [] (held kept);
         count = sym (held-length kept (k .good .few) (k .good .room)) ∙ sym l;
-        met = refl;
+        replaced = refl;
       })
 
   -- ---- entries
-  module _ (prices sizes rests : List ℕ) (n : ℕ) (words : List ℕ) (r : Applied) where
+  module _ (prices sizes packs : List ℕ) (n : ℕ) (words : List ℕ) (r : Applied) where
     abbrev es : List (Edit Level)
-    es = entriesOf (take n prices) (take n sizes) (take n rests)
+    es = entriesOf (take n prices) (take n sizes) (take n packs)
 
-    pub some-worked : (count ≡ 0 → ⊥) → Sound m side kept → Loaded (pieceFor m) (drop at s) (rowsAt (entryFor m) (drop at s)) prices sizes rests n
+    pub some-worked : (count ≡ 0 → ⊥) → Sound m side kept → Loaded (pieceFor m) (drop at s) (rowsAt (entryFor m) (drop at s)) prices sizes packs n
         → AfterEntries side depth es kept words r → Worked m side depth (editsAt m s at count) kept (sideAfter words r)
     some-worked h k l a =
         let q : map (mapEdit shown) es ≡ editsAt m s at count = l .edits ∙ sym (edits-are h) in
@@ -101,5 +101,5 @@ module _ (m : Bool) (side : Side) (depth : ℕ) (kept : Levels) (s : List ℕ) (
           };
           levels = applied-levels a ∙ ap (λ (x : List (Edit PriceLevel)). afterMessage shownPrice side depth x (map shown (held kept))) q;
           count = applied-count a ∙ ap (λ (x : List (Edit PriceLevel)). length (applyAll shownPrice x (map shown (held kept)))) q;
-          met = applied-met a ∙ ap (λ (x : List (Edit PriceLevel)). met shownPrice x (map shown (held kept))) q;
+          replaced = applied-met a ∙ ap (λ (x : List (Edit PriceLevel)). replaced shownPrice x (map shown (held kept))) q;
         }

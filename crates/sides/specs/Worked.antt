@@ -9,7 +9,7 @@ use Rattle.decimal.specs.Limits.{Within}
 use Rattle.level.specs.Level.{PriceLevel, shownPrice}
 use Rattle.level.specs.Words.{levelSize, shown}
 use Rattle.level.specs.Side.{Edit, applyAll}
-use Rattle.level.specs.Ranked.{All, afterMessage, met}
+use Rattle.level.specs.Ranked.{All, afterMessage, replaced}
 use Rattle.level.specs.Kept.{keptIn, held, Good}
 use Rattle.level.specs.declared.Side.{Side}
 use Rattle.level.specs.declared.Levels.{Levels}
@@ -33,14 +33,14 @@ editsAt m s at count = cond (eqb count 0) [] (map (editAt (drop at s)) (rowsAt (
 pub record SideAfter : Type 0 where
   pub levels : Levels
   pub count : ℕ
-  pub met : Bool
+  pub replaced : Bool
 
 -- What `apply_entries` leaves in the words, and answers.
 abbrev pub sideAfter : List ℕ → Applied → SideAfter
-sideAfter words r = record { levels = keptIn words (r .left); count = r .count; met = r .met }
+sideAfter words r = record { levels = keptIn words (r .left); count = r .count; replaced = r .replaced }
 
 pub record Worked (m : Bool) (side : Side) (depth : ℕ) (edits : List (Edit PriceLevel)) (kept : Levels) (r : SideAfter) : Type 0 where
   pub sound : Sound m side (r .levels)
   pub levels : map shown (held (r .levels)) ≡ afterMessage shownPrice side depth edits (map shown (held kept))
   pub count : r .count ≡ length (applyAll shownPrice edits (map shown (held kept)))
-  pub met : r .met ≡ met shownPrice edits (map shown (held kept))
+  pub replaced : r .replaced ≡ replaced shownPrice edits (map shown (held kept))

@@ -27,13 +27,13 @@ pub fn apply_entries(
         return Applied {
             left: kept,
             count: kept,
-            met: false,
+            replaced: false,
         };
     }
     let mut prices = [0; MAX_ENTRIES];
     let mut sizes = [0; MAX_ENTRIES];
-    let mut rests = [0; MAX_ENTRIES];
-    let n = loader::load(&s[at..], m, &mut prices, &mut sizes, &mut rests);
+    let mut packs = [0; MAX_ENTRIES];
+    let n = loader::load(&s[at..], m, &mut prices, &mut sizes, &mut packs);
     side::apply(
         words,
         kept,
@@ -41,6 +41,6 @@ pub fn apply_entries(
         depth,
         &prices[..n],
         &sizes[..n],
-        &rests[..n],
+        &packs[..n],
     )
 }

@@ -18,7 +18,7 @@ use Rattle.level.specs.Words.{levelPrice, levelSize, shown}
 use Rattle.level.specs.Ranked.{All}
 use Rattle.level.specs.Kept.{held, Good}
 use Rattle.writer.specs.Snapshot.{quoted, commaJoined, array, kEntry, mEntry, kSnapshot, mSnapshot}
-use Rattle.writer.specs.Parts.{entry, entries, kText, mText, Writable, WritableSide, Sized}
+use Rattle.writer.specs.Parts.{entry, entries, kSnapshotText, mSnapshotText, Writable, WritableSide, Sized}
 
 -- ---- entries of levels as they are shown
 
@@ -46,8 +46,8 @@ module _ (depth : ℕ) (name : List ℕ) (bids asks : Levels) where
   abbrev pub kFromBids : List ℕ
   kFromBids = (ascii "],\"bs\":[" ++ entries true bids) ++ kFromDepth
 
-  pub k-parts : kText depth name bids asks ≡ (ascii "[0,{\"as\":[" ++ entries true asks) ++ kFromBids
-  unfolding kText kSnapshot array quoted
+  pub k-parts : kSnapshotText depth name bids asks ≡ (ascii "[0,{\"as\":[" ++ entries true asks) ++ kFromBids
+  unfolding kSnapshotText kSnapshot array quoted
   k-parts =
       ap (λ (l : List ℕ). ascii "[0,{\"as\":[" ++ l)
       (moved (k-side asks) (ascii "]")
@@ -58,7 +58,7 @@ module _ (depth : ℕ) (name : List ℕ) (bids asks : Levels) where
       (ap (λ (l : List ℕ). ascii ",\"" ++ l)
       (moved {x = name} refl (ascii "\"") {r = ascii "]"} refl)))))))
 
-  pub length-k : length (kText depth name bids asks) ≡ 32 + length (entries true asks) + length (entries true bids) + length (written depth) + length name
+  pub length-k : length (kSnapshotText depth name bids asks) ≡ 32 + length (entries true asks) + length (entries true bids) + length (written depth) + length name
   length-k = rw k-parts (simp length-append (omega arith))
 
 -- ---- M
@@ -76,8 +76,8 @@ module _ (name : List ℕ) (bids asks : Levels) (checksum number : ℕ) where
   abbrev pub mFromBids : List ℕ
   mFromBids = (ascii "\",\"type\":\"snapshot\",\"data\":{\"bids\":[" ++ entries false bids) ++ mFromAsks
 
-  pub m-parts : mText name bids asks checksum number ≡ ascii "{\"channel\":\"book\",\"product\":\"" ++ (name ++ mFromBids)
-  unfolding mText mSnapshot array quoted
+  pub m-parts : mSnapshotText name bids asks checksum number ≡ ascii "{\"channel\":\"book\",\"product\":\"" ++ (name ++ mFromBids)
+  unfolding mSnapshotText mSnapshot array quoted
   m-parts =
       ap (λ (l : List ℕ). ascii "{\"channel\":\"book\",\"product\":\"" ++ l)
       (moved {x = name} refl (ascii "\"")
@@ -87,7 +87,7 @@ module _ (name : List ℕ) (bids asks : Levels) (checksum number : ℕ) where
       (moved (m-side asks) (ascii "]")
       {r = ascii "},\"checksum\":" ++ (written checksum ++ mFromNumber)} refl)))))
 
-  pub length-m : length (mText name bids asks checksum number) ≡ 97 + length (entries false bids) + length (entries false asks) + length (written checksum) + length (written number) + length name
+  pub length-m : length (mSnapshotText name bids asks checksum number) ≡ 97 + length (entries false bids) + length (entries false asks) + length (written checksum) + length (written number) + length name
   length-m = rw m-parts (simp length-append (omega arith))
 
 -- ---- limits

@@ -29,11 +29,11 @@ unfoldable pub entries : Bool → Levels → List ℕ
 entries stamped kept = commaJoined (map (entry stamped) (held kept))
 
 -- The text of a book.
-unfoldable pub kText : ℕ → List ℕ → Levels → Levels → List ℕ
-kText depth name bids asks = kSnapshot depth name (map shown (held bids)) (map shown (held asks))
+unfoldable pub kSnapshotText : ℕ → List ℕ → Levels → Levels → List ℕ
+kSnapshotText depth name bids asks = kSnapshot depth name (map shown (held bids)) (map shown (held asks))
 
-unfoldable pub mText : List ℕ → Levels → Levels → ℕ → ℕ → List ℕ
-mText name bids asks checksum number = mSnapshot name (map shown (held bids)) (map shown (held asks)) checksum number
+unfoldable pub mSnapshotText : List ℕ → Levels → Levels → ℕ → ℕ → List ℕ
+mSnapshotText name bids asks checksum number = mSnapshot name (map shown (held bids)) (map shown (held asks)) checksum number
 
 -- ---- what a text needs, and how long it is at the most
 

@@ -15,7 +15,7 @@ ghost use Rattle.level.specs.declared.Side.the-variants.{Bids, Asks};
 ghost use Rattle.level.specs.Words.{shown};
 ghost use Rattle.level.specs.Kept.{held, Good};
 ghost use Rattle.writer.specs.Snapshot.{kSnapshot, mSnapshot};
-ghost use Rattle.writer.specs.Parts.{kText, mText, Sized, maxName, WritableSide, Room, Put};
+ghost use Rattle.writer.specs.Parts.{kSnapshotText, mSnapshotText, Sized, maxName, WritableSide, Room, Put};
 use decimal::Written;
 pub use laying::lay;
 use laying::lay_listed;
@@ -56,8 +56,8 @@ pub fn m_write(
 
 // Lays the text of a K book, asks first.
 fn lay_k(depth: usize, name: &[u8], bids: Levels, asks: Levels, buffer: &mut [u8]) -> usize
-    requires { ⌜ WritableSide bids × WritableSide asks × Room (now buffer) 0 (kText depth (now name) bids asks) ⌝ }
-    ensures { λ r. ⌜ Put (now (buffer .entry)) 0 (kText depth (now (name .entry)) bids asks) (now (buffer .exit)) r ⌝ }
+    requires { ⌜ WritableSide bids × WritableSide asks × Room (now buffer) 0 (kSnapshotText depth (now name) bids asks) ⌝ }
+    ensures { λ r. ⌜ Put (now (buffer .entry)) 0 (kSnapshotText depth (now (name .entry)) bids asks) (now (buffer .exit)) r ⌝ }
 {
     let after_asks = lay_listed(b"[0,{\"as\":[", true, asks, buffer, 0);
     let after_bids = lay_listed(b"],\"bs\":[", true, bids, buffer, after_asks);
@@ -76,8 +76,8 @@ fn lay_m(
     number: u64,
     buffer: &mut [u8],
 ) -> usize
-    requires { ⌜ WritableSide bids × WritableSide asks × Room (now buffer) 0 (mText (now name) bids asks checksum number) ⌝ }
-    ensures { λ r. ⌜ Put (now (buffer .entry)) 0 (mText (now (name .entry)) bids asks checksum number) (now (buffer .exit)) r ⌝ }
+    requires { ⌜ WritableSide bids × WritableSide asks × Room (now buffer) 0 (mSnapshotText (now name) bids asks checksum number) ⌝ }
+    ensures { λ r. ⌜ Put (now (buffer .entry)) 0 (mSnapshotText (now (name .entry)) bids asks checksum number) (now (buffer .exit)) r ⌝ }
 {
     let before_name = lay(b"{\"channel\":\"book\",\"product\":\"", buffer, 0);
     let after_name = lay(name, buffer, before_name);

@@ -2,7 +2,7 @@
 ghost use mathlib.Core.Path.{_≡_};
 ghost use Prim.Native.Nat.{_≤_};
 ghost use lib.ListN.{length};
-ghost use Rattle.writer.specs.Parts.{Writable, WritableSide, entry, entries, kText, mText, maxEntry, maxSide, maxName};
+ghost use Rattle.writer.specs.Parts.{Writable, WritableSide, entry, entries, kSnapshotText, mSnapshotText, maxEntry, maxSide, maxName};
 use level::Level;
 use level::Levels;
 use level::level_in;
@@ -20,7 +20,7 @@ const M_FRAME: usize = 97;
 // The length of a K book's text.
 pub fn k_length(depth: usize, name: &[u8], bids: Levels, asks: Levels) -> usize
     requires { ⌜ WritableSide bids × WritableSide asks × (length (now name) ≤ maxName) ⌝ }
-    ensures { λ r. ⌜ r ≡ length (kText depth (now (name .entry)) bids asks) ⌝ }
+    ensures { λ r. ⌜ r ≡ length (kSnapshotText depth (now (name .entry)) bids asks) ⌝ }
 {
     let sides = side_length(true, asks) + side_length(true, bids);
     K_FRAME + sides + decimal::whole_length(depth as u64) + name.len()
@@ -29,7 +29,7 @@ pub fn k_length(depth: usize, name: &[u8], bids: Levels, asks: Levels) -> usize
 // The length of an M book's text.
 pub fn m_length(name: &[u8], bids: Levels, asks: Levels, checksum: u32, number: u64) -> usize
     requires { ⌜ WritableSide bids × WritableSide asks × (length (now name) ≤ maxName) ⌝ }
-    ensures { λ r. ⌜ r ≡ length (mText (now (name .entry)) bids asks checksum number) ⌝ }
+    ensures { λ r. ⌜ r ≡ length (mSnapshotText (now (name .entry)) bids asks checksum number) ⌝ }
 {
     let sides = side_length(false, bids) + side_length(false, asks);
     let numbers = decimal::whole_length(checksum as u64) + decimal::whole_length(number);

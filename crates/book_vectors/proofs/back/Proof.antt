@@ -40,7 +40,7 @@ array-share-prefix-room c = search needs
 
 slice-aggregate-hand : tie.Need-slice-aggregate-hand
 slice-aggregate-hand c =
-    let l = length-take (c .before .before .before .before .before .before .before .before .before .write .result .amount) (c .before .before .before .before .before .before .before .before .before .write .last .1 .0) in
+    let l = length-take (c .before .before .before .before .before .before .before .before .before .write .result .value) (c .before .before .before .before .before .before .before .before .before .write .last .1 .0) in
     let d = c .before .before .before .before .before .before .before .before .before .before .before .dots .ensures in
     let k = c .before .before .before .before .before .before .before .before .before .write .kept in
     let t = c .before .before .before .before .if2 .left in

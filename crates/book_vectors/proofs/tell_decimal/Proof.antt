@@ -37,8 +37,8 @@ loop-less c = omega arith
 loop-again : tie.Need-loop-again Inv-loop μ-loop
 loop-again c = search needs
 
-enum-told : tie.Need-enum-told Inv-loop μ-loop
-enum-told c = search needs
+enum-reply : tie.Need-enum-reply Inv-loop μ-loop
+enum-reply c = search needs
 
 sub-write : tie.Need-sub-write Inv-loop μ-loop
 sub-write c = search needs
@@ -72,7 +72,7 @@ tell-decimal-spec =
     array-write-text
     loop-less
     loop-again
-    enum-told
+    enum-reply
     sub-write
     part-write-start
     part-write-end

@@ -16,8 +16,8 @@ Inv-loop s from output₀ table book₀ next₀ turns₀ output book next turns 
 abbrev μ-loop : tie.MeasureT-loop
 μ-loop s from output₀ table book₀ next₀ turns₀ output book next turns = turns
 
-within : (c : tie.After-hear-lines Inv-loop μ-loop) → c .before .before .before .before .loop .next + c .hear-lines .result .next ≤ length (c .before .before .before .before .before .before .before .before .args .s .now)
-within c = rest-within (c .before .before .before .before .before .before .before .before .args .s .now) (c .before .before .before .before .loop .next) (c .hear-lines .result .next) (c .before .before .before .before .loop .inv .1) (c .hear-lines .ensures .within)
+within : (c : tie.After-process-lines Inv-loop μ-loop) → c .before .before .before .before .loop .next + c .process-lines .result .next ≤ length (c .before .before .before .before .before .before .before .before .args .s .now)
+within c = rest-within (c .before .before .before .before .before .before .before .before .args .s .now) (c .before .before .before .before .loop .next) (c .process-lines .result .next) (c .before .before .before .before .loop .inv .1) (c .process-lines .ensures .within)
 
 loop-holds : tie.Need-loop-holds Inv-loop μ-loop
 loop-holds c = (c .before .before .before .pre .0, c .before .before .before .pre .1, refl)
@@ -25,29 +25,29 @@ loop-holds c = (c .before .before .before .pre .0, c .before .before .before .pr
 sub-turns : tie.Need-sub-turns Inv-loop μ-loop
 sub-turns c = search needs
 
-sub-hear-lines : tie.Need-sub-hear-lines Inv-loop μ-loop
-sub-hear-lines c = search needs
+sub-process-lines : tie.Need-sub-process-lines Inv-loop μ-loop
+sub-process-lines c = search needs
 
-part-hear-lines-start : tie.Need-part-hear-lines-start Inv-loop μ-loop
-part-hear-lines-start c = search needs
+part-process-lines-start : tie.Need-part-process-lines-start Inv-loop μ-loop
+part-process-lines-start c = search needs
 
-part-hear-lines-end : tie.Need-part-hear-lines-end Inv-loop μ-loop
-part-hear-lines-end c = search needs
+part-process-lines-end : tie.Need-part-process-lines-end Inv-loop μ-loop
+part-process-lines-end c = search needs
 
-hear-lines-requires : tie.Need-hear-lines-requires Inv-loop μ-loop
-hear-lines-requires c κs = (c .before .before .before .loop .inv .0, c .before .before .before .before .before .before .before .pre .2)
+process-lines-requires : tie.Need-process-lines-requires Inv-loop μ-loop
+process-lines-requires c κs = (c .before .before .before .loop .inv .0, c .before .before .before .before .before .before .before .pre .2)
 
 add-next : tie.Need-add-next Inv-loop μ-loop
 add-next c = let w = within (c .before .before .before .before .before) in let g = c .before .before .before .before .before .before .before .before .before .before .before .before .before .good in omega arith
 
 slice-reshare-prefix-write-all : tie.Need-slice-reshare-prefix-write-all Inv-loop μ-loop
-slice-reshare-prefix-write-all c = let r = c .before .before .before .before .before .hear-lines .ensures .room in search needs
+slice-reshare-prefix-write-all c = let r = c .before .before .before .before .before .process-lines .ensures .room in search needs
 
 slice-aggregate-write-all : tie.Need-slice-aggregate-write-all Inv-loop μ-loop
 slice-aggregate-write-all c =
-    let r = c .before .before .before .before .before .before .hear-lines .ensures .room in
-    let b : c .before .before .before .before .before .before .hear-lines .result .written ≤ length (c .before .before .before .before .before .before .hear-lines .last .1 .1 .1 .0) = search needs in
-    sym (length-take-le (c .before .before .before .before .before .before .hear-lines .result .written) (c .before .before .before .before .before .before .hear-lines .last .1 .1 .1 .0) b)
+    let r = c .before .before .before .before .before .before .process-lines .ensures .room in
+    let b : c .before .before .before .before .before .before .process-lines .result .written ≤ length (c .before .before .before .before .before .before .process-lines .last .1 .1 .1 .0) = search needs in
+    sym (length-take-le (c .before .before .before .before .before .before .process-lines .result .written) (c .before .before .before .before .before .before .process-lines .last .1 .1 .1 .0) b)
 
 write-all-requires : tie.Need-write-all-requires Inv-loop μ-loop
 write-all-requires c κs = search needs
@@ -56,7 +56,7 @@ loop-less : tie.Need-loop-less Inv-loop μ-loop
 loop-less c = search needs
 
 loop-again : tie.Need-loop-again Inv-loop μ-loop
-loop-again c = (c .before .before .before .before .before .before .before .hear-lines .ensures .good, within (c .before .before .before .before .before .before .before), search needs)
+loop-again c = (c .before .before .before .before .before .before .before .process-lines .ensures .good, within (c .before .before .before .before .before .before .before), search needs)
 
 same-length : tie.Need-same-length Inv-loop μ-loop
 same-length c = search needs
@@ -78,10 +78,10 @@ reply-spec =
     μ-loop
     loop-holds
     sub-turns
-    sub-hear-lines
-    part-hear-lines-start
-    part-hear-lines-end
-    hear-lines-requires
+    sub-process-lines
+    part-process-lines-start
+    part-process-lines-end
+    process-lines-requires
     add-next
     slice-reshare-prefix-write-all
     slice-aggregate-write-all

@@ -1,5 +1,5 @@
 -- `new_book` meets its contract: an empty side is fine.
-use Rattle.checksum_vectors.proofs.Fine.{none-carried}
+use Rattle.checksum_vectors.proofs.Valid.{none-carried}
 use borrow.Author.Needs.{needs}
 use Rattle.checksum_vectors.proofs.new_book.Statement.{statement}
 use Rattle.checksum_vectors.proofs.new_book.Tie as tie

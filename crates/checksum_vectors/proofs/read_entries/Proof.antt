@@ -4,19 +4,19 @@ use Prim.Native.Nat.{_-_}
 use mathlib.Core.Path.{_≡_, subst}
 use lib.ListN.{length}
 use Rattle.checksum_vectors.specs.Book.{Stored, Readable}
-use Rattle.checksum_vectors.proofs.Fine.{stored-none, stored-more}
+use Rattle.checksum_vectors.proofs.Valid.{stored-none, stored-more}
 use Rattle.checksum_vectors.proofs.read_entries.Statement.{statement}
 use Rattle.checksum_vectors.proofs.read_entries.Tie as tie
 
 abbrev Inv-loop : tie.InvT-loop
-Inv-loop s m prices₀ sizes₀ rests₀ at₀ k₀ prices sizes rests at k =
-    Stored m prices sizes rests k
+Inv-loop s m prices₀ sizes₀ packs₀ at₀ k₀ prices sizes packs at k =
+    Stored m prices sizes packs k
 
 abbrev μ-loop : tie.MeasureT-loop
-μ-loop s m prices₀ sizes₀ rests₀ at₀ k₀ prices sizes rests at k = 100 - k
+μ-loop s m prices₀ sizes₀ packs₀ at₀ k₀ prices sizes packs at k = 100 - k
 
 loop-holds : tie.Need-loop-holds Inv-loop μ-loop
-loop-holds c = stored-none (c .before .args .m) (c .before .args .prices .now) (c .before .args .sizes .now) (c .before .args .rests .now) (c .before .pre .0) (c .before .pre .1) (c .before .pre .2)
+loop-holds c = stored-none (c .before .args .m) (c .before .args .prices .now) (c .before .args .sizes .now) (c .before .args .packs .now) (c .before .pre .0) (c .before .pre .1) (c .before .pre .2)
 
 returns : tie.Need-returns Inv-loop μ-loop
 returns c = c .before .before .loop .inv
@@ -75,11 +75,11 @@ element-write-sizes c = search needs
 pack-requires : tie.Need-pack-requires Inv-loop μ-loop
 pack-requires c κs = search needs
 
-mul-rests : tie.Need-mul-rests Inv-loop μ-loop
-mul-rests c = search needs
+mul-packs : tie.Need-mul-packs Inv-loop μ-loop
+mul-packs c = search needs
 
-element-write-rests : tie.Need-element-write-rests Inv-loop μ-loop
-element-write-rests c = search needs
+element-write-packs : tie.Need-element-write-packs Inv-loop μ-loop
+element-write-packs c = search needs
 
 add-k : tie.Need-add-k Inv-loop μ-loop
 add-k c = search needs
@@ -88,7 +88,7 @@ loop-less : tie.Need-loop-less Inv-loop μ-loop
 loop-less c = search needs
 
 loop-again : tie.Need-loop-again Inv-loop μ-loop
-loop-again c = stored-more (c .before .before .before .before .before .before .before .before .before .before .before .before .before .before .args .m) (c .before .before .before .before .before .before .before .before .before .before .before .before .loop .prices) (c .before .before .before .before .before .before .before .before .before .before .before .before .loop .sizes) (c .before .before .before .before .before .before .before .before .before .before .before .before .loop .rests) (c .before .before .before .before .before .before .before .before .before .before .before .before .loop .k) (c .before .before .level .given .0 .0) (c .pack .result) (c .before .before .before .before .before .before .before .before .before .before .before .loop-test .taken) (c .pack .ensures) (subst (Readable (c .before .before .before .before .before .before .before .before .before .before .before .before .before .before .args .m)) (c .before .before .level .given .1) (c .before .before .before .before .read-level .ensures)) (c .before .before .before .before .before .before .before .before .before .before .before .before .loop .inv)
+loop-again c = stored-more (c .before .before .before .before .before .before .before .before .before .before .before .before .before .before .args .m) (c .before .before .before .before .before .before .before .before .before .before .before .before .loop .prices) (c .before .before .before .before .before .before .before .before .before .before .before .before .loop .sizes) (c .before .before .before .before .before .before .before .before .before .before .before .before .loop .packs) (c .before .before .before .before .before .before .before .before .before .before .before .before .loop .k) (c .before .before .level .given .0 .0) (c .pack .result) (c .before .before .before .before .before .before .before .before .before .before .before .loop-test .taken) (c .pack .ensures) (subst (Readable (c .before .before .before .before .before .before .before .before .before .before .before .before .before .before .args .m)) (c .before .before .level .given .1) (c .before .before .before .before .read-level .ensures)) (c .before .before .before .before .before .before .before .before .before .before .before .before .loop .inv)
 
 enum-told : tie.Need-enum-told Inv-loop μ-loop
 enum-told c = search needs
@@ -125,8 +125,8 @@ read-entries-spec =
     mul-sizes
     element-write-sizes
     pack-requires
-    mul-rests
-    element-write-rests
+    mul-packs
+    element-write-packs
     add-k
     loop-less
     loop-again

@@ -1,6 +1,6 @@
 -- `read_size` meets its contract: a level made of decimals that were read is fine.
 use Rattle.decimal.proofs.RoundTrip.{parsed-within}
-use Rattle.checksum_vectors.proofs.Fine.{made-fine}
+use Rattle.checksum_vectors.proofs.Valid.{made-fine}
 use borrow.Author.Needs.{needs}
 use Rattle.checksum_vectors.proofs.read_size.Statement.{statement}
 use Rattle.checksum_vectors.proofs.read_size.Tie as tie

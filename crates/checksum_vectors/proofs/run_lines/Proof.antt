@@ -2,12 +2,12 @@
 use borrow.Author.Needs.{needs}
 use Prim.Native.Nat.{_+_, _-_, _≤_}
 use lib.ListN.{length}
-use Rattle.checksum_vectors.specs.Book.{Fine}
+use Rattle.checksum_vectors.specs.Book.{Valid}
 use Rattle.checksum_vectors.proofs.run_lines.Statement.{statement}
 use Rattle.checksum_vectors.proofs.run_lines.Tie as tie
 
 abbrev Inv-loop : tie.InvT-loop
-Inv-loop s book₀ at₀ book at = (at ≤ length s + 1) × Fine book
+Inv-loop s book₀ at₀ book at = (at ≤ length s + 1) × Valid book
 
 abbrev μ-loop : tie.MeasureT-loop
 μ-loop s book₀ at₀ book at = length s + 1 - at

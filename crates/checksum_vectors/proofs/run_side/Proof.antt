@@ -5,14 +5,14 @@ use lib.ListN.{take}
 use lib.Seq.{length-take-le}
 use Rattle.level.specs.Words.{entriesOf}
 use Rattle.level.specs.Kept.{keptIn}
-use Rattle.checksum_vectors.specs.Book.{FineSide}
-use Rattle.checksum_vectors.proofs.Fine.{applied-fine}
+use Rattle.checksum_vectors.specs.Book.{ValidSide}
+use Rattle.checksum_vectors.proofs.Valid.{applied-fine}
 use borrow.Author.Needs.{needs}
 use Rattle.checksum_vectors.proofs.run_side.Statement.{statement}
 use Rattle.checksum_vectors.proofs.run_side.Tie as tie
 
 -- the side after the entries
-side-fine : (c : tie.After-apply) → FineSide (c .before .before .before .before .before .before .before .before .before .before .before .args .m) (c .before .before .before .before .before .before .before .before .before .before .before .args .side) (keptIn (c .apply .last .0) (c .apply .result .left))
+side-fine : (c : tie.After-apply) → ValidSide (c .before .before .before .before .before .before .before .before .before .before .before .args .m) (c .before .before .before .before .before .before .before .before .before .before .before .args .side) (keptIn (c .apply .last .0) (c .apply .result .left))
 side-fine c =
     let s = c .before .before .before .before .before .before .before .before .before .before .before in
     let r = c .before .before .before .before .before .before .read-entries in
@@ -33,11 +33,11 @@ array-share-prefix-sizes c = search needs
 slice-aggregate-apply-2 : tie.Need-slice-aggregate-apply-2
 slice-aggregate-apply-2 c = let r = c .before .before .before .before .read-entries in let e = r .ensures .sizes-long in let f = r .ensures .few in sym (length-take-le (r .result) (r .last .1 .1 .1 .0) (omega arith))
 
-array-share-prefix-rests : tie.Need-array-share-prefix-rests
-array-share-prefix-rests c = search needs
+array-share-prefix-packs : tie.Need-array-share-prefix-packs
+array-share-prefix-packs c = search needs
 
 slice-aggregate-apply-3 : tie.Need-slice-aggregate-apply-3
-slice-aggregate-apply-3 c = let r = c .before .before .before .before .before .read-entries in let e = r .ensures .rests-long in let f = r .ensures .few in sym (length-take-le (r .result) (r .last .1 .1 .1 .1 .0) (omega arith))
+slice-aggregate-apply-3 c = let r = c .before .before .before .before .before .read-entries in let e = r .ensures .packs-long in let f = r .ensures .few in sym (length-take-le (r .result) (r .last .1 .1 .1 .1 .0) (omega arith))
 
 apply-requires : tie.Need-apply-requires
 apply-requires c κs = search needs
@@ -72,7 +72,7 @@ run-side-spec =
     slice-aggregate-apply
     array-share-prefix-sizes
     slice-aggregate-apply-2
-    array-share-prefix-rests
+    array-share-prefix-packs
     slice-aggregate-apply-3
     apply-requires
     say-number-requires

@@ -3,7 +3,7 @@ use mathlib.Core.Path.{ap, sym, subst}
 use Rattle.entries.specs.Summary.{priceSpan, sizeSpan}
 use Rattle.entries.specs.Decimals.{NumberOf}
 use Rattle.entries.specs.Counting.{Placed}
-use Rattle.entries.specs.declared.Found.{Found}
+use Rattle.entries.specs.declared.EntryPlace.{EntryPlace}
 use borrow.Author.Needs.{needs}
 use Rattle.entries.proofs.any_entry.Statement.{statement}
 use Rattle.entries.proofs.any_entry.Tie as tie
@@ -26,9 +26,9 @@ returns c =
     let s = c .before .before .before .before .args .s .now in
     let f = c .before .before .entry-at .ensures in
     record {
-      end = ap (λ (x : Found). x .end) f;
-      price = subst (λ (x : Found). NumberOf s (priceSpan x) (c .before .number-at .result)) f (c .before .number-at .ensures);
-      size = subst (λ (x : Found). NumberOf s (sizeSpan x) (c .number-at2 .result)) f (c .number-at2 .ensures);
+      end = ap (λ (x : EntryPlace). x .end) f;
+      price = subst (λ (x : EntryPlace). NumberOf s (priceSpan x) (c .before .number-at .result)) f (c .before .number-at .ensures);
+      size = subst (λ (x : EntryPlace). NumberOf s (sizeSpan x) (c .number-at2 .result)) f (c .number-at2 .ensures);
     }
 
 pub any-entry-spec : {M : Type 1} → statement M

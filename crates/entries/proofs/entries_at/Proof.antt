@@ -13,7 +13,7 @@ use Rattle.json.proofs.Walk.{Walk}
 use Rattle.entries.proofs.Counting.{counted-end}
 use Rattle.entries.proofs.Summary.{each, each-broken, each-few, each-further, each-last, each-on, each-wrong, found-past, summary-empty, summary-other, summary-start, summaryIn}
 use Rattle.entries.specs.Rows.{entryFor}
-use Rattle.entries.specs.Summary.{foundAt, noEntries, summaryAt}
+use Rattle.entries.specs.Summary.{entryPlaceAt, noEntries, summaryAt}
 use Rattle.entries.specs.declared.Entries.{Entries}
 use Rattle.entries.proofs.entries_at.Statement.{statement}
 use Rattle.entries.proofs.entries_at.Tie as tie
@@ -94,7 +94,7 @@ returns-3 c =
     let i = c .before .before .before .loop .i in
     let sum = c .before .before .before .loop .sum in
     let w = c .before .before .before .loop .inv in
-    let g = foundAt (entryFor (a .m)) s i in
+    let g = entryPlaceAt (entryFor (a .m)) s i in
     let e = c .before .before .next-entry .ensures in
     let y = ap (λ (x : Entries). x .end) e ∙ counted-end s sum g in
     c .refused2 .ensures ∙ each-wrong (entryFor (a .m)) s i g refl sum (summaryAt (entryFor (a .m)) s (a .at)) (w .0) (sym y ∙ c .before .if3 .taken)
@@ -115,7 +115,7 @@ returns-4 c =
     let i = c .before .before .before .before .before .before .before .loop .i in
     let sum = c .before .before .before .before .before .before .before .loop .sum in
     let w = c .before .before .before .before .before .before .before .loop .inv in
-    let g = foundAt (entryFor (a .m)) s i in
+    let g = entryPlaceAt (entryFor (a .m)) s i in
     let m = c .before .before .before .before .before .before .next-entry .result in
     let e = c .before .before .before .before .before .before .next-entry .ensures in
     let y = ap (λ (x : Entries). x .end) e ∙ counted-end s sum g in
@@ -135,7 +135,7 @@ returns-5 c =
     let i = c .before .before .before .before .before .before .before .loop .i in
     let sum = c .before .before .before .before .before .before .before .loop .sum in
     let w = c .before .before .before .before .before .before .before .loop .inv in
-    let g = foundAt (entryFor (a .m)) s i in
+    let g = entryPlaceAt (entryFor (a .m)) s i in
     let m = c .before .before .before .before .before .before .next-entry .result in
     let e = c .before .before .before .before .before .before .next-entry .ensures in
     let y = ap (λ (x : Entries). x .end) e ∙ counted-end s sum g in
@@ -153,7 +153,7 @@ loop-less c =
     let i = c .before .before .before .before .loop .i in
     let sum = c .before .before .before .before .loop .sum in
     let w = c .before .before .before .before .loop .inv in
-    let g = foundAt (entryFor (a .m)) s i in
+    let g = entryPlaceAt (entryFor (a .m)) s i in
     let m = c .before .before .before .next-entry .result in
     let e = c .before .before .before .next-entry .ensures in
     let y = ap (λ (x : Entries). x .end) e ∙ counted-end s sum g in
@@ -171,7 +171,7 @@ loop-again c =
     let i = c .before .before .before .before .loop .i in
     let sum = c .before .before .before .before .loop .sum in
     let w = c .before .before .before .before .loop .inv in
-    let g = foundAt (entryFor (a .m)) s i in
+    let g = entryPlaceAt (entryFor (a .m)) s i in
     let m = c .before .before .before .next-entry .result in
     let e = c .before .before .before .next-entry .ensures in
     let y = ap (λ (x : Entries). x .end) e ∙ counted-end s sum g in

@@ -4,7 +4,7 @@ use borrow.Author.Needs.{needs}
 use mathlib.Core.Bool.{Bool}
 use mathlib.Core.Path.{_≡_, _∙_, subst, sym}
 use Rattle.entries.specs.Rows.{entryK, entryM, entryFor}
-use Rattle.entries.specs.Summary.{foundAt}
+use Rattle.entries.specs.Summary.{entryPlaceAt}
 use Rattle.entries.proofs.Entry.{found-ended, found-none, m-end}
 use Rattle.entries.proofs.entry_at.Statement.{statement}
 use Rattle.entries.proofs.entry_at.Tie as tie
@@ -25,7 +25,7 @@ returns c =
     let f = c .before .before .before .before .two-strings in
     let e = c .before .array-close-end in
     let r = c .ended-at in
-    subst (λ (m : Bool). r .result ≡ foundAt (entryFor m) s (a .at)) (sym (c .before .before .if2 .taken))
+    subst (λ (m : Bool). r .result ≡ entryPlaceAt (entryFor m) s (a .at)) (sym (c .before .before .if2 .taken))
     (found-ended entryM s (a .at) (f .result) (f .ensures .two (c .before .before .before .if1 .taken)) (e .result) (m-end s (f .result .end) (e .result) (e .ensures)) (r .result) (r .ensures))
 
 k-rest-end-requires : tie.Need-k-rest-end-requires
@@ -41,7 +41,7 @@ returns-2 c =
     let f = c .before .before .before .before .two-strings in
     let e = c .before .k-rest-end in
     let r = c .ended-at2 in
-    subst (λ (m : Bool). r .result ≡ foundAt (entryFor m) s (a .at)) (sym (c .before .before .if2 .left))
+    subst (λ (m : Bool). r .result ≡ entryPlaceAt (entryFor m) s (a .at)) (sym (c .before .before .if2 .left))
     (found-ended entryK s (a .at) (f .result) (f .ensures .two (c .before .before .before .if1 .taken)) (e .result) (e .ensures) (r .result) (r .ensures))
 
 passed-over-requires : tie.Need-passed-over-requires

@@ -7,7 +7,7 @@ use native.Mathlib.Omega.{arith}
 use Rattle.json_tokens.proofs.Bounds.{end-broken, separator-in, string-in}
 use Rattle.json_tokens.proofs.Laws.{end-at}
 use Rattle.json_tokens.specs.Tokens.{separator, string}
-use Rattle.entries.specs.Summary.{foundOf}
+use Rattle.entries.specs.Summary.{entryPlaceOf}
 use Rattle.entries.proofs.Entry.{k-is, k-no-comma, k-no-third, k-none}
 use Rattle.entries.proofs.k_rest_end.Statement.{statement}
 use Rattle.entries.proofs.k_rest_end.Tie as tie
@@ -38,7 +38,7 @@ rest-end-requires : tie.Need-rest-end-requires
 rest-end-requires c κs = search needs
 
 returns-3 : tie.Need-returns-3
-unfolding foundOf
+unfolding entryPlaceOf
 returns-3 c =
     let a = c .before .before .before .before .before .before .args in
     let s = now (a .s) in

@@ -1,12 +1,12 @@
 -- `entries::no_entry` meets its contract: it is the definition.
 -- Assumes nothing.
 use mathlib.Core.Path.{refl}
-use Rattle.entries.specs.Summary.{foundOf}
+use Rattle.entries.specs.Summary.{entryPlaceOf}
 use Rattle.entries.proofs.no_entry.Statement.{statement}
 use Rattle.entries.proofs.no_entry.Tie as tie
 
 returns : tie.Need-returns
-unfolding foundOf
+unfolding entryPlaceOf
 returns c = refl
 
 pub no-entry-spec : {M : Type 1} → statement M

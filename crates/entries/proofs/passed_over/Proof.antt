@@ -3,7 +3,7 @@
 use borrow.Author.Needs.{needs}
 use mathlib.Core.Path.{_∙_, ap}
 use Rattle.decimal.specs.Digits.{refused}
-use Rattle.entries.specs.Summary.{foundOf}
+use Rattle.entries.specs.Summary.{entryPlaceOf}
 use Rattle.entries.proofs.passed_over.Statement.{statement}
 use Rattle.entries.proofs.passed_over.Tie as tie
 
@@ -14,7 +14,7 @@ no-entry-requires : tie.Need-no-entry-requires
 no-entry-requires c κs = search needs
 
 returns : tie.Need-returns
-returns c = c .no-entry .ensures ∙ ap (λ e. foundOf e refused) (c .before .value-end .ensures)
+returns c = c .no-entry .ensures ∙ ap (λ e. entryPlaceOf e refused) (c .before .value-end .ensures)
 
 pub passed-over-spec : {M : Type 1} → statement M
 passed-over-spec = tie.close (tie.spec value-end-requires no-entry-requires returns)

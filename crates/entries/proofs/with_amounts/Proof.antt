@@ -30,7 +30,7 @@ returns c =
     let fair = c .before .before .before .before .before .before .before .if1 .taken in
     let b = c .before .before .either .ensures ∙ ap (λ (x : Bool). a .sum .broken || x) (c .before .before .before .is-zero .ensures) in
     let z = c .either2 .ensures ∙ ap (λ (x : Bool). a .sum .zero || x) (c .before .is-zero2 .ensures) in
-    rw (fair, withNumbers) (ap₂ (λ (m n : Bool). record { end = a .end; fair = true; count = a .sum .count + 1; broken = m; zero = n }) b z)
+    rw (fair, withNumbers) (ap₂ (λ (m n : Bool). record { end = a .end; «well_formed» = true; count = a .sum .count + 1; broken = m; zero = n }) b z)
 
 refused-requires : tie.Need-refused-requires
 refused-requires c κs = search needs

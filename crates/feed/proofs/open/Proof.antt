@@ -2,7 +2,7 @@
 use mathlib.Core.Path.{ap, _∙_, subst}
 use Rattle.feed.proofs.Replying.{whole-rest}
 use Rattle.book.specs.Shown.{Opened}
-use Rattle.line_text.specs.Opening.{termsOn}
+use Rattle.line_text.specs.Opening.{configOn}
 use borrow.Author.Needs.{needs}
 use Rattle.feed.proofs.open.Statement.{statement}
 use Rattle.feed.proofs.open.Tie as tie
@@ -23,7 +23,7 @@ open-requires : tie.Need-open-requires
 open-requires c κs = search needs
 
 returns : tie.Need-returns
-unfolding termsOn
+unfolding configOn
 returns c =
     let line = c .before .before .before .before .args .line .now in
     let first = c .before .before .read-settings in

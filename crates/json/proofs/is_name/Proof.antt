@@ -7,7 +7,7 @@ use mathlib.Core.Path.{_∙_, sym}
 use native.Mathlib.Omega.{arith}
 use Rattle.json_tokens.proofs.Bounds.{end-broken, word-from}
 use Rattle.json_tokens.proofs.Laws.{end-at, in-byte}
-use Rattle.json_tokens.specs.Tokens.{word}
+use Rattle.json_tokens.specs.Tokens.{literal}
 use Rattle.json.proofs.Names.{means-elsewhere, means-longer, means-no-quote, means-other, means-yes}
 use Rattle.json.proofs.is_name.Statement.{statement}
 use Rattle.json.proofs.is_name.Tie as tie
@@ -51,7 +51,7 @@ returns-2 c =
     let f = a .from in
     let q = sym (c .before .before .before .before .before .before .byte-at .ensures) ∙ c .before .before .before .before .before .if1 .taken in
     let e = c .before .before .before .before .word-end .result in
-    let h = end-at (word n s (f + 1)) e (c .before .before .before .before .word-end .ensures) (c .before .before .before .if2 .left) in
+    let h = end-at (literal n s (f + 1)) e (c .before .before .before .before .word-end .ensures) (c .before .before .before .if2 .left) in
     sym (means-yes s f (a .to) n q e h (sym (c .before .before .byte-at2 .ensures) ∙ c .before .if3 .taken) (c .if4 .taken))
 
 returns-3 : tie.Need-returns-3
@@ -62,7 +62,7 @@ returns-3 c =
     let f = a .from in
     let q = sym (c .before .before .before .before .before .before .byte-at .ensures) ∙ c .before .before .before .before .before .if1 .taken in
     let e = c .before .before .before .before .word-end .result in
-    let h = end-at (word n s (f + 1)) e (c .before .before .before .before .word-end .ensures) (c .before .before .before .if2 .left) in
+    let h = end-at (literal n s (f + 1)) e (c .before .before .before .before .word-end .ensures) (c .before .before .before .if2 .left) in
     sym (means-elsewhere s f (a .to) n q e h (sym (c .before .before .byte-at2 .ensures) ∙ c .before .if3 .taken) (c .if4 .left))
 
 returns-4 : tie.Need-returns-4
@@ -73,7 +73,7 @@ returns-4 c =
     let f = a .from in
     let q = sym (c .before .before .before .before .before .byte-at .ensures) ∙ c .before .before .before .before .if1 .taken in
     let e = c .before .before .before .word-end .result in
-    let h = end-at (word n s (f + 1)) e (c .before .before .before .word-end .ensures) (c .before .before .if2 .left) in
+    let h = end-at (literal n s (f + 1)) e (c .before .before .before .word-end .ensures) (c .before .before .if2 .left) in
     sym (means-longer s f (a .to) n q e h (λ z. c .if3 .left (c .before .byte-at2 .ensures ∙ z)))
 
 returns-5 : tie.Need-returns-5

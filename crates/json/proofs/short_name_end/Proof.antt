@@ -6,17 +6,17 @@ use lib.ListN.{length}
 use mathlib.Core.Path.{_∙_, _≡_, refl, sym}
 use native.Mathlib.Omega.{arith}
 use Rattle.json_tokens.proofs.Laws.{end-is, end-none}
-use Rattle.json_tokens.specs.Tokens.{word}
+use Rattle.json_tokens.specs.Tokens.{literal}
 use Rattle.json.proofs.Names.{spelled-ends, spelled-off, spelled-on, spelled-past}
 use Rattle.json.specs.Ends.{spelled}
 use Rattle.json.proofs.short_name_end.Statement.{statement}
 use Rattle.json.proofs.short_name_end.Tie as tie
 
 abbrev Inv-loop : tie.InvT-loop
-Inv-loop s at name length i₀ rest₀ left₀ i rest left = word (spelled left rest) s i ≡ word (spelled length name) s at
+Inv-loop s at name count i₀ rest₀ left₀ i rest left = literal (spelled left rest) s i ≡ literal (spelled count name) s at
 
 abbrev μ-loop : tie.MeasureT-loop
-μ-loop s at name length i₀ rest₀ left₀ i rest left = left
+μ-loop s at name count i₀ rest₀ left₀ i rest left = left
 
 loop-holds : tie.Need-loop-holds Inv-loop μ-loop
 loop-holds c = refl

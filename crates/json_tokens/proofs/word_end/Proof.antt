@@ -6,18 +6,18 @@ use lib.ListN.{drop, length}
 use mathlib.Core.Path.{_∙_, _≡_, refl, sym}
 use native.Mathlib.Omega.{arith}
 use Rattle.json_tokens.proofs.Laws.{end-is, end-none, word-ends, word-off, word-on, word-past}
-use Rattle.json_tokens.specs.Tokens.{prefix, word}
+use Rattle.json_tokens.specs.Tokens.{startsWith, literal}
 use Rattle.json_tokens.proofs.word_end.Statement.{statement}
 use Rattle.json_tokens.proofs.word_end.Tie as tie
 
 abbrev Inv-loop : tie.InvT-loop
-Inv-loop s at w k₀ i₀ k i = prefix (drop k w) (drop i s) i ≡ word w s at
+Inv-loop s at w k₀ i₀ k i = startsWith (drop k w) (drop i s) i ≡ literal w s at
 
 abbrev μ-loop : tie.MeasureT-loop
 μ-loop s at w k₀ i₀ k i = length w - k
 
 loop-holds : tie.Need-loop-holds Inv-loop μ-loop
-unfolding word
+unfolding literal
 loop-holds c = refl
 
 returns : tie.Need-returns Inv-loop μ-loop

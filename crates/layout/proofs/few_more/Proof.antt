@@ -1,5 +1,5 @@
 -- `few_more` meets its contract: case by case.
-use Rattle.layout.proofs.Marks.{few-more-zero, few-more-some}
+use Rattle.layout.proofs.MemberSpans.{few-more-zero, few-more-some}
 use Rattle.layout.proofs.few_more.Statement.{statement}
 use Rattle.layout.proofs.few_more.Tie as tie
 

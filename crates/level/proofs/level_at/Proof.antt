@@ -5,7 +5,7 @@ use native.Mathlib.Omega.{arith}
 use borrow.Author.Needs.{needs}
 use lib.ListN.{length}
 use lib.Seq.{getD-take}
-use Rattle.level.specs.declared.Found.the-variants.{At}
+use Rattle.level.specs.declared.MaybeLevel.the-variants.{At}
 use Rattle.level.specs.Words.{levelsIn, noLevel}
 use Rattle.level.specs.Kept.{held, levelAt}
 use Rattle.level.proofs.Held.{held-length, level-in, level-past}

@@ -1,6 +1,6 @@
 -- `live` meets its contract.
 use borrow.Author.Needs.{needs}
-use Rattle.lifecycle.specs.Lifecycle.{liveStanding}
+use Rattle.lifecycle.specs.Lifecycle.{liveLifecycle}
 use Rattle.lifecycle.proofs.live.Statement.{statement}
 use Rattle.lifecycle.proofs.live.Tie as tie
 
@@ -8,7 +8,7 @@ either-requires : tie.Need-either-requires
 either-requires c κs = search needs
 
 returns : tie.Need-returns
-unfolding liveStanding
+unfolding liveLifecycle
 returns c = rw (c .either .ensures)
 
 pub live-spec : {M : Type 1} → statement M

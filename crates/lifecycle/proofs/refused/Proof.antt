@@ -10,11 +10,11 @@ leaves-state-requires c κs = search needs
 
 returns : tie.Need-returns
 returns c =
-    refused-left (c .before .before .args .standing) (c .before .before .args .answer) (sym (c .before .leaves-state .ensures) ∙ c .if1 .taken)
+    refused-left (c .before .before .args .lifecycle) (c .before .before .args .answer) (sym (c .before .leaves-state .ensures) ∙ c .if1 .taken)
 
 returns-2 : tie.Need-returns-2
 returns-2 c =
-    refused-waits (c .before .before .args .standing) (c .before .before .args .answer) (sym (c .before .leaves-state .ensures) ∙ c .if1 .left)
+    refused-waits (c .before .before .args .lifecycle) (c .before .before .args .answer) (sym (c .before .leaves-state .ensures) ∙ c .if1 .left)
 
 pub refused-spec : {M : Type 1} → statement M
 refused-spec = tie.close (tie.spec leaves-state-requires returns returns-2)

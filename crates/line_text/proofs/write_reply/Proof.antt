@@ -5,7 +5,7 @@ use mathlib.Core.Bool.{Bool, true, false, cond}
 use mathlib.Core.List.{List, _++_}
 use Rattle.text.specs.Text.{ascii}
 use Rattle.decimal.specs.Digits.{written}
-use Rattle.answer.specs.Answers.{number}
+use Rattle.answer.specs.Answers.{answerNumber}
 use Rattle.writer.proofs.Owed.{Whole, owed-as, owed-rest-as, room-first-as, room-all, put-last}
 use Rattle.line_text.specs.Reply.{countsText, replyText}
 use borrow.Author.Needs.{needs}
@@ -15,7 +15,7 @@ use Rattle.line_text.proofs.write_reply.Tie as tie
 -- ---- the texts, and what is owed after the number
 
 abbrev numberText : tie.Start → List ℕ
-numberText s = written (number (s .args .answer))
+numberText s = written (answerNumber (s .args .answer))
 
 abbrev fromCounts : tie.Start → List ℕ
 fromCounts s = cond (s .args .live) (countsText (s .args .bids) (s .args .asks)) (ascii " - -\n")

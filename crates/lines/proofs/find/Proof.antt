@@ -4,13 +4,13 @@ use Prim.Native.Nat.{_+_, _≤_, _-_}
 use mathlib.Core.Path.{_≡_, sym, _∙_}
 use native.Mathlib.Omega.{arith}
 use lib.ListN.{length, drop}
-use Rattle.lines.specs.Lines.{before}
+use Rattle.lines.specs.Lines.{bytesBefore}
 use Rattle.lines.proofs.Before.{found, passed, ended}
 use Rattle.lines.proofs.find.Statement.{statement}
 use Rattle.lines.proofs.find.Tie as tie
 
 abbrev Inv-loop : tie.InvT-loop
-Inv-loop s at b i₀ i = (at ≤ i) × (i ≤ length s) × (i + before b (drop i s) ≡ at + before b (drop at s))
+Inv-loop s at b i₀ i = (at ≤ i) × (i ≤ length s) × (i + bytesBefore b (drop i s) ≡ at + bytesBefore b (drop at s))
 
 abbrev μ-loop : tie.MeasureT-loop
 μ-loop s at b i₀ i = length s - i

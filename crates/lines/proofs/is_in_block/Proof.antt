@@ -7,13 +7,13 @@ use native.Mathlib.Omega.{arith}
 use borrow.Author.Tests.{le-ltb}
 use lib.Dec.{ltb}
 use lib.ListN.{length, drop}
-use Rattle.lines.specs.Lines.{before}
+use Rattle.lines.specs.Lines.{bytesBefore}
 use Rattle.lines.proofs.Before.{hit, missed}
 use Rattle.lines.proofs.is_in_block.Statement.{statement}
 use Rattle.lines.proofs.is_in_block.Tie as tie
 
 abbrev Inv-loop : tie.InvT-loop
-Inv-loop s at b end found₀ k₀ found k = (at ≤ k) × (k ≤ end) × (found ≡ ltb (before b (drop at s)) (k - at))
+Inv-loop s at b end found₀ k₀ found k = (at ≤ k) × (k ≤ end) × (found ≡ ltb (bytesBefore b (drop at s)) (k - at))
 
 abbrev μ-loop : tie.MeasureT-loop
 μ-loop s at b end found₀ k₀ found k = end - k
@@ -24,7 +24,7 @@ add-end c = search needs
 loop-holds : tie.Need-loop-holds Inv-loop μ-loop
 loop-holds c =
     let a = c .args in
-    (omega arith, omega arith, sym (le-ltb (before (a .b) (drop (a .at) (a .s .now))) (a .at - a .at) (omega arith)))
+    (omega arith, omega arith, sym (le-ltb (bytesBefore (a .b) (drop (a .at) (a .s .now))) (a .at - a .at) (omega arith)))
 
 shared-slice-read-if1 : tie.Need-shared-slice-read-if1 Inv-loop μ-loop
 shared-slice-read-if1 c = search needs
@@ -51,7 +51,7 @@ returns c =
     let a = c .before .before .args in
     let l = c .before .loop in
     let e : l .k - a .at ≡ 16 = omega arith in
-    l .inv .2 ∙ ap (ltb (before (a .b) (drop (a .at) (a .s .now)))) e
+    l .inv .2 ∙ ap (ltb (bytesBefore (a .b) (drop (a .at) (a .s .now)))) e
 
 pub is-in-block-spec : {M : Type 1} → statement M
 is-in-block-spec =

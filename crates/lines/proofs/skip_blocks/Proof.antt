@@ -5,13 +5,13 @@ use mathlib.Core.Path.{_≡_, refl, sym, _∙_}
 use native.Mathlib.Omega.{arith}
 use borrow.Author.Tests.{ltb-false}
 use lib.ListN.{length, drop}
-use Rattle.lines.specs.Lines.{before}
+use Rattle.lines.specs.Lines.{bytesBefore}
 use Rattle.lines.proofs.Before.{skipped}
 use Rattle.lines.proofs.skip_blocks.Statement.{statement}
 use Rattle.lines.proofs.skip_blocks.Tie as tie
 
 abbrev Inv-loop : tie.InvT-loop
-Inv-loop s at b i₀ i = (at ≤ i) × (i ≤ length s) × (i + before b (drop i s) ≡ at + before b (drop at s))
+Inv-loop s at b i₀ i = (at ≤ i) × (i ≤ length s) × (i + bytesBefore b (drop i s) ≡ at + bytesBefore b (drop at s))
 
 abbrev μ-loop : tie.MeasureT-loop
 μ-loop s at b i₀ i = length s - i
@@ -39,7 +39,7 @@ loop-again c =
     let a = c .before .before .before .before .before .args in
     let s = a .s .now in
     let l = c .before .before .before .loop in
-    let none = ltb-false (before (a .b) (drop (l .i) s)) 16 (sym (c .before .is-in-block .ensures) ∙ c .if1 .left) in
+    let none = ltb-false (bytesBefore (a .b) (drop (l .i) s)) 16 (sym (c .before .is-in-block .ensures) ∙ c .if1 .left) in
     (omega arith, omega arith, skipped s (l .i) 16 (a .b) none ∙ l .inv .2)
 
 returns-2 : tie.Need-returns-2 Inv-loop μ-loop

@@ -3,7 +3,7 @@ use borrow.Author.Needs.{needs}
 use Prim.Native.Nat.{_-_}
 use native.Mathlib.Omega.{arith}
 use Rattle.entries.specs.Rows.{entryFor}
-use Rattle.entries.specs.Summary.{foundAt}
+use Rattle.entries.specs.Summary.{entryPlaceAt}
 use Rattle.entries.proofs.Strings.{sound-for}
 use Rattle.loader.specs.Loaded.{pieceFor}
 use Rattle.loader.proofs.Words.{level-made}
@@ -12,11 +12,11 @@ use Rattle.loader.proofs.load.Statement.{statement}
 use Rattle.loader.proofs.load.Tie as tie
 
 abbrev Inv-loop : tie.InvT-loop
-Inv-loop s m prices₀ sizes₀ rests₀ at₀ k₀ prices sizes rests at k =
-    Going (entryFor m) (pieceFor m) s prices sizes rests at k
+Inv-loop s m prices₀ sizes₀ packs₀ at₀ k₀ prices sizes packs at k =
+    Going (entryFor m) (pieceFor m) s prices sizes packs at k
 
 abbrev μ-loop : tie.MeasureT-loop
-μ-loop s m prices₀ sizes₀ rests₀ at₀ k₀ prices sizes rests at k = 100 - k
+μ-loop s m prices₀ sizes₀ packs₀ at₀ k₀ prices sizes packs at k = 100 - k
 
 first-at-requires : tie.Need-first-at-requires Inv-loop μ-loop
 first-at-requires c κs = search needs
@@ -69,15 +69,15 @@ element-write-sizes c =
 pack-requires : tie.Need-pack-requires Inv-loop μ-loop
 pack-requires c κs = search needs
 
-mul-rests : tie.Need-mul-rests Inv-loop μ-loop
-mul-rests c =
+mul-packs : tie.Need-mul-packs Inv-loop μ-loop
+mul-packs c =
     let a = c .before .before .before .before .before .before .before .args in
     let s = a .s .now in
     let k = going-below (entryFor (a .m)) s (c .before .before .before .before .loop .inv) (c .before .before .before .loop-test .taken) in
     omega arith
 
-element-write-rests : tie.Need-element-write-rests Inv-loop μ-loop
-element-write-rests c =
+element-write-packs : tie.Need-element-write-packs Inv-loop μ-loop
+element-write-packs c =
     let a = c .before .before .before .before .before .before .before .args in
     let s = a .s .now in
     let k = going-below (entryFor (a .m)) s (c .before .before .before .before .loop .inv) (c .before .before .before .loop-test .taken) in
@@ -109,7 +109,7 @@ loop-again c =
     let e = b .read-entry .ensures in
     let level = c .before .before .level-of in
     going-more (entryFor (a .m)) s (b .before .before .loop .inv) (b .before .loop-test .taken) (level .result) (c .before .pack .result) (c .before .pack .ensures)
-    (level-made s (foundAt (entryFor (a .m)) s (b .before .before .loop .at)) (e .price) (e .size) (level .ensures)) (b .read-entry .result .end) (c .comma-end .result) (e .end)
+    (level-made s (entryPlaceAt (entryFor (a .m)) s (b .before .before .loop .at)) (e .price) (e .size) (level .ensures)) (b .read-entry .result .end) (c .comma-end .result) (e .end)
     (c .comma-end .ensures)
 
 returns : tie.Need-returns Inv-loop μ-loop
@@ -134,8 +134,8 @@ load-spec =
     mul-sizes
     element-write-sizes
     pack-requires
-    mul-rests
-    element-write-rests
+    mul-packs
+    element-write-packs
     add-k
     comma-end-requires
     loop-less

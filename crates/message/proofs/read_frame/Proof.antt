@@ -2,8 +2,8 @@
 use Rattle.message.proofs.Reading.{frame-long, frame-rest}
 use mathlib.Core.Path.{ap, _∙_}
 use denote.Ref.{now}
-use Rattle.layout.specs.Told.{toldAt}
-use Rattle.message.specs.Meaning.{heardIn}
+use Rattle.layout.specs.Scan.{scanAt}
+use Rattle.message.specs.Meaning.{envelopeIn}
 use borrow.Author.Needs.{needs}
 use Rattle.message.proofs.read_frame.Statement.{statement}
 use Rattle.message.proofs.read_frame.Tie as tie
@@ -16,8 +16,8 @@ returns c =
 skip-blanks-requires : tie.Need-skip-blanks-requires
 skip-blanks-requires c κs = search needs
 
-told-at-requires : tie.Need-told-at-requires
-told-at-requires c κs = search needs
+scan-at-requires : tie.Need-scan-at-requires
+scan-at-requires c κs = search needs
 
 is-ended-requires : tie.Need-is-ended-requires
 is-ended-requires c κs = search needs
@@ -29,7 +29,7 @@ returns-2 : tie.Need-returns-2
 returns-2 c =
     let a = c .before .before .before .before .before .before .before .args in
     let k = c .before .before .before .skip-blanks .ensures in
-    c .decide .ensures ∙ frame-rest (record { dialect = a .dialect; depth = a .depth; name = now (a .name) }) (now (a .s)) (c .before .before .before .before .if1 .left) (c .before .before .told-at .result) (c .before .before .told-at .ensures ∙ ap (toldAt (heardIn (a .dialect) (record { dialect = a .dialect; depth = a .depth; name = now (a .name) })) (now (a .s))) k) (c .before .is-ended .result) (c .before .is-ended .ensures)
+    c .decide .ensures ∙ frame-rest (record { dialect = a .dialect; depth = a .depth; name = now (a .name) }) (now (a .s)) (c .before .before .before .before .if1 .left) (c .before .before .scan-at .result) (c .before .before .scan-at .ensures ∙ ap (scanAt (envelopeIn (a .dialect) (record { dialect = a .dialect; depth = a .depth; name = now (a .name) })) (now (a .s))) k) (c .before .is-ended .result) (c .before .is-ended .ensures)
 
 pub read-frame-spec : {M : Type 1} → statement M
 read-frame-spec =
@@ -37,7 +37,7 @@ read-frame-spec =
     (tie.spec
     returns
     skip-blanks-requires
-    told-at-requires
+    scan-at-requires
     is-ended-requires
     decide-requires
     returns-2)

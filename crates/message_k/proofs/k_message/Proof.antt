@@ -4,7 +4,7 @@ use mathlib.Core.Path.{sym, ap, _∙_}
 use denote.Ref.{now}
 use native.Mathlib.Omega.{arith}
 use Rattle.json_tokens.proofs.Laws.{in-byte}
-use Rattle.layout.specs.Told.{noFrame}
+use Rattle.layout.specs.Scan.{notFramed}
 use Rattle.message_k.specs.PartsK.{framedAs}
 use Rattle.message_k.proofs.Messages.{toldBy, told-four, told-five, told-other, told-none, told-array}
 use borrow.Author.Needs.{needs}
@@ -17,8 +17,8 @@ byte-at-requires c κs = search needs
 value-end-requires : tie.Need-value-end-requires
 value-end-requires c κs = search needs
 
-untold-requires : tie.Need-untold-requires
-untold-requires c κs = search needs
+not-framed-requires : tie.Need-not-framed-requires
+not-framed-requires c κs = search needs
 
 returns : tie.Need-returns
 returns c =
@@ -26,7 +26,7 @@ returns c =
     let s = now (a .s) in
     let d = a .depth in
     let n = now (a .name) in
-    c .untold .ensures ∙ ap noFrame (c .before .value-end .ensures) ∙ told-none d n s (a .at) (λ z. c .before .before .if1 .taken (c .before .before .before .byte-at .ensures ∙ z))
+    c .not-framed .ensures ∙ ap notFramed (c .before .value-end .ensures) ∙ told-none d n s (a .at) (λ z. c .before .before .if1 .taken (c .before .before .before .byte-at .ensures ∙ z))
 
 add-k-parts : tie.Need-add-k-parts
 add-k-parts c =
@@ -69,8 +69,8 @@ returns-3 c =
     let p = c .before .before .before .before .before .before .before .k-parts .result in
     c .framed2 .ensures ∙ ap (framedAs d n s (p .end) (p .outer)) (c .before .two-objects .ensures) ∙ told-five d n s p (c .before .before .before .before .if3 .taken) ∙ ap (toldBy d n s) (c .before .before .before .before .before .before .before .k-parts .ensures) ∙ told-array d n s (a .at) (sym (c .before .before .before .before .before .before .before .before .before .byte-at .ensures) ∙ c .before .before .before .before .before .before .before .before .if1 .left)
 
-untold-requires-2 : tie.Need-untold-requires-2
-untold-requires-2 c κs = search needs
+not-framed-requires-2 : tie.Need-not-framed-requires-2
+not-framed-requires-2 c κs = search needs
 
 returns-4 : tie.Need-returns-4
 returns-4 c =
@@ -79,7 +79,7 @@ returns-4 c =
     let d = a .depth in
     let n = now (a .name) in
     let p = c .before .before .before .before .k-parts .result in
-    c .untold2 .ensures ∙ told-other d n s p (c .before .before .if2 .left) (c .before .if3 .left) ∙ ap (toldBy d n s) (c .before .before .before .before .k-parts .ensures) ∙ told-array d n s (a .at) (sym (c .before .before .before .before .before .before .byte-at .ensures) ∙ c .before .before .before .before .before .if1 .left)
+    c .not-framed2 .ensures ∙ told-other d n s p (c .before .before .if2 .left) (c .before .if3 .left) ∙ ap (toldBy d n s) (c .before .before .before .before .k-parts .ensures) ∙ told-array d n s (a .at) (sym (c .before .before .before .before .before .before .byte-at .ensures) ∙ c .before .before .before .before .before .if1 .left)
 
 pub k-message-spec : {M : Type 1} → statement M
 k-message-spec =
@@ -87,7 +87,7 @@ k-message-spec =
     (tie.spec
     byte-at-requires
     value-end-requires
-    untold-requires
+    not-framed-requires
     returns
     add-k-parts
     k-parts-requires
@@ -97,5 +97,5 @@ k-message-spec =
     two-objects-requires
     framed-requires-2
     returns-3
-    untold-requires-2
+    not-framed-requires-2
     returns-4)

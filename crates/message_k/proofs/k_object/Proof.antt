@@ -56,7 +56,7 @@ module _ (c : tie.After-k-member Inv-loop μ-loop) where
       member-stands 14 (text at) (at .loop .i) (c .before .before .before .before .string-end .result) (c .before .before .before .before .string-end .ensures) (c .before .before .before .if3 .left) (c .before .before .colon-end .result) (c .before .before .colon-end .ensures) (c .before .if4 .left) (next .end) ends
 
   steps : (next .end ≡ 0 → ⊥) → next ≡ withMember (text at) (at .loop .members) here
-  steps n = c .k-member .ensures .told (next .end) (end-at (value 14 (text at) (c .before .before .colon-end .result)) (next .end) ends n)
+  steps n = c .k-member .ensures .collected (next .end) (end-at (value 14 (text at) (c .before .before .colon-end .result)) (next .end) ends n)
 
 byte-at-requires : tie.Need-byte-at-requires Inv-loop μ-loop
 byte-at-requires c κs = search needs

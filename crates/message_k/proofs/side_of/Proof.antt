@@ -7,16 +7,16 @@ use borrow.Author.Needs.{needs}
 use Rattle.message_k.proofs.side_of.Statement.{statement}
 use Rattle.message_k.proofs.side_of.Tie as tie
 
-no-listing-requires : tie.Need-no-listing-requires
-no-listing-requires c κs = search needs
+absent-entry-array-requires : tie.Need-absent-entry-array-requires
+absent-entry-array-requires c κs = search needs
 
 returns : tie.Need-returns
 unfolding sideOf
-returns c = c .no-listing .ensures ∙ sym (rw (eq-eqb _ _ (c .before .if1 .taken), sideOf))
+returns c = c .absent-entry-array .ensures ∙ sym (rw (eq-eqb _ _ (c .before .if1 .taken), sideOf))
 
 returns-2 : tie.Need-returns-2
 unfolding sideOf
 returns-2 c = sym (rw (ne-eqb _ _ (c .before .if1 .left), sideOf))
 
 pub side-of-spec : {M : Type 1} → statement M
-side-of-spec = tie.close (tie.spec no-listing-requires returns returns-2)
+side-of-spec = tie.close (tie.spec absent-entry-array-requires returns returns-2)

@@ -11,14 +11,14 @@ use borrow.Author.Needs.{needs}
 use Rattle.message_k.proofs.summed.Statement.{statement}
 use Rattle.message_k.proofs.summed.Tie as tie
 
-marked-requires : tie.Need-marked-requires
-marked-requires c κs = search needs
+with-member-span-requires : tie.Need-with-member-span-requires
+with-member-span-requires c κs = search needs
 
 byte-at-requires : tie.Need-byte-at-requires
 byte-at-requires c κs = search needs
 
 returns : tie.Need-returns
-returns c = let a = c .before .before .before .before .before .args in sum-other (now (a .s)) (a .from) (a .to) (a .sum) (c .before .before .marked .ensures) (λ h. c .if1 .taken (c .before .byte-at .ensures ∙ h))
+returns c = let a = c .before .before .before .before .before .args in sum-other (now (a .s)) (a .from) (a .to) (a .sum) (c .before .before .with-member-span .ensures) (λ h. c .if1 .taken (c .before .byte-at .ensures ∙ h))
 
 add-first : tie.Need-add-first
 add-first c = let a = c .before .before .before .before .before .args in let v = c .before .before .before .before .before .pre in let q = quoted-room 14 (now (a .s)) (a .from) (a .to) v (sym (c .before .byte-at .ensures) ∙ c .if1 .left) in omega arith
@@ -49,20 +49,20 @@ unfolding isRead orZero
 returns-2 c =
     let a = c .before .before .before .before .before .before .before .before .before .before .args in
     let h = c .before .n .given .1 in
-    sum-read (now (a .s)) (a .from) (a .to) (a .sum) (c .before .before .before .before .before .before .before .marked .ensures) (sym (c .before .before .before .before .before .before .byte-at .ensures) ∙ c .before .before .before .before .before .if1 .left) (reads (c .before .n .given .0 .0)) (sym (ap parsedChecksum h) ∙ c .before .before .before .parse-checksum .ensures)
+    sum-read (now (a .s)) (a .from) (a .to) (a .sum) (c .before .before .before .before .before .before .before .with-member-span .ensures) (sym (c .before .before .before .before .before .before .byte-at .ensures) ∙ c .before .before .before .before .before .if1 .left) (reads (c .before .n .given .0 .0)) (sym (ap parsedChecksum h) ∙ c .before .before .before .parse-checksum .ensures)
 
 returns-3 : tie.Need-returns-3
 unfolding isRead orZero
 returns-3 c =
     let a = c .before .before .before .before .before .before .before .before .before .args in
     let h = c .enum-told .given .1 in
-    sum-read (now (a .s)) (a .from) (a .to) (a .sum) (c .before .before .before .before .before .before .marked .ensures) (sym (c .before .before .before .before .before .byte-at .ensures) ∙ c .before .before .before .before .if1 .left) refused (sym (ap parsedChecksum h) ∙ c .before .before .parse-checksum .ensures)
+    sum-read (now (a .s)) (a .from) (a .to) (a .sum) (c .before .before .before .before .before .before .with-member-span .ensures) (sym (c .before .before .before .before .before .byte-at .ensures) ∙ c .before .before .before .before .if1 .left) refused (sym (ap parsedChecksum h) ∙ c .before .before .parse-checksum .ensures)
 
 pub summed-spec : {M : Type 1} → statement M
 summed-spec =
     tie.close
     (tie.spec
-    marked-requires
+    with-member-span-requires
     byte-at-requires
     returns
     add-first

@@ -2,7 +2,7 @@
 -- Assumes nothing.
 use denote.Ref.{now}
 use mathlib.Core.Path.{_∙_, ap₂}
-use Rattle.layout.specs.declared.Listing.{Listing}
+use Rattle.layout.specs.declared.EntryArray.{EntryArray}
 use Rattle.message_m.specs.Collected.{numbersIn}
 use Rattle.message_m.proofs.Outlines.{body-not-once, body-once}
 use borrow.Author.Needs.{needs}
@@ -32,7 +32,7 @@ returns-2 c =
     let a = c .before .before .before .before .before .before .before .before .args in
     let s = now (a .s) in
     let m = a .met in
-    c .numbers-outline .ensures ∙ ap₂ (λ (x y : Listing). numbersIn s (a .snapshot) x y (m .checksum) (m .gsn)) (c .before .before .once-listed .ensures) (c .before .once-listed2 .ensures)
+    c .numbers-outline .ensures ∙ ap₂ (λ (x y : EntryArray). numbersIn s (a .snapshot) x y (m .checksum) (m .gsn)) (c .before .before .once-listed .ensures) (c .before .once-listed2 .ensures)
     ∙ body-once s (a .snapshot) (a .met) (c .before .before .before .if1 .left)
 
 pub body-outline-spec : {M : Type 1} → statement M

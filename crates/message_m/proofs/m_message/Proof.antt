@@ -11,9 +11,9 @@ use mathlib.Core.List.{List}
 use Rattle.json_tokens.specs.Ends.{endOf}
 use Rattle.json.specs.Json.{Pair, wrong, member, value}
 use Rattle.json.proofs.Fold.{Left, Stands, pairAt, no-name, no-colon, no-value, member-places, member-stands, fold-wrong, fold-further, fold-on, fold-last, fold-broken}
-use Rattle.layout.specs.Told.{toldAt}
-use Rattle.message_m.specs.LayoutM.{heardM}
-use Rattle.message_m.specs.Collected.{moreMembers, toldIn}
+use Rattle.layout.specs.Scan.{scanAt}
+use Rattle.message_m.specs.LayoutM.{envelopeM}
+use Rattle.message_m.specs.Collected.{moreMembers, scanIn}
 use Rattle.message_m.specs.declared.Members.{Members}
 use Rattle.message_m.proofs.Objects.{value-ends, next-is}
 use Rattle.message_m.proofs.Whole.{messageLoop, members-end, Marked, marked-more, unmarked-placed, told-none, told-empty, told-start}
@@ -21,7 +21,7 @@ use Rattle.message_m.proofs.m_message.Statement.{statement}
 use Rattle.message_m.proofs.m_message.Tie as tie
 
 abbrev Inv-loop : tie.InvT-loop
-Inv-loop s at name none i₀ met₀ i met = Left (messageLoop name s) met i (toldAt (heardM name) s at) × Marked s met
+Inv-loop s at name none i₀ met₀ i met = Left (messageLoop name s) met i (scanAt (envelopeM name) s at) × Marked s met
 
 abbrev μ-loop : tie.MeasureT-loop
 μ-loop s at name none i₀ met₀ i met = length s - i
@@ -74,14 +74,14 @@ byte-at-requires c κs = search needs
 value-end-requires : tie.Need-value-end-requires Inv-loop μ-loop
 value-end-requires c κs = search needs
 
-untold-requires : tie.Need-untold-requires Inv-loop μ-loop
-untold-requires c κs = search needs
+not-framed-requires : tie.Need-not-framed-requires Inv-loop μ-loop
+not-framed-requires c κs = search needs
 
 returns : tie.Need-returns Inv-loop μ-loop
 returns c =
     let a = c .before .before .before .before .before .before .args in
     let s = now (a .s) in
-    c .untold .ensures ∙ told-none (now (a .name)) s (a .at) (λ h. c .before .before .if1 .taken (c .before .before .before .byte-at .ensures ∙ h)) (c .before .value-end .ensures)
+    c .not-framed .ensures ∙ told-none (now (a .name)) s (a .at) (λ h. c .before .before .if1 .taken (c .before .before .before .byte-at .ensures ∙ h)) (c .before .value-end .ensures)
 
 add-object-close-end : tie.Need-add-object-close-end Inv-loop μ-loop
 add-object-close-end c =
@@ -96,8 +96,8 @@ object-close-end-requires c κs = search needs
 no-members-requires : tie.Need-no-members-requires Inv-loop μ-loop
 no-members-requires c κs = search needs
 
-told-requires : tie.Need-told-requires Inv-loop μ-loop
-told-requires c κs =
+scan-requires : tie.Need-scan-requires Inv-loop μ-loop
+scan-requires c κs =
     let a = c .before .before .before .before .before .before .before .args in
     let s = now (a .s) in
     rw (c .no-members .ensures) (unmarked-placed s)
@@ -107,7 +107,7 @@ returns-2 c =
     let a = c .before .before .before .before .before .before .before .before .args in
     let s = now (a .s) in
     let o = sym (c .before .before .before .before .before .byte-at .ensures) ∙ c .before .before .before .before .if1 .left in
-    c .told .ensures ∙ ap (toldIn s (c .before .before .before .object-close-end .result)) (c .before .no-members .ensures) ∙ told-empty (now (a .name)) s (a .at) o (c .before .before .before .object-close-end .result) (c .before .before .before .object-close-end .ensures) (c .before .before .if2 .taken)
+    c .scan .ensures ∙ ap (scanIn s (c .before .before .before .object-close-end .result)) (c .before .no-members .ensures) ∙ told-empty (now (a .name)) s (a .at) o (c .before .before .before .object-close-end .result) (c .before .before .before .object-close-end .ensures) (c .before .before .if2 .taken)
 
 add-skip-blanks : tie.Need-add-skip-blanks Inv-loop μ-loop
 add-skip-blanks c =
@@ -133,35 +133,35 @@ loop-holds c =
 string-end-requires : tie.Need-string-end-requires Inv-loop μ-loop
 string-end-requires c κs = search needs
 
-untold-requires-2 : tie.Need-untold-requires-2 Inv-loop μ-loop
-untold-requires-2 c κs = search needs
+not-framed-requires-2 : tie.Need-not-framed-requires-2 Inv-loop μ-loop
+not-framed-requires-2 c κs = search needs
 
 returns-3 : tie.Need-returns-3 Inv-loop μ-loop
 returns-3 c =
     let a = c .before .before .before in
-    c .untold2 .ensures ∙ fold-wrong (messageLoop (product a) (text a)) (a .loop .met) (a .loop .inv .0) (no-name 15 (text a) (a .loop .i) (c .before .before .string-end .result) (c .before .before .string-end .ensures) (c .before .if3 .taken))
+    c .not-framed2 .ensures ∙ fold-wrong (messageLoop (product a) (text a)) (a .loop .met) (a .loop .inv .0) (no-name 15 (text a) (a .loop .i) (c .before .before .string-end .result) (c .before .before .string-end .ensures) (c .before .if3 .taken))
 
 colon-end-requires : tie.Need-colon-end-requires Inv-loop μ-loop
 colon-end-requires c κs = search needs
 
-untold-requires-3 : tie.Need-untold-requires-3 Inv-loop μ-loop
-untold-requires-3 c κs = search needs
+not-framed-requires-3 : tie.Need-not-framed-requires-3 Inv-loop μ-loop
+not-framed-requires-3 c κs = search needs
 
 returns-4 : tie.Need-returns-4 Inv-loop μ-loop
 returns-4 c =
     let a = c .before .before .before .before .before in
-    c .untold3 .ensures ∙ fold-wrong (messageLoop (product a) (text a)) (a .loop .met) (a .loop .inv .0) (no-colon 15 (text a) (a .loop .i) (c .before .before .before .before .string-end .result) (c .before .before .before .before .string-end .ensures) (c .before .before .before .if3 .left) (c .before .before .colon-end .result) (c .before .before .colon-end .ensures) (c .before .if4 .taken))
+    c .not-framed3 .ensures ∙ fold-wrong (messageLoop (product a) (text a)) (a .loop .met) (a .loop .inv .0) (no-colon 15 (text a) (a .loop .i) (c .before .before .before .before .string-end .result) (c .before .before .before .before .string-end .ensures) (c .before .before .before .if3 .left) (c .before .before .colon-end .result) (c .before .before .colon-end .ensures) (c .before .if4 .taken))
 
 more-members-requires : tie.Need-more-members-requires Inv-loop μ-loop
 more-members-requires c κs = search needs
 
-untold-requires-4 : tie.Need-untold-requires-4 Inv-loop μ-loop
-untold-requires-4 c κs = search needs
+not-framed-requires-4 : tie.Need-not-framed-requires-4 Inv-loop μ-loop
+not-framed-requires-4 c κs = search needs
 
 returns-5 : tie.Need-returns-5 Inv-loop μ-loop
 returns-5 c =
     let m = c .before .before in
-    c .untold4 .ensures ∙ fold-wrong (messageLoop (product (at m)) (text (at m))) (at m .loop .met) (at m .loop .inv .0) (none m (c .before .if5 .taken))
+    c .not-framed4 .ensures ∙ fold-wrong (messageLoop (product (at m)) (text (at m))) (at m .loop .met) (at m .loop .inv .0) (none m (c .before .if5 .taken))
 
 comma-end-requires : tie.Need-comma-end-requires Inv-loop μ-loop
 comma-end-requires c κs = search needs
@@ -169,22 +169,22 @@ comma-end-requires c κs = search needs
 object-close-end-requires-2 : tie.Need-object-close-end-requires-2 Inv-loop μ-loop
 object-close-end-requires-2 c κs = search needs
 
-untold-requires-5 : tie.Need-untold-requires-5 Inv-loop μ-loop
-untold-requires-5 c κs = search needs
+not-framed-requires-5 : tie.Need-not-framed-requires-5 Inv-loop μ-loop
+not-framed-requires-5 c κs = search needs
 
 returns-6 : tie.Need-returns-6 Inv-loop μ-loop
 returns-6 c =
     let m = c .before .before .before .before .before .before in
-    c .untold5 .ensures ∙ fold-broken (messageLoop (product (at m)) (text (at m))) (at m .loop .met) (at m .loop .inv .0) (stands m (c .before .before .before .before .before .if5 .left)) (c .before .before .before .before .comma-end .result) (c .before .before .before .before .comma-end .ensures) (c .before .before .before .if6 .taken) (c .before .before .object-close-end2 .result) (c .before .before .object-close-end2 .ensures) (c .before .if7 .taken)
+    c .not-framed5 .ensures ∙ fold-broken (messageLoop (product (at m)) (text (at m))) (at m .loop .met) (at m .loop .inv .0) (stands m (c .before .before .before .before .before .if5 .left)) (c .before .before .before .before .comma-end .result) (c .before .before .before .before .comma-end .ensures) (c .before .before .before .if6 .taken) (c .before .before .object-close-end2 .result) (c .before .before .object-close-end2 .ensures) (c .before .if7 .taken)
 
-told-requires-2 : tie.Need-told-requires-2 Inv-loop μ-loop
-told-requires-2 c κs =
+scan-requires-2 : tie.Need-scan-requires-2 Inv-loop μ-loop
+scan-requires-2 c κs =
     places (c .before .before .before .before .before) (c .before .before .before .before .if5 .left)
 
 returns-7 : tie.Need-returns-7 Inv-loop μ-loop
 returns-7 c =
     let m = c .before .before .before .before .before .before in
-    c .told2 .ensures ∙ fold-last (messageLoop (product (at m)) (text (at m))) (at m .loop .met) (at m .loop .inv .0) (stands m (c .before .before .before .before .before .if5 .left)) (c .before .before .before .before .comma-end .result) (c .before .before .before .before .comma-end .ensures) (c .before .before .before .if6 .taken) (c .before .before .object-close-end2 .result) (c .before .before .object-close-end2 .ensures) (c .before .if7 .left) (steps m)
+    c .scan2 .ensures ∙ fold-last (messageLoop (product (at m)) (text (at m))) (at m .loop .met) (at m .loop .inv .0) (stands m (c .before .before .before .before .before .if5 .left)) (c .before .before .before .before .comma-end .result) (c .before .before .before .before .comma-end .ensures) (c .before .before .before .if6 .taken) (c .before .before .object-close-end2 .result) (c .before .before .object-close-end2 .ensures) (c .before .if7 .left) (steps m)
 
 loop-less : tie.Need-loop-less Inv-loop μ-loop
 loop-less c =
@@ -205,31 +205,31 @@ m-message-spec =
     μ-loop
     byte-at-requires
     value-end-requires
-    untold-requires
+    not-framed-requires
     returns
     add-object-close-end
     object-close-end-requires
     no-members-requires
-    told-requires
+    scan-requires
     returns-2
     add-skip-blanks
     skip-blanks-requires
     no-members-requires-2
     loop-holds
     string-end-requires
-    untold-requires-2
+    not-framed-requires-2
     returns-3
     colon-end-requires
-    untold-requires-3
+    not-framed-requires-3
     returns-4
     more-members-requires
-    untold-requires-4
+    not-framed-requires-4
     returns-5
     comma-end-requires
     object-close-end-requires-2
-    untold-requires-5
+    not-framed-requires-5
     returns-6
-    told-requires-2
+    scan-requires-2
     returns-7
     loop-less
     loop-again)

@@ -18,11 +18,11 @@ is-short-name-requires c κs = search needs
 entries-at-requires : tie.Need-entries-at-requires
 entries-at-requires c κs = search needs
 
-listing-at-requires : tie.Need-listing-at-requires
-listing-at-requires c κs = search needs
+entry-array-at-requires : tie.Need-entry-array-at-requires
+entry-array-at-requires c κs = search needs
 
-slotted-requires : tie.Need-slotted-requires
-slotted-requires c κs = search needs
+with-entry-array-requires : tie.Need-with-entry-array-requires
+with-entry-array-requires c κs = search needs
 
 returns : tie.Need-returns
 returns c =
@@ -30,7 +30,7 @@ returns c =
     let s = now (a .s) in
     let m : Pair = memberAt 14 s (a .first) (a .past) (a .from) in
     let h = ap (λ (x : Entries). x .end) (c .before .before .entries-at .ensures) ∙ summary-end entryM s (a .from) in
-    let g = slot-more s (a .met .bids) (m .value) (c .slotted .ensures) (side-is s (a .from) (c .before .before .entries-at .result) (c .before .before .entries-at .ensures) (c .before .listing-at .result) (c .before .listing-at .ensures)) in
+    let g = slot-more s (a .met .bids) (m .value) (c .with-entry-array .ensures) (side-is s (a .from) (c .before .before .entries-at .result) (c .before .before .entries-at .ensures) (c .before .entry-array-at .result) (c .before .entry-array-at .ensures)) in
     data-bids s (a .met) m h (named s (m .name) bids-name (c .before .before .before .before .is-short-name .ensures) (c .before .before .before .if1 .taken)) g
 
 is-short-name-requires-2 : tie.Need-is-short-name-requires-2
@@ -39,11 +39,11 @@ is-short-name-requires-2 c κs = search needs
 entries-at-requires-2 : tie.Need-entries-at-requires-2
 entries-at-requires-2 c κs = search needs
 
-listing-at-requires-2 : tie.Need-listing-at-requires-2
-listing-at-requires-2 c κs = search needs
+entry-array-at-requires-2 : tie.Need-entry-array-at-requires-2
+entry-array-at-requires-2 c κs = search needs
 
-slotted-requires-2 : tie.Need-slotted-requires-2
-slotted-requires-2 c κs = search needs
+with-entry-array-requires-2 : tie.Need-with-entry-array-requires-2
+with-entry-array-requires-2 c κs = search needs
 
 returns-2 : tie.Need-returns-2
 returns-2 c =
@@ -51,7 +51,7 @@ returns-2 c =
     let s = now (a .s) in
     let m : Pair = memberAt 14 s (a .first) (a .past) (a .from) in
     let h = ap (λ (x : Entries). x .end) (c .before .before .entries-at2 .ensures) ∙ summary-end entryM s (a .from) in
-    let g = slot-more s (a .met .asks) (m .value) (c .slotted2 .ensures) (side-is s (a .from) (c .before .before .entries-at2 .result) (c .before .before .entries-at2 .ensures) (c .before .listing-at2 .result) (c .before .listing-at2 .ensures)) in
+    let g = slot-more s (a .met .asks) (m .value) (c .with-entry-array2 .ensures) (side-is s (a .from) (c .before .before .entries-at2 .result) (c .before .before .entries-at2 .ensures) (c .before .entry-array-at2 .result) (c .before .entry-array-at2 .ensures)) in
     data-asks s (a .met) m h (named s (m .name) bids-name (c .before .before .before .before .before .before .is-short-name .ensures) (c .before .before .before .before .before .if1 .left)) (named s (m .name) asks-name (c .before .before .before .before .is-short-name2 .ensures) (c .before .before .before .if2 .taken)) g
 
 value-end-requires : tie.Need-value-end-requires
@@ -70,13 +70,13 @@ more-data-spec =
     (tie.spec
     is-short-name-requires
     entries-at-requires
-    listing-at-requires
-    slotted-requires
+    entry-array-at-requires
+    with-entry-array-requires
     returns
     is-short-name-requires-2
     entries-at-requires-2
-    listing-at-requires-2
-    slotted-requires-2
+    entry-array-at-requires-2
+    with-entry-array-requires-2
     returns-2
     value-end-requires
     returns-3)

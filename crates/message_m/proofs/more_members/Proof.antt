@@ -34,31 +34,31 @@ is-product-requires c κs = search needs
 either-requires-3 : tie.Need-either-requires-3
 either-requires-3 c κs = search needs
 
-more-marked-requires : tie.Need-more-marked-requires
-more-marked-requires c κs = search needs
+more-with-member-span-requires : tie.Need-more-with-member-span-requires
+more-with-member-span-requires c κs = search needs
 
-more-marked-requires-2 : tie.Need-more-marked-requires-2
-more-marked-requires-2 c κs = search needs
+more-with-member-span-requires-2 : tie.Need-more-with-member-span-requires-2
+more-with-member-span-requires-2 c κs = search needs
 
-more-marked-requires-3 : tie.Need-more-marked-requires-3
-more-marked-requires-3 c κs = search needs
+more-with-member-span-requires-3 : tie.Need-more-with-member-span-requires-3
+more-with-member-span-requires-3 c κs = search needs
 
-more-marked-requires-4 : tie.Need-more-marked-requires-4
-more-marked-requires-4 c κs = search needs
+more-with-member-span-requires-4 : tie.Need-more-with-member-span-requires-4
+more-with-member-span-requires-4 c κs = search needs
 
-more-marked-requires-5 : tie.Need-more-marked-requires-5
-more-marked-requires-5 c κs = search needs
+more-with-member-span-requires-5 : tie.Need-more-with-member-span-requires-5
+more-with-member-span-requires-5 c κs = search needs
 
 returns : tie.Need-returns
 returns c =
     let a = c .before .before .before .before .before .before .before .before .before .before .before .before .before .before .before .args in
     let s = now (a .s) in
     members-made (now (a .name)) s (a .met) (record { from = a .first; to = a .past }) (a .from) (endOf (value 15 s (a .from))) (c .before .before .before .before .before .before .before .before .before .before .before .before .key-of .result) (c .before .before .before .before .before .before .before .before .before .before .before .more-body .result) (c .before .before .before .before .before .before .before .before .before .before .before .before .key-of .ensures) (c .before .before .before .before .before .before .before .before .before .before .before .more-body .ensures)
-    (c .before .before .before .before .before .before .before .before .before .either .result) (c .before .before .before .before .before .before .before .either2 .result) (c .before .before .before .before .before .either3 .result) (c .before .before .before .before .more-marked .result) (c .before .before .before .more-marked2 .result) (c .before .before .more-marked3 .result) (c .before .more-marked4 .result) (c .more-marked5 .result)
+    (c .before .before .before .before .before .before .before .before .before .either .result) (c .before .before .before .before .before .before .before .either2 .result) (c .before .before .before .before .before .either3 .result) (c .before .before .before .before .more-spans .result) (c .before .before .before .more-spans2 .result) (c .before .before .more-spans3 .result) (c .before .more-spans4 .result) (c .more-spans5 .result)
     (c .before .before .before .before .before .before .before .before .before .either .ensures ∙ ap (λ (b : Bool). a .met .escaped || b) (c .before .before .before .before .before .before .before .before .before .before .is-escaped .ensures))
     (c .before .before .before .before .before .before .before .either2 .ensures ∙ ap (λ (b : Bool). a .met .«is_book» || b) (c .before .before .before .before .before .before .before .before .is-book .ensures))
     (c .before .before .before .before .before .either3 .ensures ∙ ap (λ (b : Bool). a .met .«is_product» || b) (c .before .before .before .before .before .before .is-product .ensures))
-    (c .before .before .before .before .more-marked .ensures) (c .before .before .before .more-marked2 .ensures) (c .before .before .more-marked3 .ensures) (c .before .more-marked4 .ensures) (c .more-marked5 .ensures)
+    (c .before .before .before .before .more-spans .ensures) (c .before .before .before .more-spans2 .ensures) (c .before .before .more-spans3 .ensures) (c .before .more-spans4 .ensures) (c .more-spans5 .ensures)
 
 pub more-members-spec : {M : Type 1} → statement M
 more-members-spec =
@@ -72,9 +72,9 @@ more-members-spec =
     either-requires-2
     is-product-requires
     either-requires-3
-    more-marked-requires
-    more-marked-requires-2
-    more-marked-requires-3
-    more-marked-requires-4
-    more-marked-requires-5
+    more-with-member-span-requires
+    more-with-member-span-requires-2
+    more-with-member-span-requires-3
+    more-with-member-span-requires-4
+    more-with-member-span-requires-5
     returns)

@@ -24,14 +24,14 @@ enum-known-number c = search needs
 outline-of-requires : tie.Need-outline-of-requires
 outline-of-requires c κs = search needs
 
-enum-told : tie.Need-enum-told
-enum-told c = search needs
+enum-scan : tie.Need-enum-scan
+enum-scan c = search needs
 
 no-outline-requires : tie.Need-no-outline-requires
 no-outline-requires c κs = search needs
 
-enum-told-2 : tie.Need-enum-told-2
-enum-told-2 c = search needs
+enum-scan-2 : tie.Need-enum-scan-2
+enum-scan-2 c = search needs
 
 no-outline-requires-2 : tie.Need-no-outline-requires-2
 no-outline-requires-2 c κs = search needs
@@ -51,7 +51,7 @@ returns-2 c =
     let s = now (a .s) in
     let u : ℕ = c .before .before .before .before .before .sum .given .0 .0 in
     let h = sym (c .before .before .before .before .before .before .before .checksum-of .ensures) ∙ ap parsedChecksum (c .before .before .before .before .before .sum .given .1) in
-    c .no-outline .ensures ∙ numbers-no-number s (a .snapshot) (a .bids) (a .asks) (a .checksum) (a .gsn) u h (sym (c .before .before .before .gsn-of .ensures) ∙ ap parsedWhole (c .before .enum-told .given .1))
+    c .no-outline .ensures ∙ numbers-no-number s (a .snapshot) (a .bids) (a .asks) (a .checksum) (a .gsn) u h (sym (c .before .before .before .gsn-of .ensures) ∙ ap parsedWhole (c .before .enum-scan .given .1))
 
 returns-3 : tie.Need-returns-3
 returns-3 c =
@@ -68,9 +68,9 @@ numbers-outline-spec =
     gsn-of-requires
     enum-known-number
     outline-of-requires
-    enum-told
+    enum-scan
     no-outline-requires
-    enum-told-2
+    enum-scan-2
     no-outline-requires-2
     returns
     returns-2

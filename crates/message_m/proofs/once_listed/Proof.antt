@@ -1,7 +1,7 @@
 -- `message_m::once_listed` meets its contract: the slot's own entries, where it was met once.
 -- Assumes nothing.
 use mathlib.Core.Path.{_∙_, ap}
-use Rattle.layout.specs.declared.Slot.{Slot}
+use Rattle.layout.specs.declared.EntryMember.{EntryMember}
 use Rattle.message_m.proofs.Outlines.{listed-yes, listed-no}
 use borrow.Author.Needs.{needs}
 use Rattle.message_m.proofs.once_listed.Statement.{statement}
@@ -12,13 +12,13 @@ returns c =
     let a = c .before .before .before .args in
     listed-yes (a .slot) (c .before .if1 .taken)
 
-no-slot-requires : tie.Need-no-slot-requires
-no-slot-requires c κs = search needs
+no-entry-member-requires : tie.Need-no-entry-member-requires
+no-entry-member-requires c κs = search needs
 
 returns-2 : tie.Need-returns-2
 returns-2 c =
     let a = c .before .before .before .before .args in
-    ap (λ (t : Slot). t .listing) (c .before .no-slot .ensures) ∙ listed-no (a .slot) (c .before .before .if1 .left)
+    ap (λ (t : EntryMember). t .listing) (c .before .no-entry-member .ensures) ∙ listed-no (a .slot) (c .before .before .if1 .left)
 
 pub once-listed-spec : {M : Type 1} → statement M
-once-listed-spec = tie.close (tie.spec returns no-slot-requires returns-2)
+once-listed-spec = tie.close (tie.spec returns no-entry-member-requires returns-2)

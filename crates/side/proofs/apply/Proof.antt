@@ -20,9 +20,9 @@ returns c =
     let short : length (held (keptIn (s .args .words .now) (s .args .kept))) ≤ s .args .depth = omega (arith, long s, c .if2 .taken) in
     record {
       good = s .pre .0;
-      levels = nothing-levels (s .args .side) (s .args .prices .now) (s .args .sizes .now) (s .args .rests .now) (held (keptIn (s .args .words .now) (s .args .kept))) none (s .args .depth) short (s .pre .0 .sorted);
-      count = sym (long s) ∙ nothing-count (s .args .side) (s .args .prices .now) (s .args .sizes .now) (s .args .rests .now) (held (keptIn (s .args .words .now) (s .args .kept))) none;
-      met = nothing-met (s .args .side) (s .args .prices .now) (s .args .sizes .now) (s .args .rests .now) (held (keptIn (s .args .words .now) (s .args .kept))) none;
+      levels = nothing-levels (s .args .side) (s .args .prices .now) (s .args .sizes .now) (s .args .packs .now) (held (keptIn (s .args .words .now) (s .args .kept))) none (s .args .depth) short (s .pre .0 .sorted);
+      count = sym (long s) ∙ nothing-count (s .args .side) (s .args .prices .now) (s .args .sizes .now) (s .args .packs .now) (held (keptIn (s .args .words .now) (s .args .kept))) none;
+      replaced = nothing-met (s .args .side) (s .args .prices .now) (s .args .sizes .now) (s .args .packs .now) (held (keptIn (s .args .words .now) (s .args .kept))) none;
     }
 
 work-requires : tie.Need-work-requires

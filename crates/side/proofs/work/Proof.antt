@@ -17,8 +17,8 @@ use Rattle.level.specs.declared.Entry.{Entry}
 use Rattle.level.specs.declared.Change.{Change}
 use Rattle.level.specs.declared.Change.the-variants.{Set, Remove}
 use Rattle.level.specs.Words.{levelPrice}
-use Rattle.level.specs.Side.{Edit, sets, removes, before, without, applyAll}
-use Rattle.level.specs.Ranked.{All, standing, afterMessage, named, meets, met, Sorted}
+use Rattle.level.specs.Side.{Edit, sets, removes, nearer, without, applyAll}
+use Rattle.level.specs.Ranked.{All, standing, afterMessage, named, replaces, replaced, Sorted}
 use Rattle.level.specs.Words.{levelsIn, noLevel, edit, editOf, entryOf, entriesOf}
 use Rattle.level.specs.Kept.{keptIn, held, Good}
 use Rattle.side.specs.Applying.{Given, AfterEntries}
@@ -33,40 +33,40 @@ use Rattle.side.proofs.work.Statement.{statement}
 use Rattle.side.proofs.work.Tie as tie
 
 abbrev Inv-load : tie.InvT-load
-Inv-load words kept side depth prices sizes rests levels₀ count i₀ levels i = (length levels ≡ 200) × (i ≤ count) × (take i levels ≡ take i (levelsIn words))
+Inv-load words kept side depth prices sizes packs levels₀ count i₀ levels i = (length levels ≡ 200) × (i ≤ count) × (take i levels ≡ take i (levelsIn words))
 
 abbrev μ-load : tie.MeasureT-load
-μ-load words kept side depth prices sizes rests levels₀ count i₀ levels i = count - i
+μ-load words kept side depth prices sizes packs levels₀ count i₀ levels i = count - i
 
 abbrev Inv-find : tie.InvT-find
-Inv-find words kept side depth prices sizes rests levels count i met k change price low₀ high₀ low high = Bracket levelPrice side (take count levels) (value (number price)) low high × (high ≤ count)
+Inv-find words kept side depth prices sizes packs levels count i replaced k change price low₀ high₀ low high = Bracket levelPrice side (take count levels) (value (number price)) low high × (high ≤ count)
 
 abbrev μ-find : tie.MeasureT-find
-μ-find words kept side depth prices sizes rests levels count i met k change price low₀ high₀ low high = high - low
+μ-find words kept side depth prices sizes packs levels count i replaced k change price low₀ high₀ low high = high - low
 
 abbrev Inv-down : tie.InvT-down
-Inv-down words kept side depth prices sizes rests levels₀ count i met k low high j₀ levels j = (levels ≡ down levels₀ low j) × (low ≤ j) × (j ≤ count)
+Inv-down words kept side depth prices sizes packs levels₀ count i replaced k low high j₀ levels j = (levels ≡ down levels₀ low j) × (low ≤ j) × (j ≤ count)
 
 abbrev μ-down : tie.MeasureT-down
-μ-down words kept side depth prices sizes rests levels₀ count i met k low high j₀ levels j = count - j
+μ-down words kept side depth prices sizes packs levels₀ count i replaced k low high j₀ levels j = count - j
 
 abbrev Inv-up : tie.InvT-up
-Inv-up words kept side depth prices sizes rests levels₀ count i met k low high new j₀ levels j = (levels ≡ up levels₀ j count) × (low ≤ j) × (j ≤ count)
+Inv-up words kept side depth prices sizes packs levels₀ count i replaced k low high new j₀ levels j = (levels ≡ up levels₀ j count) × (low ≤ j) × (j ≤ count)
 
 abbrev μ-up : tie.MeasureT-up
-μ-up words kept side depth prices sizes rests levels₀ count i met k low high new j₀ levels j = j
+μ-up words kept side depth prices sizes packs levels₀ count i replaced k low high new j₀ levels j = j
 
 abbrev Inv-entry : tie.InvT-entry
-Inv-entry words kept side depth prices sizes rests levels₀ count₀ i met₀ k₀ levels count met k = Turn side prices sizes rests (take count₀ levels₀) count₀ levels count met k
+Inv-entry words kept side depth prices sizes packs levels₀ count₀ i replaced₀ k₀ levels count replaced k = Turn side prices sizes packs (take count₀ levels₀) count₀ levels count replaced k
 
 abbrev μ-entry : tie.MeasureT-entry
-μ-entry words kept side depth prices sizes rests levels₀ count₀ i met₀ k₀ levels count met k = length prices - k
+μ-entry words kept side depth prices sizes packs levels₀ count₀ i replaced₀ k₀ levels count replaced k = length prices - k
 
 abbrev Inv-cut : tie.InvT-cut
-Inv-cut words₀ kept depth prices sizes rests levels count i₀ met k left words i = (length words ≡ 300) × (i ≤ left) × (take i (levelsIn words) ≡ take i levels)
+Inv-cut words₀ kept depth prices sizes packs levels count i₀ replaced k left words i = (length words ≡ 300) × (i ≤ left) × (take i (levelsIn words) ≡ take i levels)
 
 abbrev μ-cut : tie.MeasureT-cut
-μ-cut words₀ kept depth prices sizes rests levels count i₀ met k left words i = left - i
+μ-cut words₀ kept depth prices sizes packs levels count i₀ replaced k left words i = left - i
 
 -- from the entry loop's head to the function's start
 abbrev St : tie.At-entry Inv-load μ-load Inv-find μ-find Inv-down μ-down Inv-up μ-up Inv-entry μ-entry Inv-cut μ-cut → tie.Start Inv-load μ-load Inv-find μ-find Inv-down μ-down Inv-up μ-up Inv-entry μ-entry Inv-cut μ-cut
@@ -87,7 +87,7 @@ module _ (v : tie.After-price-named Inv-load μ-load Inv-find μ-find Inv-down �
   abbrev s : tie.Start Inv-load μ-load Inv-find μ-find Inv-down μ-down Inv-up μ-up Inv-entry μ-entry Inv-cut μ-cut
   s = St E
 
-  abbrev g : Given (s .args .prices .now) (s .args .sizes .now) (s .args .rests .now)
+  abbrev g : Given (s .args .prices .now) (s .args .sizes .now) (s .args .packs .now)
   g = s .pre .1
 
   abbrev A : List Level
@@ -110,7 +110,7 @@ module _ (v : tie.After-price-named Inv-load μ-load Inv-find μ-find Inv-down �
   change = v .before .entry-at .result .change
 
   abbrev this : Edit Level
-  this = theEdit (s .args .prices .now) (s .args .sizes .now) (s .args .rests .now) K
+  this = theEdit (s .args .prices .now) (s .args .sizes .now) (s .args .packs .now) K
 
   abbrev more : K < length (s .args .prices .now)
   more = v .before .before .before .before .before .entry-test .taken
@@ -137,15 +137,15 @@ module _ (v : tie.After-price-named Inv-load μ-load Inv-find μ-find Inv-down �
   sound-price : Within (number (v .price-named .result))
   sound-price =
       subst Within (sym named-is)
-      (sound-next (s .args .side) (s .args .prices .now) (s .args .sizes .now) (s .args .rests .now) g (take (s .args .kept) (E .before .before .load .levels)) (s .args .kept)
-      A N K (E .entry .met) (E .entry .inv) more)
+      (sound-next (s .args .side) (s .args .prices .now) (s .args .sizes .now) (s .args .packs .now) g (take (s .args .kept) (E .before .before .load .levels)) (s .args .kept)
+      A N K (E .entry .replaced) (E .entry .inv) more)
 
   stepped : (c : List Level) (m : ℕ) (now : Bool) → length c ≡ 200 → m ≤ N + 1 → take m c ≡ applyRanked levelPrice (s .args .side) this S
-      → now ≡ (E .entry .met || meets levelPrice this S)
-      → Turn (s .args .side) (s .args .prices .now) (s .args .sizes .now) (s .args .rests .now) (take (s .args .kept) (E .before .before .load .levels)) (s .args .kept) c m now (K + 1)
+      → now ≡ (E .entry .replaced || replaces levelPrice this S)
+      → Turn (s .args .side) (s .args .prices .now) (s .args .sizes .now) (s .args .packs .now) (take (s .args .kept) (E .before .before .load .levels)) (s .args .kept) c m now (K + 1)
   stepped =
-      turn-step (s .args .side) (s .args .prices .now) (s .args .sizes .now) (s .args .rests .now) g (take (s .args .kept) (E .before .before .load .levels)) (s .args .kept)
-      A N K (E .entry .met) (E .entry .inv) more
+      turn-step (s .args .side) (s .args .prices .now) (s .args .sizes .now) (s .args .packs .now) g (take (s .args .kept) (E .before .before .load .levels)) (s .args .kept)
+      A N K (E .entry .replaced) (E .entry .inv) more
 
   -- the entry sets a level
   module _ (new : Level) (is : change ≡ Set new) where
@@ -158,12 +158,12 @@ module _ (v : tie.After-price-named Inv-load μ-load Inv-find μ-find Inv-down �
     key-new = sym (ap value (named-is ∙ ap (named levelPrice) set-is))
 
     after-set : (c : List Level) (m : ℕ) (now : Bool) → length c ≡ 200 → m ≤ N + 1 → take m c ≡ applyRanked levelPrice (s .args .side) (sets new) S
-        → now ≡ (E .entry .met || standing levelPrice P S)
-        → Turn (s .args .side) (s .args .prices .now) (s .args .sizes .now) (s .args .rests .now) (take (s .args .kept) (E .before .before .load .levels)) (s .args .kept) c m now (K + 1)
-    unfolding meets
+        → now ≡ (E .entry .replaced || standing levelPrice P S)
+        → Turn (s .args .side) (s .args .prices .now) (s .args .sizes .now) (s .args .packs .now) (take (s .args .kept) (E .before .before .load .levels)) (s .args .kept) c m now (K + 1)
+    unfolding replaces
     after-set c m now l q e f =
         stepped c m now l q (e ∙ ap (λ (x : Edit Level). applyRanked levelPrice (s .args .side) x S) (sym set-is))
-        (f ∙ ap (λ (x : ℕ). E .entry .met || standing levelPrice x S) (sym key-new) ∙ ap (λ (x : Edit Level). E .entry .met || meets levelPrice x S) (sym set-is))
+        (f ∙ ap (λ (x : ℕ). E .entry .replaced || standing levelPrice x S) (sym key-new) ∙ ap (λ (x : Edit Level). E .entry .replaced || replaces levelPrice x S) (sym set-is))
 
   -- it removes one
   module _ (price : Decimal) (is : change ≡ Remove price) where
@@ -176,15 +176,15 @@ module _ (v : tie.After-price-named Inv-load μ-load Inv-find μ-find Inv-down �
     key-removed = sym (ap value (named-is ∙ ap (named levelPrice) removal-is))
 
     after-removal : (c : List Level) (m : ℕ) → length c ≡ 200 → m ≤ N + 1 → take m c ≡ without levelPrice P S
-        → Turn (s .args .side) (s .args .prices .now) (s .args .sizes .now) (s .args .rests .now) (take (s .args .kept) (E .before .before .load .levels)) (s .args .kept) c m (E .entry .met) (K + 1)
-    unfolding meets applyRanked
+        → Turn (s .args .side) (s .args .prices .now) (s .args .sizes .now) (s .args .packs .now) (take (s .args .kept) (E .before .before .load .levels)) (s .args .kept) c m (E .entry .replaced) (K + 1)
+    unfolding replaces applyRanked
     after-removal c m l q e =
-        stepped c m (E .entry .met) l q
+        stepped c m (E .entry .replaced) l q
         (e ∙ ap (λ (x : ℕ). without levelPrice x S) (sym key-removed) ∙ ap (λ (x : Edit Level). applyRanked levelPrice (s .args .side) x S) (sym removal-is))
-        (sym (or-false (E .entry .met)) ∙ ap (λ (x : Edit Level). E .entry .met || meets levelPrice x S) (sym removal-is))
+        (sym (or-false (E .entry .replaced)) ∙ ap (λ (x : Edit Level). E .entry .replaced || replaces levelPrice x S) (sym removal-is))
 
 -- no level is at the price: all from its place on is behind it
-behind-all : (c : tie.Joined2 Inv-load μ-load Inv-find μ-find Inv-down μ-down Inv-up μ-up Inv-entry μ-entry Inv-cut μ-cut) → All (λ x. before (s (c .before .before .before) .args .side) (P (c .before .before .before)) (key x) ≡ true) (drop (c .before .before .find .low) (S (c .before .before .before)))
+behind-all : (c : tie.Joined2 Inv-load μ-load Inv-find μ-find Inv-down μ-down Inv-up μ-up Inv-entry μ-entry Inv-cut μ-cut) → All (λ x. nearer (s (c .before .before .before) .args .side) (P (c .before .before .before)) (key x) ≡ true) (drop (c .before .before .find .low) (S (c .before .before .before)))
 behind-all c =
     let v = c .before .before .before in
     let p = c .before .before .find in
@@ -249,7 +249,7 @@ load-again c =
 entry-holds : tie.Need-entry-holds Inv-load μ-load Inv-find μ-find Inv-down μ-down Inv-up μ-up Inv-entry μ-entry Inv-cut μ-cut
 entry-holds c =
     let s = c .before .before .before .before .before in
-    turn-start (s .args .side) (s .args .prices .now) (s .args .sizes .now) (s .args .rests .now) (s .pre .1) (take (s .args .kept) (c .before .load .levels)) (s .args .kept)
+    turn-start (s .args .side) (s .args .prices .now) (s .args .sizes .now) (s .args .packs .now) (s .pre .1) (take (s .args .kept) (c .before .load .levels)) (s .args .kept)
     (c .before .load .levels) (c .before .load .inv .0) refl (rw (loaded c) (s .pre .0 .sorted)) (rw (loaded c) (s .pre .0 .within))
 
 mul-entry-at : tie.Need-mul-entry-at Inv-load μ-load Inv-find μ-find Inv-down μ-down Inv-up μ-up Inv-entry μ-entry Inv-cut μ-cut
@@ -419,7 +419,7 @@ entry-again c =
     let is = c .before .change .given .1 in
     after-set v new is (set (A v) (p .low) new) (N v) true (simp length-set (long v)) (omega arith)
     (set-same levelPrice (s v .args .side) (A v) (N v) (p .low) (room v) (omega arith) (P v) (p .inv .0 .ahead) noLevel lt same high new (key-new v new is))
-    (sym (ap (λ (x : Bool). E v .entry .met || x) (standing-at levelPrice (P v) (S v) (p .low) noLevel ls same) ∙ or-true (E v .entry .met)))
+    (sym (ap (λ (x : Bool). E v .entry .replaced || x) (standing-at levelPrice (P v) (S v) (p .low) noLevel ls same) ∙ or-true (E v .entry .replaced)))
 
 entry-less-2 : tie.Need-entry-less-2 Inv-load μ-load Inv-find μ-find Inv-down μ-down Inv-up μ-up Inv-entry μ-entry Inv-cut μ-cut
 entry-less-2 c = omega arith
@@ -497,11 +497,11 @@ entry-again-3 c =
     let j : q .j ≡ p .low = omega (arith, q .inv .1, c .up-test .left) in
     let new = c .before .before .before .change2 .given .0 .0 in
     let is = c .before .before .before .change2 .given .1 in
-    after-set v new is (set (q .levels) (p .low) new) (N v + 1) (E v .entry .met)
+    after-set v new is (set (q .levels) (p .low) new) (N v + 1) (E v .entry .replaced)
     (simp length-set (ap length (q .inv .0) ∙ length-up (A v) (q .j) (N v) (q .inv .2) (omega (arith, few v, long v)) ∙ long v)) (omega arith)
     (ap (λ (r : List Level). take (N v + 1) (set r (p .low) new)) (q .inv .0 ∙ ap (λ (i : ℕ). up (A v) i (N v)) j)
     ∙ set-new levelPrice (s v .args .side) (A v) (N v) (p .low) (room v) le (P v) (p .inv .0 .ahead) new (omega (arith, few v, long v)) (key-new v new is) high)
-    (sym (ap (λ (x : Bool). E v .entry .met || x) (none-standing levelPrice (s v .args .side) (A v) (N v) (p .low) (room v) le (P v) (p .inv .0 .ahead) high) ∙ or-false (E v .entry .met)))
+    (sym (ap (λ (x : Bool). E v .entry .replaced || x) (none-standing levelPrice (s v .args .side) (A v) (N v) (p .low) (room v) le (P v) (p .inv .0 .ahead) high) ∙ or-false (E v .entry .replaced)))
 
 enum-told-2 : tie.Need-enum-told-2 Inv-load μ-load Inv-find μ-find Inv-down μ-down Inv-up μ-up Inv-entry μ-entry Inv-cut μ-cut
 enum-told-2 c = search needs
@@ -558,7 +558,7 @@ returns c =
     let q = cut-eq (c .before .before) in
     let E = c .before .before .before .before in
     let s = St E in
-    let es = entriesOf (s .args .prices .now) (s .args .sizes .now) (s .args .rests .now) in
+    let es = entriesOf (s .args .prices .now) (s .args .sizes .now) (s .args .packs .now) in
     let i : p .i ≡ c .before .before .if4 .left = omega (arith, p .inv .1, c .cut-test .left) in
     let o = loaded (E .before) in
     let eq = (rw i at (p .inv .2)) ∙ q .0 in
@@ -574,17 +574,17 @@ returns c =
         within = rw eq (all-take Sound (s .args .depth) (take (E .entry .count) (E .entry .levels)) (E .entry .inv .sound));
       };
       levels =
-          eq ∙ turn-levels (s .args .side) (s .args .prices .now) (s .args .sizes .now) (s .args .rests .now) (s .pre .1) kept (s .args .kept)
-          (E .entry .levels) (E .entry .count) (E .entry .k) (E .entry .met) (E .entry .inv) past sorted (s .args .depth)
+          eq ∙ turn-levels (s .args .side) (s .args .prices .now) (s .args .sizes .now) (s .args .packs .now) (s .pre .1) kept (s .args .kept)
+          (E .entry .levels) (E .entry .count) (E .entry .k) (E .entry .replaced) (E .entry .inv) past sorted (s .args .depth)
           ∙ ap (afterMessage levelPrice (s .args .side) (s .args .depth) es) o;
       count =
-          turn-count (s .args .side) (s .args .prices .now) (s .args .sizes .now) (s .args .rests .now) (s .pre .1) kept (s .args .kept)
-          (E .entry .levels) (E .entry .count) (E .entry .k) (E .entry .met) (E .entry .inv) past sorted l
+          turn-count (s .args .side) (s .args .prices .now) (s .args .sizes .now) (s .args .packs .now) (s .pre .1) kept (s .args .kept)
+          (E .entry .levels) (E .entry .count) (E .entry .k) (E .entry .replaced) (E .entry .inv) past sorted l
           ∙ ap (λ (x : List Level). length (applyAll levelPrice es x)) o;
-      met =
-          turn-met (s .args .side) (s .args .prices .now) (s .args .sizes .now) (s .args .rests .now) (s .pre .1) kept (s .args .kept)
-          (E .entry .levels) (E .entry .count) (E .entry .k) (E .entry .met) (E .entry .inv) past sorted
-          ∙ ap (met levelPrice es) o;
+      replaced =
+          turn-met (s .args .side) (s .args .prices .now) (s .args .sizes .now) (s .args .packs .now) (s .pre .1) kept (s .args .kept)
+          (E .entry .levels) (E .entry .count) (E .entry .k) (E .entry .replaced) (E .entry .inv) past sorted
+          ∙ ap (replaced levelPrice es) o;
     }
 
 pub work-spec : {M : Type 1} → statement M

@@ -29,7 +29,7 @@ load-requires : tie.Need-load-requires
 load-requires c κs =
     let a = c .before .before .before .before .before .before .args in
     let p = c .before .before .before .before .before .before .pre in
-    rw (part-is (a .at) (now (a .s))) (p .1 .loadable (c .before .before .before .before .if1 .left), record { prices-long = refl; sizes-long = refl; rests-long = refl })
+    rw (part-is (a .at) (now (a .s))) (p .1 .loadable (c .before .before .before .before .if1 .left), record { prices-long = refl; sizes-long = refl; packs-long = refl })
 
 array-share-prefix-prices : tie.Need-array-share-prefix-prices
 array-share-prefix-prices c = search needs
@@ -51,12 +51,12 @@ slice-aggregate-apply-2 c =
     let f = c .before .before .before .load .ensures .few in
     omega arith
 
-array-share-prefix-rests : tie.Need-array-share-prefix-rests
-array-share-prefix-rests c = search needs
+array-share-prefix-packs : tie.Need-array-share-prefix-packs
+array-share-prefix-packs c = search needs
 
 slice-aggregate-apply-3 : tie.Need-slice-aggregate-apply-3
 slice-aggregate-apply-3 c =
-    let r = c .before .before .before .before .load .ensures .room .rests-long in
+    let r = c .before .before .before .before .load .ensures .room .packs-long in
     let l = length-take (c .before .before .before .before .load .result) (c .before .before .before .before .load .last .1 .1 .1 .1 .0) in
     let f = c .before .before .before .before .load .ensures .few in
     omega arith
@@ -87,7 +87,7 @@ apply-entries-spec =
     slice-aggregate-apply
     array-share-prefix-sizes
     slice-aggregate-apply-2
-    array-share-prefix-rests
+    array-share-prefix-packs
     slice-aggregate-apply-3
     apply-requires
     returns-2)

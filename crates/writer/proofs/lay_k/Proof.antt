@@ -6,7 +6,7 @@ use mathlib.Core.List.{List, _++_}
 use borrow.Author.Needs.{needs}
 use Rattle.text.specs.Text.{ascii}
 use Rattle.decimal.specs.Digits.{written}
-use Rattle.writer.specs.Parts.{entries, kText}
+use Rattle.writer.specs.Parts.{entries, kSnapshotText}
 use Rattle.writer.proofs.Owed.{Whole, owed-as, owed-rest, room-first, put-last}
 use Rattle.writer.proofs.Texts.{kFromBids, kFromDepth, kFromNames, k-parts}
 use Rattle.writer.proofs.lay_k.Statement.{statement}
@@ -15,7 +15,7 @@ use Rattle.writer.proofs.lay_k.Tie as tie
 -- ---- the texts, and what is owed after each
 
 abbrev whole : tie.Start → List ℕ
-whole s = kText (s .args .depth) (s .args .name .now) (s .args .bids) (s .args .asks)
+whole s = kSnapshotText (s .args .depth) (s .args .name .now) (s .args .bids) (s .args .asks)
 
 abbrev asksText : tie.Start → List ℕ
 asksText s = ascii "[0,{\"as\":[" ++ entries true (s .args .asks)

@@ -6,7 +6,7 @@ use mathlib.Core.List.{List, _++_}
 use borrow.Author.Needs.{needs}
 use Rattle.text.specs.Text.{ascii}
 use Rattle.decimal.specs.Digits.{written}
-use Rattle.writer.specs.Parts.{entries, mText, Put}
+use Rattle.writer.specs.Parts.{entries, mSnapshotText, Put}
 use Rattle.writer.proofs.Owed.{Whole, owed-as, owed-rest, room-first, put-last, put-length}
 use Rattle.writer.proofs.Texts.{mFromBids, mFromAsks, mFromChecksum, mFromNumber, m-parts}
 use Rattle.writer.proofs.lay_m.Statement.{statement}
@@ -15,7 +15,7 @@ use Rattle.writer.proofs.lay_m.Tie as tie
 -- ---- the texts, and what is owed after each
 
 abbrev whole : tie.Start → List ℕ
-whole s = mText (s .args .name .now) (s .args .bids) (s .args .asks) (s .args .checksum) (s .args .number)
+whole s = mSnapshotText (s .args .name .now) (s .args .bids) (s .args .asks) (s .args .checksum) (s .args .number)
 
 abbrev opening : tie.Start → List ℕ
 opening s = ascii "{\"channel\":\"book\",\"product\":\""

@@ -4,14 +4,14 @@ use mathlib.Core.List.{List}
 use native.Mathlib.Omega.{arith}
 use borrow.Author.Needs.{needs}
 use Rattle.decimal.proofs.Buffer.{laid-full}
-use Rattle.writer.specs.Parts.{mText, WritableSide, Room}
+use Rattle.writer.specs.Parts.{mSnapshotText, WritableSide, Room}
 use Rattle.writer.proofs.Owed.{put-laid}
 use Rattle.writer.proofs.Texts.{good-writable}
 use Rattle.writer.proofs.m_write.Statement.{statement}
 use Rattle.writer.proofs.m_write.Tie as tie
 
 abbrev whole : tie.Start → List ℕ
-whole s = mText (s .args .name .now) (s .args .bids) (s .args .asks) (s .args .checksum) (s .args .number)
+whole s = mSnapshotText (s .args .name .now) (s .args .bids) (s .args .asks) (s .args .checksum) (s .args .number)
 
 sides : (s : tie.Start) → WritableSide (s .args .bids) × WritableSide (s .args .asks)
 sides s = (good-writable (s .pre .0) (s .pre .2), good-writable (s .pre .1) (s .pre .3))
@@ -23,7 +23,7 @@ m-length-requires : tie.Need-m-length-requires
 m-length-requires c κs = (sides (c .before .before) .0, sides (c .before .before) .1, c .before .before .pre .4)
 
 returns : tie.Need-returns
-unfolding mText
+unfolding mSnapshotText
 returns c = let e = c .before .m-length .ensures in let h = c .if1 .taken in laid-full (c .before .before .before .before .args .buffer .now) 0 (whole (c .before .before .before .before)) (omega arith)
 
 lay-m-requires : tie.Need-lay-m-requires
@@ -33,7 +33,7 @@ same-length : tie.Need-same-length
 same-length c = search needs
 
 returns-2 : tie.Need-returns-2
-unfolding mText
+unfolding mSnapshotText
 returns-2 c = put-laid (enough (c .before .before .before .before)) (c .before .before .lay-m .ensures)
 
 pub m-write-spec : {M : Type 1} → statement M

@@ -17,14 +17,14 @@ returns c =
 refusal-requires : tie.Need-refusal-requires
 refusal-requires c κs = search needs
 
-no-amount-requires : tie.Need-no-amount-requires
-no-amount-requires c κs = search needs
+no-value-requires : tie.Need-no-value-requires
+no-value-requires c κs = search needs
 
 returns-2 : tie.Need-returns-2
 returns-2 c =
     let a = c .before .before .before .before .before .args in
-    subst (AnswersAmount (a .self) _) (sym (c .no-amount .ensures)) (number-no (a .self) (a .scope) (sym (c .before .before .before .stands .ensures) ∙ c .before .before .if1 .left) (c .before .refusal .result) (c .before .refusal .ensures))
+    subst (AnswersAmount (a .self) _) (sym (c .no-value .ensures)) (number-no (a .self) (a .scope) (sym (c .before .before .before .stands .ensures) ∙ c .before .before .if1 .left) (c .before .refusal .result) (c .before .refusal .ensures))
 
 pub number-spec : {M : Type 1} → statement M
 number-spec =
-    tie.close (tie.spec stands-requires returns refusal-requires no-amount-requires returns-2)
+    tie.close (tie.spec stands-requires returns refusal-requires no-value-requires returns-2)

@@ -2,8 +2,8 @@
 use mathlib.Core.Path.{_≡_, sym, subst}
 use mathlib.Core.List.{[]}
 use denote.Ref.{now}
-use Rattle.reference.specs.Reference.{hear}
-use Rattle.book.specs.Shown.{shows, bookOf, Good, Told}
+use Rattle.reference.specs.Reference.{receive}
+use Rattle.book.specs.Shown.{shows, bookOf, Good, Received}
 use Rattle.book.specs.declared.Book.{Book}
 use Rattle.book.specs.declared.Header.{Header}
 use Rattle.crc32.proofs.Filled.{empty-table}
@@ -33,8 +33,8 @@ returns c =
     let a = c .before .before .before .before .before .before .before .before .before .before .args in
     let b = a .self in
     let answer = c .before .before .take .result .answer in
-    subst (λ (x : Book). Told (hear (shows b) (now (a .s))) (record { book = x; answer = answer })) (sym (c .join .ensures))
-    (subst (λ (h : Header). Told (hear (shows (bookOf (b .bids .words) (b .asks .words) h)) (now (a .s))) (record { book = bookOf (c .before .before .take .last .1 .0) (c .before .before .take .last .1 .1 .0) (c .before .before .take .result .header); answer = answer })) (c .before .before .before .before .before .before .header .ensures)
+    subst (λ (x : Book). Received (receive (shows b) (now (a .s))) (record { book = x; answer = answer })) (sym (c .join .ensures))
+    (subst (λ (h : Header). Received (receive (shows (bookOf (b .bids .words) (b .asks .words) h)) (now (a .s))) (record { book = bookOf (c .before .before .take .last .1 .0) (c .before .before .take .last .1 .1 .0) (c .before .before .take .result .header); answer = answer })) (c .before .before .before .before .before .before .header .ensures)
     (c .before .before .take .ensures))
 
 pub take-spec : {M : Type 1} → statement M

@@ -19,8 +19,8 @@ enum-known-n c = search needs
 enum-told : tie.Need-enum-told
 enum-told c = search needs
 
-no-amount-requires : tie.Need-no-amount-requires
-no-amount-requires c κs = search needs
+no-value-requires : tie.Need-no-value-requires
+no-value-requires c κs = search needs
 
 same-length : tie.Need-same-length
 same-length c = search needs
@@ -36,18 +36,18 @@ same-length-2 c = search needs
 returns-2 : tie.Need-returns-2
 returns-2 c =
     let a = c .before .before .before .before .before .before .before .before .before .before .before .args in
-    subst (Wrote (a .self) _ _) (sym (c .no-amount .ensures)) (wrote-full (a .self) (now (a .buffer)) (c .before .before .before .before .before .lay .last .1 .0) (sym (c .before .before .before .before .before .before .before .before .stands .ensures) ∙ c .before .before .before .before .before .before .before .if1 .taken) (c .before .before .before .before .before .lay .result) (c .before .before .before .before .before .lay .ensures) (c .before .enum-told .given .1))
+    subst (Wrote (a .self) _ _) (sym (c .no-value .ensures)) (wrote-full (a .self) (now (a .buffer)) (c .before .before .before .before .before .lay .last .1 .0) (sym (c .before .before .before .before .before .before .before .before .stands .ensures) ∙ c .before .before .before .before .before .before .before .if1 .taken) (c .before .before .before .before .before .lay .result) (c .before .before .before .before .before .lay .ensures) (c .before .enum-told .given .1))
 
 refusal-requires : tie.Need-refusal-requires
 refusal-requires c κs = search needs
 
-no-amount-requires-2 : tie.Need-no-amount-requires-2
-no-amount-requires-2 c κs = search needs
+no-value-requires-2 : tie.Need-no-value-requires-2
+no-value-requires-2 c κs = search needs
 
 returns-3 : tie.Need-returns-3
 returns-3 c =
     let a = c .before .before .before .before .before .before .args in
-    subst (Wrote (a .self) _ _) (sym (c .no-amount2 .ensures)) (wrote-not (a .self) (now (a .buffer)) (now (a .buffer)) (sym (c .before .before .before .stands .ensures) ∙ c .before .before .if1 .left) (c .before .refusal .result) (c .before .refusal .ensures) refl)
+    subst (Wrote (a .self) _ _) (sym (c .no-value2 .ensures)) (wrote-not (a .self) (now (a .buffer)) (now (a .buffer)) (sym (c .before .before .before .stands .ensures) ∙ c .before .before .if1 .left) (c .before .refusal .result) (c .before .refusal .ensures) refl)
 
 pub write-spec : {M : Type 1} → statement M
 write-spec =
@@ -57,11 +57,11 @@ write-spec =
     lay-requires
     enum-known-n
     enum-told
-    no-amount-requires
+    no-value-requires
     same-length
     returns
     same-length-2
     returns-2
     refusal-requires
-    no-amount-requires-2
+    no-value-requires-2
     returns-3)

@@ -5,7 +5,7 @@ use denote.Ref.{now}
 use native.Mathlib.Omega.{arith}
 use lib.ListN.{length-take}
 use Rattle.lifecycle.specs.Lifecycle.{judgedUpdate}
-use Rattle.settings.specs.Kept.{termsOf}
+use Rattle.settings.specs.Kept.{configOf}
 use Rattle.message.specs.Meaning.{checked}
 use Rattle.book.specs.Shown.{shows, bookOf}
 use Rattle.book.specs.Taking.{refusedStep, Judged}
@@ -39,9 +39,9 @@ slice-aggregate-read-open c =
     omega arith
 
 read-open-requires : tie.Need-read-open-requires
-unfolding termsOf
+unfolding configOf
 read-open-requires c κs =
-    c .before .before .before .before .before .before .before .pre .terms (sym (c .before .before .before .before .is-shut .ensures) ∙ c .before .before .before .if1 .left)
+    c .before .before .before .before .before .before .before .pre .config (sym (c .before .before .before .before .is-shut .ensures) ∙ c .before .before .before .if1 .left)
 
 enum-known-answer : tie.Need-enum-known-answer
 enum-known-answer c = search needs
@@ -56,26 +56,26 @@ judge-update-requires : tie.Need-judge-update-requires
 judge-update-requires c κs = search needs
 
 returns-2 : tie.Need-returns-2
-unfolding termsOf shows Judged
+unfolding configOf shows Judged
 returns-2 c = record {
   of = λ bids asks g.
       let a = c .before .before .before .before .before .before .before .before .before .before .before .args in
       let b = bookOf bids asks (a .header) in
       let u = sym (c .before .before .before .before .before .before .before .before .is-shut .ensures) ∙ c .before .before .before .before .before .before .before .if1 .left in
       let x = c .before .answer .given .0 .0 in
-      told-as (refusedStep b x) (hear-fails (shows b) (now (a .s)) u x (verdict-fails (now (a .s)) (checked (termsOf (b .settings)) (now (a .s))) (c .before .before .before .read-open .result) (c .before .before .before .read-open .ensures) x (c .before .answer .given .1))) (refused-told b g u x);
+      told-as (refusedStep b x) (hear-fails (shows b) (now (a .s)) u x (verdict-fails (now (a .s)) (checked (configOf (b .settings)) (now (a .s))) (c .before .before .before .read-open .result) (c .before .before .before .read-open .ensures) x (c .before .answer .given .1))) (refused-told b g u x);
 }
 
 returns-3 : tie.Need-returns-3
-unfolding termsOf
+unfolding configOf
 returns-3 c = record {
   of = λ bids asks g.
       let a = c .before .before .before .before .before .before .before .before .before .before .before .before .before .args in
       let b = bookOf bids asks (a .header) in
       let u = sym (c .before .before .before .before .before .before .before .before .before .before .is-shut .ensures) ∙ c .before .before .before .before .before .before .before .before .before .if1 .left in
       let o = c .before .before .before .outline .given .0 .0 in
-      let v = verdict-passes (now (a .s)) (checked (termsOf (b .settings)) (now (a .s))) (c .before .before .before .before .before .read-open .result) (c .before .before .before .before .before .read-open .ensures) o (c .before .before .before .outline .given .1) in
-      judged-told b (now (a .s)) o (record { good = g; unshut = u; layout = v .0; fair = v .1; told = v .2 }) (c .judge-update .result) (c .judge-update .ensures ∙ ap (λ (x : Bool). judgedUpdate (b .standing .state) x (b .number) o) (c .before .is-m .ensures));
+      let v = verdict-passes (now (a .s)) (checked (configOf (b .settings)) (now (a .s))) (c .before .before .before .before .before .read-open .result) (c .before .before .before .before .before .read-open .ensures) o (c .before .before .before .outline .given .1) in
+      judged-told b (now (a .s)) o (record { good = g; unshut = u; layout = v .0; checked-as = v .1; outlined = v .2 }) (c .judge-update .result) (c .judge-update .ensures ∙ ap (λ (x : Bool). judgedUpdate (b .lifecycle .state) x (b .number) o) (c .before .is-m .ensures));
 }
 
 pub judge-spec : {M : Type 1} → statement M

@@ -1,7 +1,7 @@
 -- `refuse` meets its contract: all but how the book stands stays.
 use mathlib.Core.Path.{_≡_, ap}
 use Rattle.book.specs.declared.Header.{Header}
-use Rattle.lifecycle.specs.declared.Standing.{Standing}
+use Rattle.lifecycle.specs.declared.Lifecycle.{Lifecycle}
 use borrow.Author.Needs.{needs}
 use Rattle.book.proofs.taking.refuse.Statement.{statement}
 use Rattle.book.proofs.taking.refuse.Tie as tie

@@ -9,8 +9,8 @@ use Rattle.settings.specs.Settings.{isM}
 use Rattle.sides.specs.Worked.{SideAfter, sideAfter}
 use Rattle.layout.specs.declared.Outline.{Outline}
 use Rattle.message.specs.declared.Verdict.the-variants.{Passes}
-use Rattle.reference.specs.Reference.{hear}
-use Rattle.book.specs.Shown.{shows, bookOf, stepOf, Told}
+use Rattle.reference.specs.Reference.{receive}
+use Rattle.book.specs.Shown.{shows, bookOf, stepOf, Received}
 use Rattle.book.specs.Taking.{Passed, Judged, refusedStep, keptStep}
 use Rattle.book.specs.declared.Book.{Book}
 use Rattle.book.specs.declared.Header.{Header}
@@ -32,7 +32,7 @@ passed : (s : tie.Start) → Passed (bookAt s) (textAt s) (outlineAt s)
 unfolding Judged
 passed s = s .pre .0 .0
 
-early : (s : tie.Start) → judgedUpdate (bookAt s .standing .state) (isM (bookAt s .settings .dialect)) (bookAt s .number) (outlineAt s) ≡ Passes (outlineAt s)
+early : (s : tie.Start) → judgedUpdate (bookAt s .lifecycle .state) (isM (bookAt s .settings .dialect)) (bookAt s .number) (outlineAt s) ≡ Passes (outlineAt s)
 unfolding Judged
 early s = s .pre .0 .1
 
@@ -64,7 +64,7 @@ returns c =
     let is = sym (c .before .before .is-taken .ensures) ∙ c .before .if1 .taken in
     record {
       taken = λ t.
-          subst (λ (h : Header). Told (hear (shows (bookAt s)) (textAt s)) (stepOf (bidsOf n .levels .words) (asksOf n .levels .words) (record { header = h; answer = answer }))) (sym (c .renew .ensures))
+          subst (λ (h : Header). Received (receive (shows (bookAt s)) (textAt s)) (stepOf (bidsOf n .levels .words) (asksOf n .levels .words) (record { header = h; answer = answer }))) (sym (c .renew .ensures))
           (kept-told (bookAt s) (textAt s) (outlineAt s) (passed s) (early s) (bidsOf n) (asksOf n) (n .enter .ensures .bids-worked) (n .enter .ensures .asks-worked) answer (c .before .before .before .weigh .ensures) is);
       refused = λ t. absurd (true≢false (sym is ∙ t));
       bids-stay = n .enter .ensures .bids-stay;
@@ -84,7 +84,7 @@ returns-2 c =
     record {
       taken = λ t. absurd (true≢false (sym t ∙ is));
       refused = λ t.
-          subst (λ (h : Header). Told (hear (shows (bookAt s)) (textAt s)) (stepOf (bookAt s .bids .words) (bookAt s .asks .words) (record { header = h; answer = answer }))) (sym (c .refuse .ensures))
+          subst (λ (h : Header). Received (receive (shows (bookAt s)) (textAt s)) (stepOf (bookAt s .bids .words) (bookAt s .asks .words) (record { header = h; answer = answer }))) (sym (c .refuse .ensures))
           (left-told (bookAt s) (textAt s) (outlineAt s) (passed s) (early s) (bidsOf n) (asksOf n) (n .enter .ensures .bids-worked) (n .enter .ensures .asks-worked) answer (c .before .before .before .weigh .ensures) is);
       bids-stay = n .enter .ensures .bids-stay;
       asks-stay = n .enter .ensures .asks-stay;

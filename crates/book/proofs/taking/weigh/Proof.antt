@@ -19,7 +19,7 @@ abbrev asksOf : tie.Start → SideAfter
 asksOf s = sideAfter (now (s .args .asks)) (s .args .ask-side)
 
 abbrev isMet : tie.Start → Bool
-isMet s = bidsOf s .met || asksOf s .met
+isMet s = bidsOf s .replaced || asksOf s .replaced
 
 abbrev isOver : tie.Start → Bool
 isOver s = ltb 100 (bidsOf s .count) || ltb 100 (asksOf s .count)

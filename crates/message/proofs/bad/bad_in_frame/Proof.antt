@@ -9,8 +9,8 @@ use Rattle.message.proofs.bad.bad_in_frame.Tie as tie
 read-frame-requires : tie.Need-read-frame-requires
 read-frame-requires c κs = search needs
 
-enum-told : tie.Need-enum-told
-enum-told c = search needs
+enum-scan : tie.Need-enum-scan
+enum-scan c = search needs
 
 enum-known-outline : tie.Need-enum-known-outline
 enum-known-outline c = search needs
@@ -26,7 +26,7 @@ bad-in-requires c κs =
 returns : tie.Need-returns
 returns c =
     let a = c .before .before .before .before .before .args in
-    frame-fails (record { dialect = a .dialect; depth = a .depth; name = now (a .name) }) (now (a .s)) (c .before .before .before .before .before .pre) (c .before .before .read-frame .result) (c .before .before .read-frame .ensures) (c .enum-told .given .0 .0) (c .enum-told .given .1)
+    frame-fails (record { dialect = a .dialect; depth = a .depth; name = now (a .name) }) (now (a .s)) (c .before .before .before .before .before .pre) (c .before .before .read-frame .result) (c .before .before .read-frame .ensures) (c .enum-scan .given .0 .0) (c .enum-scan .given .1)
 
 returns-2 : tie.Need-returns-2
 returns-2 c =
@@ -39,7 +39,7 @@ bad-in-frame-spec =
     tie.close
     (tie.spec
     read-frame-requires
-    enum-told
+    enum-scan
     enum-known-outline
     is-m-requires
     bad-in-requires

@@ -1,0 +1,77 @@
+-- `receive` meets its contract: a message that is judged to pass is taken or refused by what it has entries for.
+use mathlib.Core.Path.{sym, subst}
+use denote.Ref.{now}
+use Rattle.message.specs.declared.Verdict.the-variants.{Passes}
+use Rattle.reference.specs.Reference.{receive}
+use Rattle.book.specs.Shown.{shows, bookOf, stepOf, Received}
+use Rattle.book.specs.Taking.{Judged, refusedStep}
+use Rattle.book.specs.declared.Book.{Book}
+use Rattle.book.specs.declared.Header.{Header}
+use borrow.Author.Needs.{needs}
+use Rattle.book.proofs.taking.receive.Statement.{statement}
+use Rattle.book.proofs.taking.receive.Tie as tie
+
+-- ---- a message that passes the checks of its text
+
+abbrev bookAt : tie.After-outline → Book
+bookAt c = let a = c .before .before .before .before .before .args in bookOf (now (a .bids)) (now (a .asks)) (a .header)
+
+judged : (c : tie.After-outline) → Judged (bookAt c) (now (c .before .before .before .before .before .args .s)) (Passes (c .outline .given .0 .0))
+judged c =
+    let s = c .before .before .before .before .before in
+    subst (Judged (bookAt c) (now (s .args .s))) (c .outline .given .1) (c .before .before .judge .ensures .of (now (s .args .bids)) (now (s .args .asks)) (s .pre .0))
+
+judge-requires : tie.Need-judge-requires
+judge-requires c κs = search needs
+
+enum-known-refusal : tie.Need-enum-known-refusal
+enum-known-refusal c = search needs
+
+refuse-requires : tie.Need-refuse-requires
+refuse-requires c κs = search needs
+
+enum-known-outline : tie.Need-enum-known-outline
+enum-known-outline c = search needs
+
+take-asks-requires : tie.Need-take-asks-requires
+take-asks-requires c κs = (judged (c .before .before .before .before .before), c .before .before .before .before .before .before .before .before .before .before .pre .1, c .before .before .if1 .taken)
+
+returns : tie.Need-returns
+returns c = search needs
+
+take-bids-requires : tie.Need-take-bids-requires
+take-bids-requires c κs = (judged (c .before .before .before .before .before .before .before), c .before .before .before .before .before .before .before .before .before .before .before .before .pre .1, c .before .before .if2 .taken)
+
+returns-2 : tie.Need-returns-2
+returns-2 c = search needs
+
+take-both-requires : tie.Need-take-both-requires
+take-both-requires c κs = (judged (c .before .before .before .before .before .before .before), c .before .before .before .before .before .before .before .before .before .before .before .before .pre .1)
+
+returns-3 : tie.Need-returns-3
+unfolding Judged refusedStep
+returns-3 c =
+    let a = c .before .before .before .before .before .before .before .args in
+    let b = bookOf (now (a .bids)) (now (a .asks)) (a .header) in
+    let x = c .before .before .refusal .given .0 .0 in
+    subst (λ (h : Header). Received (receive (shows b) (now (a .s))) (stepOf (now (a .bids)) (now (a .asks)) (record { header = h; answer = x }))) (sym (c .refuse .ensures))
+    (subst (Judged b (now (a .s))) (c .before .before .refusal .given .1) (c .before .before .before .before .judge .ensures .of (now (a .bids)) (now (a .asks)) (c .before .before .before .before .before .before .before .pre .0)))
+
+returns-4 : tie.Need-returns-4
+returns-4 c = search needs
+
+pub receive-spec : {M : Type 1} → statement M
+receive-spec =
+    tie.close
+    (tie.spec
+    judge-requires
+    enum-known-refusal
+    refuse-requires
+    enum-known-outline
+    take-asks-requires
+    returns
+    take-bids-requires
+    returns-2
+    take-both-requires
+    returns-3
+    returns-4)

@@ -1,0 +1,117 @@
+-- Levels that were read, entries that were stored, and sides that entries were applied to. Assumes nothing.
+use Prim.Native.Nat.{ℕ, suc, _+_, _≤_, _<_}
+use mathlib.Core.Path.{_≡_, refl, sym, ap, _∙_, subst}
+use mathlib.Core.Bool.{Bool, true, false}
+use mathlib.Core.List.{List, [], _∷_, _++_}
+use native.Mathlib.Omega.{arith}
+use native.Mathlib.Numerals.{add-one}
+use borrow.Author.Tests.{eqb-true, eqb-false}
+use lib.Dec.{eqb}
+use lib.ListN.{length, take, set, length-append, length-set}
+use lib.Seq.{take-suc-set, length-take-le}
+use Rattle.decimal.specs.Decimal.{Number, number}
+use Rattle.decimal.specs.Limits.{Within}
+use Rattle.decimal.specs.declared.Decimal.{Decimal}
+use Rattle.level.specs.Level.{PriceLevel}
+use Rattle.level.specs.Words.{levelPrice, levelSize, shown}
+use Rattle.level.specs.Side.{Edit, sets, removes}
+use Rattle.level.specs.Ranked.{All, IfSet, named}
+use Rattle.level.specs.Words.{Packed, packed, editOf, entriesOf}
+use Rattle.level.specs.Kept.{keptIn, Good, held}
+use Rattle.side.specs.Applying.{Given, AfterEntries}
+use Rattle.level.specs.declared.Side.{Side}
+use Rattle.level.specs.declared.Level.{Level}
+use Rattle.level.specs.declared.Levels.{Levels}
+use Rattle.side.specs.declared.Applied.{Applied}
+use Rattle.level.proofs.All.{all-append}
+use Rattle.level.proofs.Ranking.{all-afterMessage}
+use Rattle.level.proofs.Packing.{edit-packed, edit-removal, entries-snoc}
+use Rattle.checksum.specs.Carried.{Carries, Made}
+use Rattle.checksum_vectors.specs.Book.{pieceFor, ValidSide, ValidLevel, Stored}
+
+pub made-fine : (m : Bool) (price size : Decimal) {level : Level} → Within (number price) → Made (pieceFor m) price size level → ValidLevel m level
+unfolding shown
+made-fine m price size w h = record { within = subst Within (sym (ap (λ (l : PriceLevel). l .price) (h .shows))) w; carried = h .carries }
+
+pub none-carried : (m : Bool) (levels : Levels) → held levels ≡ [] → All (Carries (pieceFor m)) (held levels)
+unfolding All
+none-carried m levels e = subst (All (Carries (pieceFor m))) (sym e) tt
+
+-- a side that entries were applied to is as fine as it was
+pub applied-fine : (m : Bool) (side : Side) (depth : ℕ) (entries : List (Edit Level)) (levels : Levels) {words : List ℕ} {applied : Applied} →
+    ValidSide m side levels → All (IfSet (Carries (pieceFor m))) entries → AfterEntries side depth entries levels words applied → ValidSide m side (keptIn words (applied .left))
+applied-fine m side depth entries levels f c a = record {
+  good = a .good;
+  carried = subst (All (Carries (pieceFor m))) (sym (a .levels)) (all-afterMessage levelPrice (Carries (pieceFor m)) side depth entries (held levels) c (f .carried));
+}
+
+-- ---- one entry more
+
+-- what holds of the entry that a level's words hold
+Both : Bool → Edit Level → Type 0
+Both m e = Within (named levelPrice e) × IfSet (Carries (pieceFor m)) e
+
+level-entry : (m : Bool) (level : Level) (rest : ℕ) → Packed level rest → ValidLevel m level → Both m (editOf (level .price) (level .size) rest)
+unfolding Both named IfSet
+level-entry m level rest p f = at (eqb (level .size) 0) refl
+  where
+    at : (b : Bool) → eqb (level .size) 0 ≡ b → Both m (editOf (level .price) (level .size) rest)
+    at true e =
+        subst (Both m) (sym (ap (λ (z : ℕ). editOf (level .price) z rest) (eqb-true (level .size) 0 e) ∙ ap (editOf (level .price) 0) (p .word) ∙ edit-removal level (p .fits))) (f .within, tt)
+    at false e =
+        subst (Both m) (sym (ap (editOf (level .price) (level .size)) (p .word) ∙ edit-packed level (p .fits) (eqb-false (level .size) 0 e))) (f .within, f .carried)
+
+pub stored-none : (m : Bool) (prices sizes packs : List ℕ) → length prices ≡ 100 → length sizes ≡ 100 → length packs ≡ 100 → Stored m prices sizes packs 0
+unfolding All entriesOf
+stored-none m prices sizes packs p z r = record { prices-long = p; sizes-long = z; packs-long = r; few = omega arith; given = record { few = omega arith; sizes-long = refl; packs-long = refl; within = tt }; carried = tt }
+
+module _ (m : Bool) (prices sizes packs : List ℕ) (k : ℕ) (level : Level) (rest : ℕ) (below : k < 100)
+    (p : Packed level rest) (f : ValidLevel m level) (h : Stored m prices sizes packs k) where
+  lp : length prices ≡ 100
+  lp = h .prices-long
+
+  lz : length sizes ≡ 100
+  lz = h .sizes-long
+
+  lr : length packs ≡ 100
+  lr = h .packs-long
+
+  front : (xs : List ℕ) (x : ℕ) → length xs ≡ 100 → take (k + 1) (set xs k x) ≡ take k xs ++ (x ∷ [])
+  front xs x l = ap (λ (n : ℕ). take n (set xs k x)) (add-one k) ∙ take-suc-set xs k x (omega arith)
+
+  long : (xs : List ℕ) → length xs ≡ 100 → length (take k xs) ≡ k
+  long xs l = length-take-le k xs (omega arith)
+
+  more : entriesOf (take (k + 1) (set prices k (level .price))) (take (k + 1) (set sizes k (level .size))) (take (k + 1) (set packs k rest))
+      ≡ entriesOf (take k prices) (take k sizes) (take k packs) ++ (editOf (level .price) (level .size) rest ∷ [])
+  more =
+      ap (λ (x : List ℕ). entriesOf x (take (k + 1) (set sizes k (level .size))) (take (k + 1) (set packs k rest))) (front prices (level .price) lp)
+      ∙ ap (λ (x : List ℕ). entriesOf (take k prices ++ (level .price ∷ [])) x (take (k + 1) (set packs k rest))) (front sizes (level .size) lz)
+      ∙ ap (entriesOf (take k prices ++ (level .price ∷ [])) (take k sizes ++ (level .size ∷ []))) (front packs rest lr)
+      ∙ entries-snoc (take k prices) (take k sizes) (take k packs) (level .price) (level .size) rest (long sizes lz ∙ sym (long prices lp)) (long packs lr ∙ sym (long prices lp))
+
+  each : (P : Edit Level → Type 0) → P (editOf (level .price) (level .size) rest) → All P (entriesOf (take k prices) (take k sizes) (take k packs)) →
+      All P (entriesOf (take (k + 1) (set prices k (level .price))) (take (k + 1) (set sizes k (level .size))) (take (k + 1) (set packs k rest)))
+  unfolding All
+  each P a l = subst (All P) (sym more) (all-append P (entriesOf (take k prices) (take k sizes) (take k packs)) (editOf (level .price) (level .size) rest ∷ []) l (a, tt))
+
+  grown : (xs : List ℕ) (x : ℕ) → length xs ≡ 100 → length (take (k + 1) (set xs k x)) ≡ k + 1
+  grown xs x l = let e : length (set xs k x) ≡ length xs = length-set xs k x in length-take-le (k + 1) (set xs k x) (omega arith)
+
+  pub stored-more : Stored m (set prices k (level .price)) (set sizes k (level .size)) (set packs k rest) (k + 1)
+  unfolding Both
+  stored-more =
+      let b : Both m (editOf (level .price) (level .size) rest) = level-entry m level rest p f in
+      record {
+        prices-long = length-set prices k (level .price) ∙ lp;
+        sizes-long = length-set sizes k (level .size) ∙ lz;
+        packs-long = length-set packs k rest ∙ lr;
+        few = omega arith;
+        given = record {
+          few = let e = grown prices (level .price) lp in omega arith;
+          sizes-long = grown sizes (level .size) lz ∙ sym (grown prices (level .price) lp);
+          packs-long = grown packs rest lr ∙ sym (grown prices (level .price) lp);
+          within = each (λ e. Within (named levelPrice e)) (b .0) (h .given .within);
+        };
+        carried = each (IfSet (Carries (pieceFor m))) (b .1) (h .carried);
+      }

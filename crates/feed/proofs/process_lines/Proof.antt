@@ -1,0 +1,149 @@
+-- `process_lines` meets its contract: at each turn the rest of the text gives what the whole gives.
+use Prim.Native.Nat.{ℕ, _+_, _-_, _≤_}
+use mathlib.Core.Path.{_≡_, sym, ap, subst}
+use native.Mathlib.Omega.{arith}
+use borrow.Author.Needs.{needs}
+use lib.Dec.{eqb}
+use mathlib.Core.List.{List}
+use lib.ListN.{length, take, drop}
+use Rattle.line_text.specs.Reply.{replyText}
+use Rattle.line_text.proofs.Length.{length-reply}
+use Rattle.reference.specs.Reference.{receive}
+use Rattle.feed.specs.Feed.{replyTo}
+use Rattle.feed.proofs.Replying.{reply-is}
+use Rattle.book.specs.Shown.{Good, shows, bookOf}
+use Rattle.book.specs.declared.Book.{Book}
+use Rattle.book.specs.declared.Header.{Header}
+use Rattle.feed.proofs.Processing.{Walk, begun, ended-lines, ended-room, went-on, heard-as}
+use Rattle.feed.proofs.process_lines.Statement.{statement}
+use Rattle.feed.proofs.process_lines.Tie as tie
+
+abbrev Inv-loop : tie.InvT-loop
+Inv-loop s table buffer₀ bids₀ asks₀ header₀ next₀ written₀ buffer bids asks header next written = Walk s (shows (bookOf bids₀ asks₀ header₀)) buffer₀ buffer (bookOf bids asks header) next written
+
+abbrev μ-loop : tie.MeasureT-loop
+μ-loop s table buffer₀ bids₀ asks₀ header₀ next₀ written₀ buffer bids asks header next written = length s - next
+
+-- ---- the line, and the reply to it
+
+abbrev line : tie.After-number-of Inv-loop μ-loop → List ℕ
+line c = take (c .before .before .before .before .before .before .before .before .find .result - c .before .before .before .before .before .before .before .before .before .before .loop .next) (drop (c .before .before .before .before .before .before .before .before .before .before .loop .next) (c .before .before .before .before .before .before .before .before .before .before .before .before .before .before .before .before .before .args .s .now))
+
+abbrev text : tie.After-number-of Inv-loop μ-loop → List ℕ
+text c = replyText (c .before .before .before .take .result .answer) (eqb (c .number-of .result) 0) (c .before .counts .result .bids) (c .before .counts .result .asks)
+
+abbrev bookAt : tie.After-number-of Inv-loop μ-loop → Book
+bookAt c = let l = c .before .before .before .before .before .before .before .before .before .before .loop in bookOf (l .bids) (l .asks) (l .header)
+
+reply : (c : tie.After-number-of Inv-loop μ-loop) → text c ≡ replyTo (receive (shows (bookAt c)) (line c))
+reply c =
+    let t = c .before .before .before .take in
+    reply-is (shows (bookAt c)) (line c) (t .ensures) (c .before .counts .ensures .of (t .last .1 .0) (t .last .1 .1 .0) (t .ensures .good)) (c .number-of .ensures)
+
+fits : (c : tie.After-number-of Inv-loop μ-loop) → c .before .before .before .before .before .before .before .before .before .before .loop .written + length (text c) ≤ length (c .before .before .before .before .before .before .before .before .before .before .loop .buffer)
+fits c =
+    let l = length-reply (c .before .before .before .take .result .answer) (eqb (c .number-of .result) 0) (c .before .counts .result .bids) (c .before .counts .result .asks) (search needs) (search needs) in
+    let r = c .before .before .before .before .before .before .before .before .before .before .loop .inv .room in
+    let t = c .before .before .before .before .before .before .before .before .before .loop-test .taken in
+    omega arith
+
+-- ---- needs
+
+header-requires : tie.Need-header-requires Inv-loop μ-loop
+header-requires c κs = search needs
+
+loop-holds : tie.Need-loop-holds Inv-loop μ-loop
+loop-holds c =
+    let s = c .before .before .before .before .before .before in
+    let b = s .args .book in
+    begun (s .args .s .now) (s .args .buffer .now) (subst (λ (h : Header). Good (bookOf (b .bids .words) (b .asks .words) h)) (sym (c .header .ensures)) (s .pre .0))
+
+sub-loop : tie.Need-sub-loop Inv-loop μ-loop
+sub-loop c = c .loop .inv .room
+
+find-requires : tie.Need-find-requires Inv-loop μ-loop
+find-requires c κs = c .before .loop .inv .within
+
+join-requires : tie.Need-join-requires Inv-loop μ-loop
+join-requires c κs = search needs
+
+same-length : tie.Need-same-length Inv-loop μ-loop
+same-length c = search needs
+
+returns : tie.Need-returns Inv-loop μ-loop
+returns c =
+    let b = c .before .before .before .before .before .before .before .before .before .before .before .args .book in
+    heard-as (ap (λ (h : Header). shows (bookOf (b .bids .words) (b .asks .words) h)) (c .before .before .before .before .before .header .ensures)) (c .join .ensures)
+    (ended-lines (c .before .before .before .before .loop .inv) (c .before .before .find .ensures .2) (c .before .if1 .taken))
+
+sub-take : tie.Need-sub-take Inv-loop μ-loop
+sub-take c = search needs
+
+part-take-start : tie.Need-part-take-start Inv-loop μ-loop
+part-take-start c = search needs
+
+part-take-end : tie.Need-part-take-end Inv-loop μ-loop
+part-take-end c = search needs
+
+take-requires : tie.Need-take-requires Inv-loop μ-loop
+take-requires c κs = (c .before .before .before .before .before .before .loop .inv .good, c .before .before .before .before .before .before .before .before .before .before .before .before .before .pre .1)
+
+counts-requires : tie.Need-counts-requires Inv-loop μ-loop
+counts-requires c κs = search needs
+
+number-of-requires : tie.Need-number-of-requires Inv-loop μ-loop
+number-of-requires c κs = search needs
+
+write-reply-requires : tie.Need-write-reply-requires Inv-loop μ-loop
+write-reply-requires c κs = fits (c .before)
+
+add-next : tie.Need-add-next Inv-loop μ-loop
+add-next c = let h = c .before .before .before .before .before .before .before .before .before .before .before .if1 .left in let g = c .before .before .before .before .before .before .before .before .before .before .before .before .before .before .before .before .before .before .before .before .before .good in omega arith
+
+loop-less : tie.Need-loop-less Inv-loop μ-loop
+loop-less c = let w = c .before .before .before .before .before .before .before .before .before .before .before .before .find .ensures in omega arith
+
+loop-again : tie.Need-loop-again Inv-loop μ-loop
+loop-again c =
+    let n = c .before .before .before .before in
+    let find = c .before .before .before .before .before .before .before .before .before .before .before .before .find in
+    went-on (c .before .before .before .before .before .before .before .before .before .before .before .before .before .before .loop .inv) (find .ensures .2) (c .before .before .before .before .before .before .before .before .before .before .before .if1 .left) (c .before .before .before .before .before .before .before .before .before .before .before .before .before .loop-test .taken) (c .before .before .before .before .before .before .before .take .ensures .good) (c .before .before .before .before .before .before .before .take .ensures .same) (reply n) (fits n) (c .before .before .write-reply .ensures)
+
+join-requires-2 : tie.Need-join-requires-2 Inv-loop μ-loop
+join-requires-2 c κs = search needs
+
+same-length-2 : tie.Need-same-length-2 Inv-loop μ-loop
+same-length-2 c = search needs
+
+returns-2 : tie.Need-returns-2 Inv-loop μ-loop
+returns-2 c =
+    let b = c .before .before .before .before .before .before .before .before .before .args .book in
+    heard-as (ap (λ (h : Header). shows (bookOf (b .bids .words) (b .asks .words) h)) (c .before .before .before .header .ensures)) (c .join2 .ensures)
+    (ended-room (c .before .before .loop .inv) (c .before .loop-test .left))
+
+pub process-lines-spec : {M : Type 1} → statement M
+process-lines-spec =
+    tie.close
+    (tie.spec
+    Inv-loop
+    μ-loop
+    header-requires
+    loop-holds
+    sub-loop
+    find-requires
+    join-requires
+    same-length
+    returns
+    sub-take
+    part-take-start
+    part-take-end
+    take-requires
+    counts-requires
+    number-of-requires
+    write-reply-requires
+    add-next
+    loop-less
+    loop-again
+    join-requires-2
+    same-length-2
+    returns-2)

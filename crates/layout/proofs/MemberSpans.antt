@@ -1,0 +1,137 @@
+-- Marks and slots hold what the values of a name are, as far as it is asked.
+-- Assumes nothing.
+use mathlib.Core.Path.{_≡_, refl, sym, ap, _∙_}
+use mathlib.Core.List.{List, [], _∷_, _++_}
+use mathlib.Core.Bool.{Bool, true, false, cond}
+use Prim.Native.Nat.{ℕ, zero, suc, _+_, _≤_}
+use native.Mathlib.Omega.{arith}
+use lib.ListN.{length}
+use Rattle.decimal.specs.Digits.{reads, refused}
+use Rattle.json.specs.Json.{Span, Pair}
+use Rattle.json.specs.Names.{part, means}
+use Rattle.json.proofs.Names.{means-part, snoc-is}
+use Rattle.entries.specs.Places.{valuesOf, only}
+use Rattle.json.specs.Fold.{foldFrom}
+use Rattle.layout.specs.MemberSpans.{few, fewMore, noMemberSpan, withMemberSpan, memberSpanOf, noEntryMember, withEntryArray, entryMemberOf}
+use Rattle.layout.specs.declared.EntryArray.{EntryArray}
+use Rattle.layout.specs.declared.MemberSpan.{MemberSpan}
+use Rattle.layout.specs.declared.EntryMember.{EntryMember}
+
+-- ---- counting up to two
+
+pub few-more-zero : (n : ℕ) → n ≡ 0 → 1 ≡ fewMore n
+unfolding fewMore
+few-more-zero n h = sym (rw (h, fewMore))
+
+pub few-more-some : (n : ℕ) → (n ≡ 0 → ⊥) → 2 ≡ fewMore n
+unfolding fewMore
+few-more-some zero h = absurd (h refl)
+few-more-some (suc n) h = refl
+
+few-suc : (n : ℕ) → fewMore (few n) ≡ few (suc n)
+unfolding few fewMore
+few-suc zero = refl
+few-suc (suc zero) = refl
+few-suc (suc (suc n)) = refl
+
+-- a component that counts, over any fold
+module _ {S A : Type 0} (step : S → A → S) (count : S → ℕ) (counts : (st : S) (a : A) → count (step st a) ≡ fewMore (count st)) where
+  count-from : (st : S) (n : ℕ) → count st ≡ few n → (l : List A) → count (foldFrom step st l) ≡ few (n + length l)
+  unfolding foldFrom
+  count-from st n h [] = h ∙ ap few (omega arith)
+  count-from st n h (a ∷ l) =
+      let k : suc n + length l ≡ n + suc (length l) = omega arith in
+      count-from (step st a) (suc n) (counts st a ∙ ap fewMore h ∙ few-suc n) l ∙ ap few k
+
+-- the times of a mark and of a slot are how many there are, up to two
+pub mark-times : (l : List Span) → memberSpanOf l .times ≡ few (length l)
+unfolding withMemberSpan few
+mark-times l =
+    let k : 0 + length l ≡ length l = omega arith in
+    count-from withMemberSpan (λ m. m .times) (λ m a. refl) noMemberSpan 0 refl l ∙ ap few k
+
+pub slot-times : (listing : Span → EntryArray) (l : List Span) → entryMemberOf listing l .times ≡ few (length l)
+unfolding withEntryArray few
+slot-times listing l =
+    let k : 0 + length l ≡ length l = omega arith in
+    count-from (withEntryArray listing) (λ t. t .times) (λ t a. refl) noEntryMember 0 refl l ∙ ap few k
+
+-- ---- tests on such counts
+
+pub few-none : (n : ℕ) → few n ≡ 0 → n ≡ 0
+unfolding few
+few-none zero h = refl
+few-none (suc zero) h = absurd (omega arith)
+few-none (suc (suc n)) h = absurd (omega arith)
+
+pub few-once : (n : ℕ) → few n ≡ 1 → n ≡ 1
+unfolding few
+few-once zero h = absurd (omega arith)
+few-once (suc zero) h = refl
+few-once (suc (suc n)) h = absurd (omega arith)
+
+pub few-is : (n : ℕ) → n ≤ 1 → few n ≡ n
+unfolding few
+few-is zero h = refl
+few-is (suc zero) h = refl
+few-is (suc (suc n)) h = absurd (omega arith)
+
+pub few-many : (n : ℕ) → 2 ≤ n → few n ≡ 2
+unfolding few
+few-many zero h = absurd (omega arith)
+few-many (suc zero) h = absurd (omega arith)
+few-many (suc (suc n)) h = refl
+
+-- ---- the only value of a list
+
+pub only-once : (l : List Span) → memberSpanOf l .times ≡ 1 → only l ≡ reads (record { from = memberSpanOf l .from; to = memberSpanOf l .to })
+unfolding only foldFrom withMemberSpan fewMore
+only-once [] h = absurd (omega arith)
+only-once (a ∷ []) h = refl
+only-once (a ∷ (b ∷ l)) h =
+    let t = mark-times (a ∷ (b ∷ l)) in
+    let n = few-once (suc (suc (length l))) (sym t ∙ h) in
+    absurd (omega arith)
+
+pub only-other : (l : List Span) → (memberSpanOf l .times ≡ 1 → ⊥) → only l ≡ refused
+unfolding only foldFrom withMemberSpan fewMore
+only-other [] h = refl
+only-other (a ∷ []) h = absurd (h refl)
+only-other (a ∷ (b ∷ l)) h = refl
+
+-- the same of a slot
+module _ (listing : Span → EntryArray) where
+  pub slot-once : (l : List Span) → entryMemberOf listing l .times ≡ 1 → (a : Span) × (l ≡ a ∷ []) × (entryMemberOf listing l .listing ≡ listing a)
+  unfolding foldFrom withEntryArray fewMore
+  slot-once [] h = absurd (omega arith)
+  slot-once (a ∷ []) h = (a, refl, refl)
+  slot-once (a ∷ (b ∷ l)) h =
+      let n = few-once (suc (suc (length l))) (sym (slot-times listing (a ∷ (b ∷ l))) ∙ h) in
+      absurd (omega arith)
+
+  pub slot-none : (l : List Span) → entryMemberOf listing l .times ≡ 0 → l ≡ []
+  slot-none [] h = refl
+  slot-none (a ∷ l) h =
+      let n = few-none (suc (length l)) (sym (slot-times listing (a ∷ l)) ∙ h) in
+      absurd (omega arith)
+
+-- ---- a component of a fold over members that follows one name
+module _ {S A : Type 0} (s name : List ℕ) (step : S → Pair → S) (get : S → A) (add : A → Span → A) where
+  pub values-fold : ((st : S) (m : Pair) → means s (m .name) name ≡ true → get (step st m) ≡ add (get st) (m .value))
+      → ((st : S) (m : Pair) → means s (m .name) name ≡ false → get (step st m) ≡ get st)
+      → (st : S) (ms : List Pair) → get (foldFrom step st ms) ≡ foldFrom add (get st) (valuesOf s name ms)
+  unfolding foldFrom valuesOf
+  values-fold hit miss st [] = refl
+  values-fold hit miss st (m ∷ ms) = at (means s (m .name) name) refl (values-fold hit miss (step st m) ms)
+    where
+      at : (b : Bool) → means s (m .name) name ≡ b → get (foldFrom step (step st m) ms) ≡ foldFrom add (get (step st m)) (valuesOf s name ms)
+          → get (foldFrom step (step st m) ms) ≡ foldFrom add (get st) (cond b (m .value ∷ valuesOf s name ms) (valuesOf s name ms))
+      at true h k = k ∙ ap (λ x. foldFrom add x (valuesOf s name ms)) (hit st m h)
+      at false h k = k ∙ ap (λ x. foldFrom add x (valuesOf s name ms)) (miss st m h)
+
+tail-is : {c : ℕ} {m n : List ℕ} → _≡_ {A = List ℕ} (c ∷ m) (c ∷ n) → m ≡ n
+tail-is h = cc
+
+-- a string means one name at the most
+pub one-name : (s : List ℕ) (a : Span) (m n : List ℕ) → means s a m ≡ true → means s a n ≡ true → m ≡ n
+one-name s a m n h g = snoc-is 34 m n (tail-is (sym (means-part s a m h) ∙ means-part s a n g))

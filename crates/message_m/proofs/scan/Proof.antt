@@ -1,0 +1,22 @@
+-- `message_m::scan` meets its contract: part by part.
+-- Assumes nothing.
+use denote.Ref.{now}
+use Rattle.message_m.proofs.Outlines.{told-made}
+use borrow.Author.Needs.{needs}
+use Rattle.message_m.proofs.scan.Statement.{statement}
+use Rattle.message_m.proofs.scan.Tie as tie
+
+both-requires : tie.Need-both-requires
+both-requires c κs = search needs
+
+m-outline-requires : tie.Need-m-outline-requires
+m-outline-requires c κs = search needs
+
+returns : tie.Need-returns
+returns c =
+    let a = c .before .before .before .args in
+    let s = now (a .s) in
+    told-made s (a .met) (a .end) (c .before .both .ensures) (c .m-outline .ensures)
+
+pub scan-spec : {M : Type 1} → statement M
+scan-spec = tie.close (tie.spec both-requires m-outline-requires returns)

@@ -1,4 +1,4 @@
-"""Writes the crate of the CRC-32's tables, code and proofs:  python3 tools/crc32_tables.py
+"""Writes the crates of the CRC-32's tables, code and proofs, a crate for each table, so that they are proved side by side:  python3 tools/crc32_tables.py
 
 An entry is two states in one number: four bits in the highest byte of a state, in its upper half and in its lower, moved by k bytes.
 Table t has the rows k = 28 * t to 28 * t + 31, and eight look-ups in its first 31 move a state by 28 * t to 28 * t + 27 bytes. The last
@@ -9,8 +9,7 @@ import os
 POLYNOMIAL = 0xEDB88320
 ROWS = 32
 LENGTHS = 28
-CRATE = "crc32_tables"
-TABLES = range(0, 2)
+CRATES = ["crc32_tables", "crc32_tables_long"]
 
 
 def bits(n, s):
@@ -162,7 +161,7 @@ def write(path, text):
         f.write(text)
 
 
-write(f"crates/{CRATE}/src/lib.rt", source(TABLES))
-for t in TABLES:
-    write(f"crates/{CRATE}/proofs/rows{t}/Proof.antt", table_proof(CRATE, t))
-    write(f"crates/{CRATE}/proofs/moved{t}/Proof.antt", move_proof(CRATE, t))
+for t, crate in enumerate(CRATES):
+    write(f"crates/{crate}/src/lib.rt", source([t]))
+    write(f"crates/{crate}/proofs/rows{t}/Proof.antt", table_proof(crate, t))
+    write(f"crates/{crate}/proofs/moved{t}/Proof.antt", move_proof(crate, t))

@@ -5,8 +5,9 @@
     tools/layers.py --write    writes the lists of crates.txt and the picture of README.md anew
 
 A crate names another by a path in its code (`json::value_end`), or by a module in its contracts, definitions and proofs
-(`Rattle.json.specs.Json`). crates.txt lists what is named and no more; libraries of the kit stay as they are listed. The picture has a
-line for each crate, by layers: what it stands on, without what stands below that already.
+(`Rattle.json.specs.Json`). crates.txt lists what is named, what declares a type in a field of a struct that is held (REACHED: the checker
+wants to name it), and no more; libraries of the kit stay as they are listed. The picture has a line for each crate, by layers: what it
+stands on, without what stands below that already.
 """
 import pathlib
 import re
@@ -14,6 +15,8 @@ import sys
 
 TOP = pathlib.Path(__file__).resolve().parent.parent
 LIST, PAGE = TOP / "crates.txt", TOP / "README.md"
+REACHED = {"feed": {"level", "lifecycle"}, "replay": {"lifecycle"}}
+KIT = {"bytes", "check", "io", "libc", "os"}
 LINE = re.compile(r"^(\w+):(.*)$")
 PICTURE = re.compile(r"(<!-- layers -->\n```\n).*?(```\n)", re.S)
 
@@ -33,7 +36,7 @@ def named_by(crate, crates):
                 names.update(re.findall(r"Rattle·(\w+)\.(?:specs|proofs)\b", text))
                 if path.suffix == ".rt":
                     names.update(re.findall(r"(?<![\w:])(\w+)::", text))
-    return names & crates - {crate}
+    return (names | REACHED.get(crate, set())) & crates - {crate}
 
 
 def below(crate, named, memo):
@@ -61,7 +64,7 @@ def main():
     order = list(listed)
     crates = set(listed)
     named = {crate: named_by(crate, crates) for crate in order}
-    wanted = {crate: [d for d in order if d in named[crate]] + [d for d in listed[crate] if d not in crates] for crate in order}
+    wanted = {crate: [d for d in order if d in named[crate]] + [d for d in listed[crate] if d in KIT] for crate in order}
     page = PAGE.read_text(encoding="utf-8")
     drawn = PICTURE.sub(lambda m: m[1] + picture(order, named) + m[2], page)
     if "--write" in sys.argv:

@@ -3,7 +3,7 @@ ghost use mathlib.Core.Path.{_≡_};
 ghost use Prim.Native.Nat.{_*_, _≤_, _<_};
 ghost use Rattle.crc32_spec.specs.Crc.{bits};
 use crc32_tables::moved0;
-use crc32_tables::moved1;
+use crc32_tables_long::moved1;
 
 // The state moved by n bytes: after n bytes that are 0. Below 56 it is one step, and past them steps of 55. Each table is called at
 // one place, so that it is inlined there, and where the compiler sees that a length is below 28, so that no look-up is tested.

@@ -3,7 +3,7 @@
 -- Assumes nothing.
 use Prim.Native.Nat.{ℕ, _+_, _-_, _≤_, _<_}
 use mathlib.Core.Path.{_≡_, refl, sym, ap, _∙_}
-use mathlib.Core.Bool.{Bool, true, false, _&&_, and-eq-true-iff}
+use mathlib.Core.Bool.{Bool, true, false, _&&_, cond, and-eq-true-iff}
 use mathlib.Core.List.{List, _∷_, _++_, append-assoc}
 use native.Mathlib.Omega.{arith}
 use borrow.Author.Tests.{eqb-false, eqb-true, ne-eqb, le-ltb, leb-true}
@@ -44,7 +44,7 @@ module _ (p : Prefix) where
   unfolding fractional
   fraction-some w f n h = go (leb 1 (length f) && leb (length f) maxDecimals) h
     where
-      go : (b : Bool) → elim b [ true ↦ prefixed (w ++ f) (length f) (length w + 1 + length f) | false ↦ refused ] ≡ reads p → 0 < p .size
+      go : (b : Bool) → cond b (prefixed (w ++ f) (length f) (length w + 1 + length f)) refused ≡ reads p → 0 < p .size
       go true g = sized (w ++ f) (length f) (length w + 1 + length f) g (omega arith)
       go false g = no-row g
 

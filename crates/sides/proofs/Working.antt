@@ -27,7 +27,7 @@ use Rattle.side.specs.declared.Applied.{Applied}
 use Rattle.level.proofs.Held.{held-length}
 use Rattle.level.proofs.Ranking.{all-afterMessage, sorted-ranked}
 use Rattle.level.proofs.Mapping.{shown-afterMessage}
-use Rattle.level.proofs.Mapped.{applied-levels, applied-count, applied-met}
+use Rattle.side.proofs.Mapped.{applied-levels, applied-count, applied-met}
 use Rattle.checksum.specs.Carried.{Carries}
 use Rattle.loader.specs.Loaded.{editFor, editAt, pieceFor, Loaded}
 use Rattle.sides.specs.Worked.{Sound, editsAt, sideAfter, Worked}

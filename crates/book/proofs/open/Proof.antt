@@ -5,19 +5,13 @@ use borrow.Author.Needs.{needs}
 use Rattle.book.proofs.open.Statement.{statement}
 use Rattle.book.proofs.open.Tie as tie
 
-choose-requires : tie.Need-choose-requires
-choose-requires c κs = search needs
-
-empty-requires : tie.Need-empty-requires
-empty-requires c κs = search needs
-
-first-state-requires : tie.Need-first-state-requires
-first-state-requires c κs = search needs
-
 returns : tie.Need-returns
 returns c =
     let a = c .before .before .before .before .args in
     opened-told (record { dialect = a .dialect; depth = a .depth; name = now (a .name) }) (c .before .before .choose .result) (c .before .before .choose .ensures) (c .before .empty .result) (c .before .empty .ensures) (c .first-state .result) (c .first-state .ensures)
 
 pub open-spec : {M : Type 1} → statement M
-open-spec = tie.close (tie.spec choose-requires empty-requires first-state-requires returns)
+open-spec =
+    tie.close
+    (tie.spec
+    (λ c κs. search needs) (λ c κs. search needs) (λ c κs. search needs) returns)

@@ -10,15 +10,6 @@ use Rattle.booklines.proofs.finish.Tie as tie
 fits : (s : tie.Start) → s .args .held + 1 ≤ length (set (s .args .input .now) (s .args .held) 10)
 fits s = let h = s .pre .1 in simp length-set (omega arith)
 
-returns : tie.Need-returns
-returns c = search needs
-
-slice-write-input : tie.Need-slice-write-input
-slice-write-input c = search needs
-
-add-to : tie.Need-add-to
-add-to c = search needs
-
 slice-reshare-prefix-serve : tie.Need-slice-reshare-prefix-serve
 slice-reshare-prefix-serve c = fits (c .before .before .before .before)
 
@@ -32,25 +23,16 @@ serve-requires c κs =
     let s = c .before .before .before .before .before .before in
     (s .pre .0, in-front (s .args .held) (s .args .held + 1) (set (s .args .input .now) (s .args .held) 10) (omega arith) (fits s), s .pre .2)
 
-same-length : tie.Need-same-length
-same-length c = search needs
-
-same-length-2 : tie.Need-same-length-2
-same-length-2 c = search needs
-
-returns-2 : tie.Need-returns-2
-returns-2 c = search needs
-
 pub finish-spec : {M : Type 1} → statement M
 finish-spec =
     tie.close
     (tie.spec
-    returns
-    slice-write-input
-    add-to
+    (λ c. search needs)
+    (λ c. search needs)
+    (λ c. search needs)
     slice-reshare-prefix-serve
     slice-aggregate-serve
     serve-requires
-    same-length
-    same-length-2
-    returns-2)
+    (λ c. search needs)
+    (λ c. search needs)
+    (λ c. search needs))

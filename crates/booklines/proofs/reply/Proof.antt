@@ -22,18 +22,6 @@ within c = rest-within (c .before .before .before .before .before .before .befor
 loop-holds : tie.Need-loop-holds Inv-loop μ-loop
 loop-holds c = (c .before .before .before .pre .0, c .before .before .before .pre .1, refl)
 
-sub-turns : tie.Need-sub-turns Inv-loop μ-loop
-sub-turns c = search needs
-
-sub-process-lines : tie.Need-sub-process-lines Inv-loop μ-loop
-sub-process-lines c = search needs
-
-part-process-lines-start : tie.Need-part-process-lines-start Inv-loop μ-loop
-part-process-lines-start c = search needs
-
-part-process-lines-end : tie.Need-part-process-lines-end Inv-loop μ-loop
-part-process-lines-end c = search needs
-
 process-lines-requires : tie.Need-process-lines-requires Inv-loop μ-loop
 process-lines-requires c κs = (c .before .before .before .loop .inv .0, c .before .before .before .before .before .before .before .pre .2)
 
@@ -49,23 +37,11 @@ slice-aggregate-write-all c =
     let b : c .before .before .before .before .before .before .process-lines .result .written ≤ length (c .before .before .before .before .before .before .process-lines .last .1 .1 .1 .0) = search needs in
     sym (length-take-le (c .before .before .before .before .before .before .process-lines .result .written) (c .before .before .before .before .before .before .process-lines .last .1 .1 .1 .0) b)
 
-write-all-requires : tie.Need-write-all-requires Inv-loop μ-loop
-write-all-requires c κs = search needs
-
-loop-less : tie.Need-loop-less Inv-loop μ-loop
-loop-less c = search needs
-
 loop-again : tie.Need-loop-again Inv-loop μ-loop
 loop-again c = (c .before .before .before .before .before .before .before .process-lines .ensures .good, within (c .before .before .before .before .before .before .before), search needs)
 
-same-length : tie.Need-same-length Inv-loop μ-loop
-same-length c = search needs
-
 returns : tie.Need-returns Inv-loop μ-loop
 returns c = (c .before .loop .inv .0, c .before .loop .inv .1)
-
-same-length-2 : tie.Need-same-length-2 Inv-loop μ-loop
-same-length-2 c = search needs
 
 returns-2 : tie.Need-returns-2 Inv-loop μ-loop
 returns-2 c = (c .before .before .before .before .before .before .before .loop .inv .0, c .before .before .before .before .before .before .before .loop .inv .1)
@@ -77,18 +53,18 @@ reply-spec =
     Inv-loop
     μ-loop
     loop-holds
-    sub-turns
-    sub-process-lines
-    part-process-lines-start
-    part-process-lines-end
+    (λ c. search needs)
+    (λ c. search needs)
+    (λ c. search needs)
+    (λ c. search needs)
     process-lines-requires
     add-next
     slice-reshare-prefix-write-all
     slice-aggregate-write-all
-    write-all-requires
-    loop-less
+    (λ c κs. search needs)
+    (λ c. search needs)
     loop-again
-    same-length
+    (λ c. search needs)
     returns
-    same-length-2
+    (λ c. search needs)
     returns-2)

@@ -26,17 +26,8 @@ held c =
 kept : (c : tie.After-input Inv-loop μ-loop) → length (c .before .read-more .last .0) ≡ length (c .before .before .before .before .loop .input)
 kept c = search needs
 
-slice-aggregate-open : tie.Need-slice-aggregate-open Inv-loop μ-loop
-slice-aggregate-open c = search needs
-
-open-requires : tie.Need-open-requires Inv-loop μ-loop
-open-requires c κs = search needs
-
 loop-holds : tie.Need-loop-holds Inv-loop μ-loop
 loop-holds c = (c .«open» .ensures .good, zero-le, refl, refl)
-
-sub-turns : tie.Need-sub-turns Inv-loop μ-loop
-sub-turns c = search needs
 
 read-more-requires : tie.Need-read-more-requires Inv-loop μ-loop
 read-more-requires c κs = let h = held (c .before .before) in omega arith
@@ -46,18 +37,6 @@ finish-requires c κs =
     let h = held (c .before .before .before .before .before .before .before .before) in
     let k = kept (c .before .before .before .before) in
     (c .before .before .before .before .before .before .before .before .loop .inv .0, omega arith, c .before .before .before .before .before .before .before .before .before .before .before .before .before .before .pre .1)
-
-same-length : tie.Need-same-length Inv-loop μ-loop
-same-length c = search needs
-
-same-length-2 : tie.Need-same-length-2 Inv-loop μ-loop
-same-length-2 c = search needs
-
-returns : tie.Need-returns Inv-loop μ-loop
-returns c = search needs
-
-add-to : tie.Need-add-to Inv-loop μ-loop
-add-to c = search needs
 
 slice-reshare-prefix-serve : tie.Need-slice-reshare-prefix-serve Inv-loop μ-loop
 slice-reshare-prefix-serve c = let r = c .before .before .before .read-more .ensures in search needs
@@ -81,9 +60,6 @@ move-to-front-requires c κs =
     let f = front (c .before .before .before .before .before .before .before .before .before .before .before .before .before .loop .held + c .before .before .before .before .before .before .before .before .before .before .read-more .result) (c .before .before .before .before .before .before .before .before .before .before .read-more .last .0) l in
     (omega arith, l)
 
-loop-less : tie.Need-loop-less Inv-loop μ-loop
-loop-less c = search needs
-
 loop-again : tie.Need-loop-again Inv-loop μ-loop
 loop-again c =
     let m = c .before .before .move-to-front .ensures .0 in
@@ -94,37 +70,28 @@ loop-again c =
     let g = c .before .before .before .before .before .before .output2 in
     (c .before .before .before .before .before .before .before .serve .ensures .0, omega arith, search needs, search needs)
 
-same-length-3 : tie.Need-same-length-3 Inv-loop μ-loop
-same-length-3 c = search needs
-
-same-length-4 : tie.Need-same-length-4 Inv-loop μ-loop
-same-length-4 c = search needs
-
-returns-2 : tie.Need-returns-2 Inv-loop μ-loop
-returns-2 c = search needs
-
 pub run-spec : {M : Type 1} → statement M
 run-spec =
     tie.close
     (tie.spec
     Inv-loop
     μ-loop
-    slice-aggregate-open
-    open-requires
+    (λ c. search needs)
+    (λ c κs. search needs)
     loop-holds
-    sub-turns
+    (λ c. search needs)
     read-more-requires
     finish-requires
-    same-length
-    same-length-2
-    returns
-    add-to
+    (λ c. search needs)
+    (λ c. search needs)
+    (λ c. search needs)
+    (λ c. search needs)
     slice-reshare-prefix-serve
     slice-aggregate-serve
     serve-requires
     move-to-front-requires
-    loop-less
+    (λ c. search needs)
     loop-again
-    same-length-3
-    same-length-4
-    returns-2)
+    (λ c. search needs)
+    (λ c. search needs)
+    (λ c. search needs))

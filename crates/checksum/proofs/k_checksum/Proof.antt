@@ -12,18 +12,6 @@ use borrow.Author.Needs.{needs}
 use Rattle.checksum.proofs.k_checksum.Statement.{statement}
 use Rattle.checksum.proofs.k_checksum.Tie as tie
 
-at-most-requires : tie.Need-at-most-requires
-at-most-requires c κs = search needs
-
-sum-levels-requires : tie.Need-sum-levels-requires
-sum-levels-requires c κs = search needs
-
-at-most-requires-2 : tie.Need-at-most-requires-2
-at-most-requires-2 c κs = search needs
-
-sum-levels-requires-2 : tie.Need-sum-levels-requires-2
-sum-levels-requires-2 c κs = search needs
-
 returns : tie.Need-returns
 unfolding held
 returns c =
@@ -42,8 +30,8 @@ pub k-checksum-spec : {M : Type 1} → statement M
 k-checksum-spec =
     tie.close
     (tie.spec
-    at-most-requires
-    sum-levels-requires
-    at-most-requires-2
-    sum-levels-requires-2
+    (λ c κs. search needs)
+    (λ c κs. search needs)
+    (λ c κs. search needs)
+    (λ c κs. search needs)
     returns)

@@ -8,9 +8,6 @@ use borrow.Author.Needs.{needs}
 use Rattle.checksum.proofs.k_level.Statement.{statement}
 use Rattle.checksum.proofs.k_level.Tie as tie
 
-k-piece-requires : tie.Need-k-piece-requires
-k-piece-requires c κs = search needs
-
 level-of-requires : tie.Need-level-of-requires
 level-of-requires c κs = (c .before .pre .0, c .before .pre .1, let n = c .k-piece .ensures .long in let l = k-short (number (c .before .args .price)) (number (c .before .args .size)) (c .before .pre .0) (c .before .pre .1) in omega arith)
 
@@ -18,4 +15,4 @@ returns : tie.Need-returns
 returns c = made-carries kPiece (c .before .before .args .price) (c .before .before .args .size) (c .before .k-piece .ensures) (c .level-of .ensures)
 
 pub k-level-spec : {M : Type 1} → statement M
-k-level-spec = tie.close (tie.spec k-piece-requires level-of-requires returns)
+k-level-spec = tie.close (tie.spec (λ c κs. search needs) level-of-requires returns)

@@ -7,9 +7,6 @@ use borrow.Author.Needs.{needs}
 use Rattle.checksum.proofs.level_of.Statement.{statement}
 use Rattle.checksum.proofs.level_of.Tie as tie
 
-cast-t4 : tie.Need-cast-t4
-cast-t4 c = search needs
-
 cast-t5 : tie.Need-cast-t5
 unfolding number
 cast-t5 c = record { fits = let f = c .before .before .pre .0 .few in omega arith }
@@ -23,4 +20,7 @@ unfolding number shown levelPrice levelSize
 returns c = record { shows = refl; sum = refl; long = refl }
 
 pub level-of-spec : {M : Type 1} → statement M
-level-of-spec = tie.close (tie.spec cast-t4 cast-t5 cast-t6 returns)
+level-of-spec =
+    tie.close
+    (tie.spec
+    (λ c. search needs) cast-t5 cast-t6 returns)

@@ -28,18 +28,6 @@ returns c =
     let a = c .before .before .before .args in
     sym (ap₂ mChecksum (ap (λ (n : ℕ). map shown (take n (levelsIn (a .bids .now)))) (c .before .if1 .taken)) (ap (λ (n : ℕ). map shown (take n (levelsIn (a .asks .now)))) (c .if2 .taken)) ∙ m-empty)
 
-at-most-requires : tie.Need-at-most-requires
-at-most-requires c κs = search needs
-
-sum-pairs-requires : tie.Need-sum-pairs-requires
-sum-pairs-requires c κs = search needs
-
-sum-levels-requires : tie.Need-sum-levels-requires
-sum-levels-requires c κs = search needs
-
-sum-levels-requires-2 : tie.Need-sum-levels-requires-2
-sum-levels-requires-2 c κs = search needs
-
 returns-2 : tie.Need-returns-2
 unfolding held
 returns-2 c =
@@ -67,8 +55,8 @@ m-checksum-spec =
     tie.close
     (tie.spec
     returns
-    at-most-requires
-    sum-pairs-requires
-    sum-levels-requires
-    sum-levels-requires-2
+    (λ c κs. search needs)
+    (λ c κs. search needs)
+    (λ c κs. search needs)
+    (λ c κs. search needs)
     returns-2)

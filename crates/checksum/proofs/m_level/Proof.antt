@@ -8,9 +8,6 @@ use borrow.Author.Needs.{needs}
 use Rattle.checksum.proofs.m_level.Statement.{statement}
 use Rattle.checksum.proofs.m_level.Tie as tie
 
-m-piece-requires : tie.Need-m-piece-requires
-m-piece-requires c κs = search needs
-
 level-of-requires : tie.Need-level-of-requires
 level-of-requires c κs = (c .before .pre .0, c .before .pre .1, let n = c .m-piece .ensures .long in let l = m-short (number (c .before .args .price)) (number (c .before .args .size)) (c .before .pre .0) (c .before .pre .1) in omega arith)
 
@@ -18,4 +15,4 @@ returns : tie.Need-returns
 returns c = made-carries mPiece (c .before .before .args .price) (c .before .before .args .size) (c .before .m-piece .ensures) (c .level-of .ensures)
 
 pub m-level-spec : {M : Type 1} → statement M
-m-level-spec = tie.close (tie.spec m-piece-requires level-of-requires returns)
+m-level-spec = tie.close (tie.spec (λ c κs. search needs) level-of-requires returns)

@@ -23,21 +23,6 @@ abbrev μ-loop : tie.MeasureT-loop
 loop-holds : tie.Need-loop-holds Inv-loop μ-loop
 loop-holds c = (refl, c .before .pre .0)
 
-level-in-requires : tie.Need-level-in-requires Inv-loop μ-loop
-level-in-requires c κs = search needs
-
-cast-combine-with : tie.Need-cast-combine-with Inv-loop μ-loop
-cast-combine-with c = search needs
-
-combine-with-requires : tie.Need-combine-with-requires Inv-loop μ-loop
-combine-with-requires c κs = search needs
-
-add-i : tie.Need-add-i Inv-loop μ-loop
-add-i c = search needs
-
-loop-less : tie.Need-loop-less Inv-loop μ-loop
-loop-less c = search needs
-
 loop-again : tie.Need-loop-again Inv-loop μ-loop
 loop-again c =
     let w = c .before .before .before .before in
@@ -62,10 +47,10 @@ sum-levels-spec =
     Inv-loop
     μ-loop
     loop-holds
-    level-in-requires
-    cast-combine-with
-    combine-with-requires
-    add-i
-    loop-less
+    (λ c κs. search needs)
+    (λ c. search needs)
+    (λ c κs. search needs)
+    (λ c. search needs)
+    (λ c. search needs)
     loop-again
     returns)

@@ -29,33 +29,6 @@ loop-holds c =
     let a = c .before .args in
     (ap (λ (m : ℕ). summed (a .state) (interleaved m (take (a .n) (levelsIn (a .bids .now))) (take (a .n) (levelsIn (a .asks .now))))) (sub-zero (a .n)), zero-le)
 
-level-in-requires : tie.Need-level-in-requires Inv-loop μ-loop
-level-in-requires c κs = search needs
-
-level-in-requires-2 : tie.Need-level-in-requires-2 Inv-loop μ-loop
-level-in-requires-2 c κs = search needs
-
-cast-bid-length : tie.Need-cast-bid-length Inv-loop μ-loop
-cast-bid-length c = search needs
-
-cast-ask-length : tie.Need-cast-ask-length Inv-loop μ-loop
-cast-ask-length c = search needs
-
-combine-with-requires : tie.Need-combine-with-requires Inv-loop μ-loop
-combine-with-requires c κs = search needs
-
-add-combine-with : tie.Need-add-combine-with Inv-loop μ-loop
-add-combine-with c = search needs
-
-combine-with-requires-2 : tie.Need-combine-with-requires-2 Inv-loop μ-loop
-combine-with-requires-2 c κs = search needs
-
-add-i : tie.Need-add-i Inv-loop μ-loop
-add-i c = search needs
-
-loop-less : tie.Need-loop-less Inv-loop μ-loop
-loop-less c = search needs
-
 loop-again : tie.Need-loop-again Inv-loop μ-loop
 loop-again c =
     let w = c .before .before .before .before .before .before .before in
@@ -86,14 +59,14 @@ sum-pairs-spec =
     Inv-loop
     μ-loop
     loop-holds
-    level-in-requires
-    level-in-requires-2
-    cast-bid-length
-    cast-ask-length
-    combine-with-requires
-    add-combine-with
-    combine-with-requires-2
-    add-i
-    loop-less
+    (λ c κs. search needs)
+    (λ c κs. search needs)
+    (λ c. search needs)
+    (λ c. search needs)
+    (λ c κs. search needs)
+    (λ c. search needs)
+    (λ c κs. search needs)
+    (λ c. search needs)
+    (λ c. search needs)
     loop-again
     returns)

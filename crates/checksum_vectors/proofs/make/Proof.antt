@@ -7,17 +7,14 @@ use borrow.Author.Needs.{needs}
 use Rattle.checksum_vectors.proofs.make.Statement.{statement}
 use Rattle.checksum_vectors.proofs.make.Tie as tie
 
-m-level-requires : tie.Need-m-level-requires
-m-level-requires c κs = search needs
-
 returns : tie.Need-returns
 returns c = subst (λ (m : Bool). Made (pieceFor m) (c .before .before .args .price) (c .before .before .args .size) (c .m-level .result)) (sym (c .before .if1 .taken)) (c .m-level .ensures)
-
-k-level-requires : tie.Need-k-level-requires
-k-level-requires c κs = search needs
 
 returns-2 : tie.Need-returns-2
 returns-2 c = subst (λ (m : Bool). Made (pieceFor m) (c .before .before .args .price) (c .before .before .args .size) (c .k-level .result)) (sym (c .before .if1 .left)) (c .k-level .ensures)
 
 pub make-spec : {M : Type 1} → statement M
-make-spec = tie.close (tie.spec m-level-requires returns k-level-requires returns-2)
+make-spec =
+    tie.close
+    (tie.spec
+    (λ c κs. search needs) returns (λ c κs. search needs) returns-2)

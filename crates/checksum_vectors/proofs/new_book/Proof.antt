@@ -4,14 +4,8 @@ use borrow.Author.Needs.{needs}
 use Rattle.checksum_vectors.proofs.new_book.Statement.{statement}
 use Rattle.checksum_vectors.proofs.new_book.Tie as tie
 
-empty-requires : tie.Need-empty-requires
-empty-requires c κs = search needs
-
-empty-requires-2 : tie.Need-empty-requires-2
-empty-requires-2 c κs = search needs
-
 returns : tie.Need-returns
 returns c = record { shallow = c .before .before .pre; bids = record { good = c .before .empty .ensures .bids; carried = none-carried (c .before .before .args .m) (c .before .empty .result) (c .before .empty .ensures .none) }; asks = record { good = c .empty2 .ensures .asks; carried = none-carried (c .before .before .args .m) (c .empty2 .result) (c .empty2 .ensures .none) } }
 
 pub new-book-spec : {M : Type 1} → statement M
-new-book-spec = tie.close (tie.spec empty-requires empty-requires-2 returns)
+new-book-spec = tie.close (tie.spec (λ c κs. search needs) (λ c κs. search needs) returns)

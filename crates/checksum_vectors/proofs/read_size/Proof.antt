@@ -5,24 +5,14 @@ use borrow.Author.Needs.{needs}
 use Rattle.checksum_vectors.proofs.read_size.Statement.{statement}
 use Rattle.checksum_vectors.proofs.read_size.Tie as tie
 
-parse-requires : tie.Need-parse-requires
-parse-requires c κs = search needs
-
-enum-known-z : tie.Need-enum-known-z
-enum-known-z c = search needs
-
 make-requires : tie.Need-make-requires
 make-requires c κs = (c .before .before .before .before .before .pre, parsed-within (c .before .before .before .before .before .args .size .now) (c .before .before .before .parse .ensures) (c .before .z .given .1))
-
-enum-told : tie.Need-enum-told
-enum-told c = search needs
 
 returns : tie.Need-returns
 returns c = made-fine (c .before .before .before .before .before .before .args .m) (c .before .before .before .before .before .before .args .price) (c .before .before .z .given .0 .0) (c .before .before .before .before .before .before .pre) (c .make .ensures)
 
-returns-2 : tie.Need-returns-2
-returns-2 c = search needs
-
 pub read-size-spec : {M : Type 1} → statement M
 read-size-spec =
-    tie.close (tie.spec parse-requires enum-known-z make-requires enum-told returns returns-2)
+    tie.close
+    (tie.spec
+    (λ c κs. search needs) (λ c. search needs) make-requires (λ c. search needs) returns (λ c. search needs))

@@ -18,44 +18,14 @@ side-fine c =
     let r = c .before .before .before .before .before .before .read-entries in
     applied-fine (s .args .m) (s .args .side) (s .args .depth) (entriesOf (take (r .result) (r .last .1 .1 .0)) (take (r .result) (r .last .1 .1 .1 .0)) (take (r .result) (r .last .1 .1 .1 .1 .0))) (s .args .levels) (s .pre .0) (r .ensures .carried) (c .apply .ensures)
 
-read-entries-requires : tie.Need-read-entries-requires
-read-entries-requires c κs = search needs
-
-array-share-prefix-prices : tie.Need-array-share-prefix-prices
-array-share-prefix-prices c = search needs
-
 slice-aggregate-apply : tie.Need-slice-aggregate-apply
 slice-aggregate-apply c = let r = c .before .before .before .read-entries in let e = r .ensures .prices-long in let f = r .ensures .few in sym (length-take-le (r .result) (r .last .1 .1 .0) (omega arith))
-
-array-share-prefix-sizes : tie.Need-array-share-prefix-sizes
-array-share-prefix-sizes c = search needs
 
 slice-aggregate-apply-2 : tie.Need-slice-aggregate-apply-2
 slice-aggregate-apply-2 c = let r = c .before .before .before .before .read-entries in let e = r .ensures .sizes-long in let f = r .ensures .few in sym (length-take-le (r .result) (r .last .1 .1 .1 .0) (omega arith))
 
-array-share-prefix-packs : tie.Need-array-share-prefix-packs
-array-share-prefix-packs c = search needs
-
 slice-aggregate-apply-3 : tie.Need-slice-aggregate-apply-3
 slice-aggregate-apply-3 c = let r = c .before .before .before .before .before .read-entries in let e = r .ensures .packs-long in let f = r .ensures .few in sym (length-take-le (r .result) (r .last .1 .1 .1 .1 .0) (omega arith))
-
-apply-requires : tie.Need-apply-requires
-apply-requires c κs = search needs
-
-say-number-requires : tie.Need-say-number-requires
-say-number-requires c κs = search needs
-
-slice-aggregate-say : tie.Need-slice-aggregate-say
-slice-aggregate-say c = search needs
-
-say-requires : tie.Need-say-requires
-say-requires c κs = search needs
-
-slice-aggregate-say-2 : tie.Need-slice-aggregate-say-2
-slice-aggregate-say-2 c = search needs
-
-say-requires-2 : tie.Need-say-requires-2
-say-requires-2 c κs = search needs
 
 returns : tie.Need-returns
 returns c = side-fine (c .before .before .before .before)
@@ -67,18 +37,18 @@ pub run-side-spec : {M : Type 1} → statement M
 run-side-spec =
     tie.close
     (tie.spec
-    read-entries-requires
-    array-share-prefix-prices
+    (λ c κs. search needs)
+    (λ c. search needs)
     slice-aggregate-apply
-    array-share-prefix-sizes
+    (λ c. search needs)
     slice-aggregate-apply-2
-    array-share-prefix-packs
+    (λ c. search needs)
     slice-aggregate-apply-3
-    apply-requires
-    say-number-requires
-    slice-aggregate-say
-    say-requires
-    slice-aggregate-say-2
-    say-requires-2
+    (λ c κs. search needs)
+    (λ c κs. search needs)
+    (λ c. search needs)
+    (λ c κs. search needs)
+    (λ c. search needs)
+    (λ c κs. search needs)
     returns
     returns-2)

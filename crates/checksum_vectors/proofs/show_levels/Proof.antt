@@ -11,26 +11,8 @@ Inv-loop levels i₀ i = i ≤ levels .count
 abbrev μ-loop : tie.MeasureT-loop
 μ-loop levels i₀ i = levels .count - i
 
-loop-holds : tie.Need-loop-holds Inv-loop μ-loop
-loop-holds c = search needs
-
 level-in-requires : tie.Need-level-in-requires Inv-loop μ-loop
 level-in-requires c κs = let p = c .before .before .before .before .pre in let u = c .before .before .loop-test .taken in (omega (arith, p .0), p .1)
-
-show-level-requires : tie.Need-show-level-requires Inv-loop μ-loop
-show-level-requires c κs = search needs
-
-add-i : tie.Need-add-i Inv-loop μ-loop
-add-i c = search needs
-
-loop-less : tie.Need-loop-less Inv-loop μ-loop
-loop-less c = search needs
-
-loop-again : tie.Need-loop-again Inv-loop μ-loop
-loop-again c = search needs
-
-returns : tie.Need-returns Inv-loop μ-loop
-returns c = search needs
 
 pub show-levels-spec : {M : Type 1} → statement M
 show-levels-spec =
@@ -38,10 +20,10 @@ show-levels-spec =
     (tie.spec
     Inv-loop
     μ-loop
-    loop-holds
+    (λ c. search needs)
     level-in-requires
-    show-level-requires
-    add-i
-    loop-less
-    loop-again
-    returns)
+    (λ c κs. search needs)
+    (λ c. search needs)
+    (λ c. search needs)
+    (λ c. search needs)
+    (λ c. search needs))

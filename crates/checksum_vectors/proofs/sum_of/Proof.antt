@@ -9,27 +9,12 @@ use borrow.Author.Needs.{needs}
 use Rattle.checksum_vectors.proofs.sum_of.Statement.{statement}
 use Rattle.checksum_vectors.proofs.sum_of.Tie as tie
 
-slice-aggregate-fill-table : tie.Need-slice-aggregate-fill-table
-slice-aggregate-fill-table c = search needs
-
-fill-table-requires : tie.Need-fill-table-requires
-fill-table-requires c κs = search needs
-
-slice-aggregate-m-checksum : tie.Need-slice-aggregate-m-checksum
-slice-aggregate-m-checksum c = search needs
-
 m-checksum-requires : tie.Need-m-checksum-requires
 m-checksum-requires c κs =
     let a = c .before .before .before .before .before .before .before .before .before .before .before .args .book in
     let b = c .before .before .before .before .before .before .before .before .before .before .before .pre in
     let is = c .before .before .before .before .before .if1 .taken in
     (b .bids .good, b .asks .good, subst (λ (m : Bool). All (Carries (pieceFor m)) (held (a .bids))) is (b .bids .carried), subst (λ (m : Bool). All (Carries (pieceFor m)) (held (a .asks))) is (b .asks .carried), c .before .before .before .before .before .before .before .fill-table .ensures)
-
-returns : tie.Need-returns
-returns c = search needs
-
-slice-aggregate-k-checksum : tie.Need-slice-aggregate-k-checksum
-slice-aggregate-k-checksum c = search needs
 
 k-checksum-requires : tie.Need-k-checksum-requires
 k-checksum-requires c κs =
@@ -38,8 +23,9 @@ k-checksum-requires c κs =
     let is = c .before .before .before .before .before .if1 .left in
     (b .bids .good, b .asks .good, subst (λ (m : Bool). All (Carries (pieceFor m)) (held (a .bids))) is (b .bids .carried), subst (λ (m : Bool). All (Carries (pieceFor m)) (held (a .asks))) is (b .asks .carried), c .before .before .before .before .before .before .before .fill-table .ensures)
 
-returns-2 : tie.Need-returns-2
-returns-2 c = search needs
-
 pub sum-of-spec : {M : Type 1} → statement M
-sum-of-spec = tie.close (tie.spec slice-aggregate-fill-table fill-table-requires slice-aggregate-m-checksum m-checksum-requires returns slice-aggregate-k-checksum k-checksum-requires returns-2)
+sum-of-spec =
+    tie.close
+    (tie.spec
+    (λ c. search needs) (λ c κs. search needs) (λ c. search needs) m-checksum-requires (λ c. search needs)
+    (λ c. search needs) k-checksum-requires (λ c. search needs))

@@ -13,15 +13,9 @@ use borrow.Author.Needs.{needs}
 use Rattle.decimal.proofs.compare.Statement.{statement}
 use Rattle.decimal.proofs.compare.Tie as tie
 
-compare-numbers-requires : tie.Need-compare-numbers-requires
-compare-numbers-requires c κs = search needs
-
 returns : tie.Need-returns
 unfolding number
 returns c = c .compare-numbers .ensures ∙ sym (order-same (number (c .before .before .before .before .args .a)) (number (c .before .before .before .before .args .b)) (c .before .if1 .taken) (c .before .before .before .before .pre .1 .few))
-
-sub-power : tie.Need-sub-power
-sub-power c = search needs
 
 power-requires : tie.Need-power-requires
 unfolding number
@@ -30,9 +24,6 @@ power-requires c κs = omega (arith, c .before .before .before .before .before .
 mul-compare-numbers : tie.Need-mul-compare-numbers
 unfolding number
 mul-compare-numbers c = record { fits = subst (λ (n : ℕ). c .before .before .before .before .before .before .before .before .before .before .args .a .digits * n < 2 ^ 64) (sym (c .before .power .ensures)) (raised-fits (number (c .before .before .before .before .before .before .before .before .before .before .args .a)) (c .before .before .before .before .before .before .before .before .before .before .args .b .decimals) (c .before .before .before .before .before .before .before .before .before .before .pre .0) (le-of-lt (c .before .before .before .before .if2 .taken)) (c .before .before .before .before .before .before .before .before .before .before .pre .1 .few)) }
-
-compare-numbers-requires-2 : tie.Need-compare-numbers-requires-2
-compare-numbers-requires-2 c κs = search needs
 
 returns-2 : tie.Need-returns-2
 unfolding number
@@ -46,9 +37,6 @@ mul-compare-numbers-2 : tie.Need-mul-compare-numbers-2
 unfolding number
 mul-compare-numbers-2 c = record { fits = subst (λ (n : ℕ). c .before .before .before .before .before .before .before .before .before .before .args .b .digits * n < 2 ^ 64) (sym (c .before .power2 .ensures)) (raised-fits (number (c .before .before .before .before .before .before .before .before .before .before .args .b)) (c .before .before .before .before .before .before .before .before .before .before .args .a .decimals) (c .before .before .before .before .before .before .before .before .before .before .pre .1) (c .before .before .before .before .if2 .left) (c .before .before .before .before .before .before .before .before .before .before .pre .0 .few)) }
 
-compare-numbers-requires-3 : tie.Need-compare-numbers-requires-3
-compare-numbers-requires-3 c κs = search needs
-
 returns-3 : tie.Need-returns-3
 unfolding number
 returns-3 c = c .compare-numbers3 .ensures ∙ ap (λ (n : ℕ). orderOf (c .before .before .before .before .before .before .before .before .before .before .before .args .a .digits) (c .before .before .before .before .before .before .before .before .before .before .before .args .b .digits * n)) (c .before .before .power2 .ensures) ∙ sym (order-raised-right (number (c .before .before .before .before .before .before .before .before .before .before .before .args .a)) (number (c .before .before .before .before .before .before .before .before .before .before .before .args .b)) (c .before .before .before .before .before .if2 .left) (c .before .before .before .before .before .before .before .before .before .before .before .pre .0 .few))
@@ -57,14 +45,14 @@ pub compare-spec : {M : Type 1} → statement M
 compare-spec =
     tie.close
     (tie.spec
-    compare-numbers-requires
+    (λ c κs. search needs)
     returns
-    sub-power
+    (λ c. search needs)
     power-requires
     mul-compare-numbers
-    compare-numbers-requires-2
+    (λ c κs. search needs)
     returns-2
     power-requires-2
     mul-compare-numbers-2
-    compare-numbers-requires-3
+    (λ c κs. search needs)
     returns-3)

@@ -8,9 +8,6 @@ use borrow.Author.Needs.{needs}
 use Rattle.entries.proofs.any_entry.Statement.{statement}
 use Rattle.entries.proofs.any_entry.Tie as tie
 
-entry-at-requires : tie.Need-entry-at-requires
-entry-at-requires c κs = search needs
-
 number-at-requires : tie.Need-number-at-requires
 number-at-requires c κs =
     let b = c .before .before in
@@ -33,4 +30,6 @@ returns c =
 
 pub any-entry-spec : {M : Type 1} → statement M
 any-entry-spec =
-    tie.close (tie.spec entry-at-requires number-at-requires number-at-requires-2 returns)
+    tie.close
+    (tie.spec
+    (λ c κs. search needs) number-at-requires number-at-requires-2 returns)

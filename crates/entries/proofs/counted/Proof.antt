@@ -14,27 +14,6 @@ parse-quoted-requires c κs = c .before .before .before .pre .0 (c .if2 .taken) 
 parse-quoted-requires-2 : tie.Need-parse-quoted-requires-2
 parse-quoted-requires-2 c κs = c .before .before .before .before .pre .0 (c .before .if2 .taken) .1
 
-is-bad-price-requires : tie.Need-is-bad-price-requires
-is-bad-price-requires c κs = search needs
-
-is-bad-size-requires : tie.Need-is-bad-size-requires
-is-bad-size-requires c κs = search needs
-
-either-requires : tie.Need-either-requires
-either-requires c κs = search needs
-
-add-t12 : tie.Need-add-t12
-add-t12 c = search needs
-
-either-requires-2 : tie.Need-either-requires-2
-either-requires-2 c κs = search needs
-
-is-zero-size-requires : tie.Need-is-zero-size-requires
-is-zero-size-requires c κs = search needs
-
-either-requires-3 : tie.Need-either-requires-3
-either-requires-3 c κs = search needs
-
 returns : tie.Need-returns
 returns c =
     let a = c .before .before .before .before .before .before .before .before .before .before .before .before .args in
@@ -45,16 +24,10 @@ returns c =
     let w = c .either3 .ensures ∙ ap (λ (m : Bool). a .sum .zero || m) (c .before .is-zero-size .ensures) in
     counted-found (a .s .now) (a .sum) (a .found) (c .before .before .before .before .before .before .before .before .before .before .if1 .taken) (c .before .before .before .before .before .before .before .before .before .if2 .taken) (parsed (p .result)) (parsed (z .result)) (p .ensures) (z .ensures) (c .before .before .either2 .result) (c .either3 .result) b w
 
-refused-requires : tie.Need-refused-requires
-refused-requires c κs = search needs
-
 returns-2 : tie.Need-returns-2
 returns-2 c =
     let a = c .before .before .before .before .args in
     c .refused .ensures ∙ sym (counted-other (a .s .now) (a .sum) (a .found) (c .before .before .if1 .taken) (c .before .if2 .left))
-
-refused-requires-2 : tie.Need-refused-requires-2
-refused-requires-2 c κs = search needs
 
 returns-3 : tie.Need-returns-3
 returns-3 c =
@@ -67,15 +40,15 @@ counted-spec =
     (tie.spec
     parse-quoted-requires
     parse-quoted-requires-2
-    is-bad-price-requires
-    is-bad-size-requires
-    either-requires
-    add-t12
-    either-requires-2
-    is-zero-size-requires
-    either-requires-3
+    (λ c κs. search needs)
+    (λ c κs. search needs)
+    (λ c κs. search needs)
+    (λ c. search needs)
+    (λ c κs. search needs)
+    (λ c κs. search needs)
+    (λ c κs. search needs)
     returns
-    refused-requires
+    (λ c κs. search needs)
     returns-2
-    refused-requires-2
+    (λ c κs. search needs)
     returns-3)

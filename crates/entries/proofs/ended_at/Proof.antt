@@ -6,9 +6,6 @@ use Rattle.entries.specs.Summary.{entryPlaceOf}
 use Rattle.entries.proofs.ended_at.Statement.{statement}
 use Rattle.entries.proofs.ended_at.Tie as tie
 
-passed-over-requires : tie.Need-passed-over-requires
-passed-over-requires c κs = search needs
-
 returns : tie.Need-returns
 returns c = record { some = λ n. absurd (n (c .before .if1 .taken)); none = λ z. c .passed-over .ensures }
 
@@ -17,4 +14,4 @@ unfolding entryPlaceOf
 returns-2 c = record { some = λ n. refl; none = λ z. absurd (c .if1 .left z) }
 
 pub ended-at-spec : {M : Type 1} → statement M
-ended-at-spec = tie.close (tie.spec passed-over-requires returns returns-2)
+ended-at-spec = tie.close (tie.spec (λ c κs. search needs) returns returns-2)

@@ -24,15 +24,6 @@ Inv-loop s at m none i₀ sum₀ i sum = Walk (each s) 93 s (summaryIn (entryFor
 abbrev μ-loop : tie.MeasureT-loop
 μ-loop s at m none i₀ sum₀ i sum = length s - i
 
-byte-at-requires : tie.Need-byte-at-requires Inv-loop μ-loop
-byte-at-requires c κs = search needs
-
-value-end-requires : tie.Need-value-end-requires Inv-loop μ-loop
-value-end-requires c κs = search needs
-
-refused-requires : tie.Need-refused-requires Inv-loop μ-loop
-refused-requires c κs = search needs
-
 returns : tie.Need-returns Inv-loop μ-loop
 returns c =
     let a = c .before .before .before .before .before .args in
@@ -44,12 +35,6 @@ add-array-close-end c =
     let a = c .before .before .before .args in
     let l = in-byte (now (a .s)) (a .at) 91 (omega arith) (sym (c .before .byte-at .ensures) ∙ c .if1 .left) in
     omega arith
-
-array-close-end-requires : tie.Need-array-close-end-requires Inv-loop μ-loop
-array-close-end-requires c κs = search needs
-
-empty-requires : tie.Need-empty-requires Inv-loop μ-loop
-empty-requires c κs = search needs
 
 returns-2 : tie.Need-returns-2 Inv-loop μ-loop
 returns-2 c =
@@ -63,12 +48,6 @@ add-skip-blanks c =
     let a = c .before .before .before .before .before .args in
     let l = in-byte (now (a .s)) (a .at) 91 (omega arith) (sym (c .before .before .before .byte-at .ensures) ∙ c .before .before .if1 .left) in
     omega arith
-
-skip-blanks-requires : tie.Need-skip-blanks-requires Inv-loop μ-loop
-skip-blanks-requires c κs = search needs
-
-empty-requires-2 : tie.Need-empty-requires-2 Inv-loop μ-loop
-empty-requires-2 c κs = search needs
 
 loop-holds : tie.Need-loop-holds Inv-loop μ-loop
 loop-holds c =
@@ -84,9 +63,6 @@ loop-holds c =
 next-entry-requires : tie.Need-next-entry-requires Inv-loop μ-loop
 next-entry-requires c κs = c .loop .inv .1
 
-refused-requires-2 : tie.Need-refused-requires-2 Inv-loop μ-loop
-refused-requires-2 c κs = search needs
-
 returns-3 : tie.Need-returns-3 Inv-loop μ-loop
 returns-3 c =
     let a = c .before .before .before .before .before .before .before .before .before .before .before .args in
@@ -98,15 +74,6 @@ returns-3 c =
     let e = c .before .before .next-entry .ensures in
     let y = ap (λ (x : Entries). x .end) e ∙ counted-end s sum g in
     c .refused2 .ensures ∙ each-wrong (entryFor (a .m)) s i g refl sum (summaryAt (entryFor (a .m)) s (a .at)) (w .0) (sym y ∙ c .before .if3 .taken)
-
-comma-end-requires : tie.Need-comma-end-requires Inv-loop μ-loop
-comma-end-requires c κs = search needs
-
-array-close-end-requires-2 : tie.Need-array-close-end-requires-2 Inv-loop μ-loop
-array-close-end-requires-2 c κs = search needs
-
-refused-requires-3 : tie.Need-refused-requires-3 Inv-loop μ-loop
-refused-requires-3 c κs = search needs
 
 returns-4 : tie.Need-returns-4 Inv-loop μ-loop
 returns-4 c =
@@ -124,9 +91,6 @@ returns-4 c =
     let q = ap (separator 44 s) (sym y) ∙ end-broken j (omega arith) (separator-in s 44 (m .end) (omega arith)) (c .before .before .before .before .comma-end .ensures) (c .before .before .before .if4 .taken) in
     let d = ap (closing 93 s) (sym y) ∙ end-broken (c .before .before .array-close-end2 .result) (omega arith) (closing-in s 93 (m .end) (omega arith)) (c .before .before .array-close-end2 .ensures) (c .before .if5 .taken) in
     c .refused3 .ensures ∙ each-broken (entryFor (a .m)) s i g refl sum (summaryAt (entryFor (a .m)) s (a .at)) (w .0) n m e q d
-
-closed-requires : tie.Need-closed-requires Inv-loop μ-loop
-closed-requires c κs = search needs
 
 returns-5 : tie.Need-returns-5 Inv-loop μ-loop
 returns-5 c =
@@ -183,4 +147,10 @@ loop-again c =
     (each-on (entryFor (a .m)) s i g refl sum (summaryAt (entryFor (a .m)) s (a .at)) (w .0) n m e j q, omega arith)
 
 pub entries-at-spec : {M : Type 1} → statement M
-entries-at-spec = tie.close (tie.spec Inv-loop μ-loop byte-at-requires value-end-requires refused-requires returns add-array-close-end array-close-end-requires empty-requires returns-2 add-skip-blanks skip-blanks-requires empty-requires-2 loop-holds next-entry-requires refused-requires-2 returns-3 comma-end-requires array-close-end-requires-2 refused-requires-3 returns-4 closed-requires returns-5 loop-less loop-again)
+entries-at-spec =
+    tie.close
+    (tie.spec
+    Inv-loop μ-loop (λ c κs. search needs) (λ c κs. search needs) (λ c κs. search needs) returns add-array-close-end
+    (λ c κs. search needs) (λ c κs. search needs) returns-2 add-skip-blanks (λ c κs. search needs)
+    (λ c κs. search needs) loop-holds next-entry-requires (λ c κs. search needs) returns-3 (λ c κs. search needs)
+    (λ c κs. search needs) (λ c κs. search needs) returns-4 (λ c κs. search needs) returns-5 loop-less loop-again)

@@ -9,15 +9,6 @@ use Rattle.entries.proofs.Entry.{found-ended, found-none, m-end}
 use Rattle.entries.proofs.entry_at.Statement.{statement}
 use Rattle.entries.proofs.entry_at.Tie as tie
 
-two-strings-requires : tie.Need-two-strings-requires
-two-strings-requires c κs = search needs
-
-array-close-end-requires : tie.Need-array-close-end-requires
-array-close-end-requires c κs = search needs
-
-ended-at-requires : tie.Need-ended-at-requires
-ended-at-requires c κs = search needs
-
 returns : tie.Need-returns
 returns c =
     let a = c .before .before .before .before .before .before .args in
@@ -27,12 +18,6 @@ returns c =
     let r = c .ended-at in
     subst (λ (m : Bool). r .result ≡ entryPlaceAt (entryFor m) s (a .at)) (sym (c .before .before .if2 .taken))
     (found-ended entryM s (a .at) (f .result) (f .ensures .two (c .before .before .before .if1 .taken)) (e .result) (m-end s (f .result .end) (e .result) (e .ensures)) (r .result) (r .ensures))
-
-k-rest-end-requires : tie.Need-k-rest-end-requires
-k-rest-end-requires c κs = search needs
-
-ended-at-requires-2 : tie.Need-ended-at-requires-2
-ended-at-requires-2 c κs = search needs
 
 returns-2 : tie.Need-returns-2
 returns-2 c =
@@ -44,13 +29,14 @@ returns-2 c =
     subst (λ (m : Bool). r .result ≡ entryPlaceAt (entryFor m) s (a .at)) (sym (c .before .before .if2 .left))
     (found-ended entryK s (a .at) (f .result) (f .ensures .two (c .before .before .before .if1 .taken)) (e .result) (e .ensures) (r .result) (r .ensures))
 
-passed-over-requires : tie.Need-passed-over-requires
-passed-over-requires c κs = search needs
-
 returns-3 : tie.Need-returns-3
 returns-3 c =
     let a = c .before .before .before .before .args in
     c .passed-over .ensures ∙ found-none (entryFor (a .m)) (a .s .now) (a .at) (c .before .before .two-strings .ensures .neither (c .before .if1 .left) (a .m))
 
 pub entry-at-spec : {M : Type 1} → statement M
-entry-at-spec = tie.close (tie.spec two-strings-requires array-close-end-requires ended-at-requires returns k-rest-end-requires ended-at-requires-2 returns-2 passed-over-requires returns-3)
+entry-at-spec =
+    tie.close
+    (tie.spec
+    (λ c κs. search needs) (λ c κs. search needs) (λ c κs. search needs) returns (λ c κs. search needs)
+    (λ c κs. search needs) returns-2 (λ c κs. search needs) returns-3)

@@ -8,17 +8,11 @@ use borrow.Author.Needs.{needs}
 use Rattle.entries.proofs.entry_end.Statement.{statement}
 use Rattle.entries.proofs.entry_end.Tie as tie
 
-array-close-end-requires : tie.Need-array-close-end-requires
-array-close-end-requires c κs = search needs
-
 returns : tie.Need-returns
 returns c =
     let a = c .before .before .before .args in
     let r = c .array-close-end .result in
     subst (λ (m : Bool). EntryEnd (entryFor m) (a .s .now) (a .at) r) (sym (c .before .if1 .taken)) (m-end (a .s .now) (a .at) r (c .array-close-end .ensures))
-
-k-rest-end-requires : tie.Need-k-rest-end-requires
-k-rest-end-requires c κs = search needs
 
 returns-2 : tie.Need-returns-2
 returns-2 c =
@@ -27,4 +21,6 @@ returns-2 c =
 
 pub entry-end-spec : {M : Type 1} → statement M
 entry-end-spec =
-    tie.close (tie.spec array-close-end-requires returns k-rest-end-requires returns-2)
+    tie.close
+    (tie.spec
+    (λ c κs. search needs) returns (λ c κs. search needs) returns-2)

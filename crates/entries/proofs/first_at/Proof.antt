@@ -5,14 +5,8 @@ use borrow.Author.Needs.{needs}
 use Rattle.entries.proofs.first_at.Statement.{statement}
 use Rattle.entries.proofs.first_at.Tie as tie
 
-array-close-end-requires : tie.Need-array-close-end-requires
-array-close-end-requires c κs = search needs
-
 returns : tie.Need-returns
 returns c = first-none (c .before .before .before .args .s .now) (c .before .array-close-end .result) (c .before .array-close-end .ensures) (c .if1 .taken)
-
-skip-blanks-requires : tie.Need-skip-blanks-requires
-skip-blanks-requires c κs = search needs
 
 returns-2 : tie.Need-returns-2
 returns-2 c =
@@ -22,4 +16,6 @@ returns-2 c =
 
 pub first-at-spec : {M : Type 1} → statement M
 first-at-spec =
-    tie.close (tie.spec array-close-end-requires returns skip-blanks-requires returns-2)
+    tie.close
+    (tie.spec
+    (λ c κs. search needs) returns (λ c κs. search needs) returns-2)

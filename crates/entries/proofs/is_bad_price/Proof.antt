@@ -8,20 +8,11 @@ use borrow.Author.Needs.{needs}
 use Rattle.entries.proofs.is_bad_price.Statement.{statement}
 use Rattle.entries.proofs.is_bad_price.Tie as tie
 
-enum-known-price : tie.Need-enum-known-price
-enum-known-price c = search needs
-
-is-zero-requires : tie.Need-is-zero-requires
-is-zero-requires c κs = search needs
-
-enum-told : tie.Need-enum-told
-enum-told c = search needs
-
 returns : tie.Need-returns
 returns c = c .is-zero .ensures ∙ sym (ap (λ (p : Parsed). isBadPrice (parsed p)) (c .before .before .price .given .1))
 
-returns-2 : tie.Need-returns-2
-returns-2 c = search needs
-
 pub is-bad-price-spec : {M : Type 1} → statement M
-is-bad-price-spec = tie.close (tie.spec enum-known-price is-zero-requires enum-told returns returns-2)
+is-bad-price-spec =
+    tie.close
+    (tie.spec
+    (λ c. search needs) (λ c κs. search needs) (λ c. search needs) returns (λ c. search needs))

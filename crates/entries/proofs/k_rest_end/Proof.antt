@@ -12,18 +12,12 @@ use Rattle.entries.proofs.Entry.{k-is, k-no-comma, k-no-third, k-none}
 use Rattle.entries.proofs.k_rest_end.Statement.{statement}
 use Rattle.entries.proofs.k_rest_end.Tie as tie
 
-comma-end-requires : tie.Need-comma-end-requires
-comma-end-requires c κs = search needs
-
 returns : tie.Need-returns
 returns c =
     let a = c .before .before .before .args in
     let s = now (a .s) in
     let q = end-broken (c .before .comma-end .result) (omega arith) (separator-in s 44 (a .at) (omega arith)) (c .before .comma-end .ensures) (c .if1 .taken) in
     record { some = λ n from f two ends. absurd (n refl); none = λ z from f two ends. k-no-comma s from f two (ap (separator 44 s) ends ∙ q) }
-
-string-end-requires : tie.Need-string-end-requires
-string-end-requires c κs = search needs
 
 returns-2 : tie.Need-returns-2
 returns-2 c =
@@ -33,9 +27,6 @@ returns-2 c =
     let q = end-at (separator 44 s (a .at)) j (c .before .before .before .comma-end .ensures) (c .before .before .if1 .left) in
     let h = end-broken (c .before .string-end .result) (omega arith) (string-in s j) (c .before .string-end .ensures) (c .if2 .taken) in
     record { some = λ n from f two ends. absurd (n refl); none = λ z from f two ends. k-no-third s from f two j (ap (separator 44 s) ends ∙ q) h }
-
-rest-end-requires : tie.Need-rest-end-requires
-rest-end-requires c κs = search needs
 
 returns-3 : tie.Need-returns-3
 unfolding entryPlaceOf
@@ -54,4 +45,5 @@ returns-3 c =
 pub k-rest-end-spec : {M : Type 1} → statement M
 k-rest-end-spec =
     tie.close
-    (tie.spec comma-end-requires returns string-end-requires returns-2 rest-end-requires returns-3)
+    (tie.spec
+    (λ c κs. search needs) returns (λ c κs. search needs) returns-2 (λ c κs. search needs) returns-3)

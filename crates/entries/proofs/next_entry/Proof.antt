@@ -13,12 +13,6 @@ use Rattle.entries.proofs.Decimals.{decimals-counted, decimals-past}
 use Rattle.entries.proofs.next_entry.Statement.{statement}
 use Rattle.entries.proofs.next_entry.Tie as tie
 
-two-amounts-requires : tie.Need-two-amounts-requires
-two-amounts-requires c κs = search needs
-
-entry-end-requires : tie.Need-entry-end-requires
-entry-end-requires c κs = search needs
-
 with-amounts-requires : tie.Need-with-amounts-requires
 with-amounts-requires c κs =
     let a = c .before .before .before .before .before .before .args in
@@ -39,12 +33,6 @@ returns c =
     let more = c .before .if2 .taken in
     c .with-amounts .ensures
     ∙ decimals-counted (entryFor (a .m)) (a .s .now) (a .at) (front .result) (front .ensures (λ z. omega arith)) (e .result) (e .ensures) (λ z. omega arith) (a .sum)
-
-entry-at-requires : tie.Need-entry-at-requires
-entry-at-requires c κs = search needs
-
-refused-requires : tie.Need-refused-requires
-refused-requires c κs = search needs
 
 returns-2 : tie.Need-returns-2
 returns-2 c =
@@ -72,12 +60,12 @@ pub next-entry-spec : {M : Type 1} → statement M
 next-entry-spec =
     tie.close
     (tie.spec
-    two-amounts-requires
-    entry-end-requires
+    (λ c κs. search needs)
+    (λ c κs. search needs)
     with-amounts-requires
     returns
-    entry-at-requires
-    refused-requires
+    (λ c κs. search needs)
+    (λ c κs. search needs)
     returns-2
     counted-requires
     returns-3)

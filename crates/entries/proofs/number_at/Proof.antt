@@ -7,15 +7,6 @@ use borrow.Author.Needs.{needs}
 use Rattle.entries.proofs.number_at.Statement.{statement}
 use Rattle.entries.proofs.number_at.Tie as tie
 
-parse-quoted-requires : tie.Need-parse-quoted-requires
-parse-quoted-requires c κs = search needs
-
-enum-known-d : tie.Need-enum-known-d
-enum-known-d c = search needs
-
-enum-told : tie.Need-enum-told
-enum-told c = search needs
-
 returns : tie.Need-returns
 returns c =
     let a = c .before .before .before .before .before .args in
@@ -28,4 +19,7 @@ returns-2 c =
     number-none (a .s .now) (record { from = a .from; to = a .to }) (sym (c .before .before .parse-quoted .ensures) ∙ ap parsed (c .enum-told .given .1))
 
 pub number-at-spec : {M : Type 1} → statement M
-number-at-spec = tie.close (tie.spec parse-quoted-requires enum-known-d enum-told returns returns-2)
+number-at-spec =
+    tie.close
+    (tie.spec
+    (λ c κs. search needs) (λ c. search needs) (λ c. search needs) returns returns-2)

@@ -7,14 +7,8 @@ use Rattle.entries.specs.Summary.{entryPlaceOf}
 use Rattle.entries.proofs.passed_over.Statement.{statement}
 use Rattle.entries.proofs.passed_over.Tie as tie
 
-value-end-requires : tie.Need-value-end-requires
-value-end-requires c κs = search needs
-
-no-entry-requires : tie.Need-no-entry-requires
-no-entry-requires c κs = search needs
-
 returns : tie.Need-returns
 returns c = c .no-entry .ensures ∙ ap (λ e. entryPlaceOf e refused) (c .before .value-end .ensures)
 
 pub passed-over-spec : {M : Type 1} → statement M
-passed-over-spec = tie.close (tie.spec value-end-requires no-entry-requires returns)
+passed-over-spec = tie.close (tie.spec (λ c κs. search needs) (λ c κs. search needs) returns)

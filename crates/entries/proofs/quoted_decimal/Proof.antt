@@ -10,12 +10,6 @@ use Prim.Native.Nat.{_+_}
 use Rattle.entries.proofs.quoted_decimal.Statement.{statement}
 use Rattle.entries.proofs.quoted_decimal.Tie as tie
 
-byte-at-requires : tie.Need-byte-at-requires
-byte-at-requires c κs = search needs
-
-no-decimal-requires : tie.Need-no-decimal-requires
-no-decimal-requires c κs = search needs
-
 returns : tie.Need-returns
 returns c = λ n. absurd (n (c .no-decimal .ensures))
 
@@ -24,18 +18,6 @@ add-parse-at c =
     let a = c .before .before .before .args in
     let l = in-byte (a .s .now) (a .at) 34 (omega arith) (sym (c .before .byte-at .ensures) ∙ c .if1 .left) in
     omega arith
-
-parse-at-requires : tie.Need-parse-at-requires
-parse-at-requires c κs = search needs
-
-enum-known-decimal : tie.Need-enum-known-decimal
-enum-known-decimal c = search needs
-
-byte-at-requires-2 : tie.Need-byte-at-requires-2
-byte-at-requires-2 c κs = search needs
-
-no-decimal-requires-2 : tie.Need-no-decimal-requires-2
-no-decimal-requires-2 c κs = search needs
 
 returns-2 : tie.Need-returns-2
 returns-2 c = λ n. absurd (n (c .no-decimal2 .ensures))
@@ -46,12 +28,6 @@ add-t12 c =
     let e = c .before .before .before .decimal .given .0 .1 .0 in
     let l = in-byte (a .s .now) e 34 (omega arith) (sym (c .before .byte-at2 .ensures) ∙ c .if2 .left) in
     omega arith
-
-enum-told : tie.Need-enum-told
-enum-told c = search needs
-
-no-decimal-requires-3 : tie.Need-no-decimal-requires-3
-no-decimal-requires-3 c κs = search needs
 
 returns-3 : tie.Need-returns-3
 returns-3 c =
@@ -68,17 +44,17 @@ pub quoted-decimal-spec : {M : Type 1} → statement M
 quoted-decimal-spec =
     tie.close
     (tie.spec
-    byte-at-requires
-    no-decimal-requires
+    (λ c κs. search needs)
+    (λ c κs. search needs)
     returns
     add-parse-at
-    parse-at-requires
-    enum-known-decimal
-    byte-at-requires-2
-    no-decimal-requires-2
+    (λ c κs. search needs)
+    (λ c. search needs)
+    (λ c κs. search needs)
+    (λ c κs. search needs)
     returns-2
     add-t12
-    enum-told
-    no-decimal-requires-3
+    (λ c. search needs)
+    (λ c κs. search needs)
     returns-3
     returns-4)

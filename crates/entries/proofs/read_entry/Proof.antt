@@ -7,12 +7,6 @@ use borrow.Author.Needs.{needs}
 use Rattle.entries.proofs.read_entry.Statement.{statement}
 use Rattle.entries.proofs.read_entry.Tie as tie
 
-two-amounts-requires : tie.Need-two-amounts-requires
-two-amounts-requires c κs = search needs
-
-entry-end-requires : tie.Need-entry-end-requires
-entry-end-requires c κs = search needs
-
 returns : tie.Need-returns
 returns c =
     let a = c .before .before .before .before .before .before .before .before .args in
@@ -22,11 +16,8 @@ returns c =
     let more = c .before .before .if2 .taken in
     entry-numbers (a .m) (a .s .now) (a .at) (front .result) (front .ensures (λ z. omega arith)) (e .result) (e .ensures) (λ z. omega arith)
 
-any-entry-requires : tie.Need-any-entry-requires
-any-entry-requires c κs = search needs
-
-returns-2 : tie.Need-returns-2
-returns-2 c = search needs
-
 pub read-entry-spec : {M : Type 1} → statement M
-read-entry-spec = tie.close (tie.spec two-amounts-requires entry-end-requires returns any-entry-requires returns-2)
+read-entry-spec =
+    tie.close
+    (tie.spec
+    (λ c κs. search needs) (λ c κs. search needs) returns (λ c κs. search needs) (λ c. search needs))

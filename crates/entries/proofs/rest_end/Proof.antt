@@ -29,12 +29,6 @@ loop-holds : tie.Need-loop-holds Inv-loop μ-loop
 unfolding list
 loop-holds c n l = record { left = n; enough = l; makes = refl }
 
-comma-end-requires : tie.Need-comma-end-requires Inv-loop μ-loop
-comma-end-requires c κs = search needs
-
-array-close-end-requires : tie.Need-array-close-end-requires Inv-loop μ-loop
-array-close-end-requires c κs = search needs
-
 returns : tie.Need-returns Inv-loop μ-loop
 returns c n l =
     let a = c .before .before .before .before .before .args in
@@ -44,9 +38,6 @@ returns c n l =
     let j = c .before .before .comma-end .result in
     let y = end-broken j (omega arith) (separator-in s 44 i (omega arith)) (c .before .before .comma-end .ensures) (c .before .if1 .taken) in
     rest-close s i _ (w n l) y (c .array-close-end .result) (c .array-close-end .ensures)
-
-value-end-requires : tie.Need-value-end-requires Inv-loop μ-loop
-value-end-requires c κs = search needs
 
 returns-2 : tie.Need-returns-2 Inv-loop μ-loop
 returns-2 c n l =
@@ -86,4 +77,8 @@ loop-again c n l =
     rest-on s i _ (w n l) j q e v
 
 pub rest-end-spec : {M : Type 1} → statement M
-rest-end-spec = tie.close (tie.spec Inv-loop μ-loop loop-holds comma-end-requires array-close-end-requires returns value-end-requires returns-2 loop-less loop-again)
+rest-end-spec =
+    tie.close
+    (tie.spec
+    Inv-loop μ-loop loop-holds (λ c κs. search needs) (λ c κs. search needs) returns (λ c κs. search needs) returns-2
+    loop-less loop-again)

@@ -9,12 +9,6 @@ use Rattle.entries.proofs.Decimals.{two-decimals}
 use Rattle.entries.proofs.two_amounts.Statement.{statement}
 use Rattle.entries.proofs.two_amounts.Tie as tie
 
-byte-at-requires : tie.Need-byte-at-requires
-byte-at-requires c κs = search needs
-
-no-amounts-requires : tie.Need-no-amounts-requires
-no-amounts-requires c κs = search needs
-
 returns : tie.Need-returns
 returns c = λ n. absurd (n (c .no-amounts .ensures))
 
@@ -24,29 +18,11 @@ add-skip-blanks c =
     let l = in-byte (a .s .now) (a .at) 91 (omega arith) (sym (c .before .byte-at .ensures) ∙ c .if1 .left) in
     omega arith
 
-skip-blanks-requires : tie.Need-skip-blanks-requires
-skip-blanks-requires c κs = search needs
-
-quoted-decimal-requires : tie.Need-quoted-decimal-requires
-quoted-decimal-requires c κs = search needs
-
-no-amounts-requires-2 : tie.Need-no-amounts-requires-2
-no-amounts-requires-2 c κs = search needs
-
 returns-2 : tie.Need-returns-2
 returns-2 c = λ n. absurd (n (c .no-amounts2 .ensures))
 
-comma-end-requires : tie.Need-comma-end-requires
-comma-end-requires c κs = search needs
-
-no-amounts-requires-3 : tie.Need-no-amounts-requires-3
-no-amounts-requires-3 c κs = search needs
-
 returns-3 : tie.Need-returns-3
 returns-3 c = λ n. absurd (n (c .no-amounts3 .ensures))
-
-quoted-decimal-requires-2 : tie.Need-quoted-decimal-requires-2
-quoted-decimal-requires-2 c κs = search needs
 
 returns-4 : tie.Need-returns-4
 returns-4 c =
@@ -63,16 +39,16 @@ pub two-amounts-spec : {M : Type 1} → statement M
 two-amounts-spec =
     tie.close
     (tie.spec
-    byte-at-requires
-    no-amounts-requires
+    (λ c κs. search needs)
+    (λ c κs. search needs)
     returns
     add-skip-blanks
-    skip-blanks-requires
-    quoted-decimal-requires
-    no-amounts-requires-2
+    (λ c κs. search needs)
+    (λ c κs. search needs)
+    (λ c κs. search needs)
     returns-2
-    comma-end-requires
-    no-amounts-requires-3
+    (λ c κs. search needs)
+    (λ c κs. search needs)
     returns-3
-    quoted-decimal-requires-2
+    (λ c κs. search needs)
     returns-4)

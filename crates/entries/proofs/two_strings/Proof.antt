@@ -12,12 +12,6 @@ use Rattle.entries.proofs.Entry.{front-none, neither-array, neither-com
 use Rattle.entries.proofs.two_strings.Statement.{statement}
 use Rattle.entries.proofs.two_strings.Tie as tie
 
-byte-at-requires : tie.Need-byte-at-requires
-byte-at-requires c κs = search needs
-
-no-entry-requires : tie.Need-no-entry-requires
-no-entry-requires c κs = search needs
-
 returns : tie.Need-returns
 returns c =
     let a = c .before .before .before .before .args in
@@ -31,15 +25,6 @@ add-skip-blanks c =
     let l = in-byte s (a .at) 91 (omega arith) (sym (c .before .byte-at .ensures) ∙ c .if1 .left) in
     omega arith
 
-skip-blanks-requires : tie.Need-skip-blanks-requires
-skip-blanks-requires c κs = search needs
-
-string-end-requires : tie.Need-string-end-requires
-string-end-requires c κs = search needs
-
-no-entry-requires-2 : tie.Need-no-entry-requires-2
-no-entry-requires-2 c κs = search needs
-
 returns-2 : tie.Need-returns-2
 returns-2 c =
     let a = c .before .before .before .before .before .before .before .args in
@@ -50,12 +35,6 @@ returns-2 c =
     let q = c .before .before .string-end .result in
     let y = end-broken q (omega arith) (string-in s p) (c .before .before .string-end .ensures) (c .before .if2 .taken) in
     front-none s (a .at) _ (c .no-entry2 .ensures) (neither-first s (a .at) opens (ap (string s) (sym b) ∙ y))
-
-comma-end-requires : tie.Need-comma-end-requires
-comma-end-requires c κs = search needs
-
-no-entry-requires-3 : tie.Need-no-entry-requires-3
-no-entry-requires-3 c κs = search needs
 
 returns-3 : tie.Need-returns-3
 returns-3 c =
@@ -69,12 +48,6 @@ returns-3 c =
     let z = c .before .before .comma-end .result in
     let y = end-broken z (omega arith) (separator-in s 44 q (omega arith)) (c .before .before .comma-end .ensures) (c .before .if3 .taken) in
     front-none s (a .at) _ (c .no-entry3 .ensures) (neither-comma s (a .at) opens p q b h y)
-
-string-end-requires-2 : tie.Need-string-end-requires-2
-string-end-requires-2 c κs = search needs
-
-no-entry-requires-4 : tie.Need-no-entry-requires-4
-no-entry-requires-4 c κs = search needs
 
 returns-4 : tie.Need-returns-4
 returns-4 c =
@@ -107,4 +80,9 @@ returns-5 c =
     record { two = λ t. record { opens = opens; begins = b; price = h; comma = g; size = y; ends = refl }; neither = λ t. absurd (true≢false t) }
 
 pub two-strings-spec : {M : Type 1} → statement M
-two-strings-spec = tie.close (tie.spec byte-at-requires no-entry-requires returns add-skip-blanks skip-blanks-requires string-end-requires no-entry-requires-2 returns-2 comma-end-requires no-entry-requires-3 returns-3 string-end-requires-2 no-entry-requires-4 returns-4 returns-5)
+two-strings-spec =
+    tie.close
+    (tie.spec
+    (λ c κs. search needs) (λ c κs. search needs) returns add-skip-blanks (λ c κs. search needs) (λ c κs. search needs)
+    (λ c κs. search needs) returns-2 (λ c κs. search needs) (λ c κs. search needs) returns-3 (λ c κs. search needs)
+    (λ c κs. search needs) returns-4 returns-5)

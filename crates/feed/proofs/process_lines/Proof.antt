@@ -49,9 +49,6 @@ fits c =
 
 -- ---- needs
 
-header-requires : tie.Need-header-requires Inv-loop μ-loop
-header-requires c κs = search needs
-
 loop-holds : tie.Need-loop-holds Inv-loop μ-loop
 loop-holds c =
     let s = c .before .before .before .before .before .before in
@@ -64,35 +61,14 @@ sub-loop c = c .loop .inv .room
 find-requires : tie.Need-find-requires Inv-loop μ-loop
 find-requires c κs = c .before .loop .inv .within
 
-join-requires : tie.Need-join-requires Inv-loop μ-loop
-join-requires c κs = search needs
-
-same-length : tie.Need-same-length Inv-loop μ-loop
-same-length c = search needs
-
 returns : tie.Need-returns Inv-loop μ-loop
 returns c =
     let b = c .before .before .before .before .before .before .before .before .before .before .before .args .book in
     heard-as (ap (λ (h : Header). shows (bookOf (b .bids .words) (b .asks .words) h)) (c .before .before .before .before .before .header .ensures)) (c .join .ensures)
     (ended-lines (c .before .before .before .before .loop .inv) (c .before .before .find .ensures .2) (c .before .if1 .taken))
 
-sub-take : tie.Need-sub-take Inv-loop μ-loop
-sub-take c = search needs
-
-part-take-start : tie.Need-part-take-start Inv-loop μ-loop
-part-take-start c = search needs
-
-part-take-end : tie.Need-part-take-end Inv-loop μ-loop
-part-take-end c = search needs
-
 take-requires : tie.Need-take-requires Inv-loop μ-loop
 take-requires c κs = (c .before .before .before .before .before .before .loop .inv .good, c .before .before .before .before .before .before .before .before .before .before .before .before .before .pre .1)
-
-counts-requires : tie.Need-counts-requires Inv-loop μ-loop
-counts-requires c κs = search needs
-
-number-of-requires : tie.Need-number-of-requires Inv-loop μ-loop
-number-of-requires c κs = search needs
 
 write-reply-requires : tie.Need-write-reply-requires Inv-loop μ-loop
 write-reply-requires c κs = fits (c .before)
@@ -109,12 +85,6 @@ loop-again c =
     let find = c .before .before .before .before .before .before .before .before .before .before .before .before .find in
     went-on (c .before .before .before .before .before .before .before .before .before .before .before .before .before .before .loop .inv) (find .ensures .2) (c .before .before .before .before .before .before .before .before .before .before .before .if1 .left) (c .before .before .before .before .before .before .before .before .before .before .before .before .before .loop-test .taken) (c .before .before .before .before .before .before .before .take .ensures .good) (c .before .before .before .before .before .before .before .take .ensures .same) (reply n) (fits n) (c .before .before .write-reply .ensures)
 
-join-requires-2 : tie.Need-join-requires-2 Inv-loop μ-loop
-join-requires-2 c κs = search needs
-
-same-length-2 : tie.Need-same-length-2 Inv-loop μ-loop
-same-length-2 c = search needs
-
 returns-2 : tie.Need-returns-2 Inv-loop μ-loop
 returns-2 c =
     let b = c .before .before .before .before .before .before .before .before .before .args .book in
@@ -127,23 +97,23 @@ process-lines-spec =
     (tie.spec
     Inv-loop
     μ-loop
-    header-requires
+    (λ c κs. search needs)
     loop-holds
     sub-loop
     find-requires
-    join-requires
-    same-length
+    (λ c κs. search needs)
+    (λ c. search needs)
     returns
-    sub-take
-    part-take-start
-    part-take-end
+    (λ c. search needs)
+    (λ c. search needs)
+    (λ c. search needs)
     take-requires
-    counts-requires
-    number-of-requires
+    (λ c κs. search needs)
+    (λ c κs. search needs)
     write-reply-requires
     add-next
     loop-less
     loop-again
-    join-requires-2
-    same-length-2
+    (λ c κs. search needs)
+    (λ c. search needs)
     returns-2)

@@ -18,25 +18,16 @@ Inv-loop s m snapshot at₀ at = Seeking (entryFor m) s snapshot at
 abbrev μ-loop : tie.MeasureT-loop
 μ-loop s m snapshot at₀ at = remaining (length s) at
 
-first-at-requires : tie.Need-first-at-requires Inv-loop μ-loop
-first-at-requires c κs = search needs
-
 loop-holds : tie.Need-loop-holds Inv-loop μ-loop
 loop-holds c =
     let a = c .before .before .args in
     seeking-start (entryFor (a .m)) (a .s .now) (a .snapshot) (c .first-at .result) (c .first-at .ensures) (c .before .before .pre)
-
-entry-at-requires : tie.Need-entry-at-requires Inv-loop μ-loop
-entry-at-requires c κs = search needs
 
 parse-quoted-requires : tie.Need-parse-quoted-requires Inv-loop μ-loop
 parse-quoted-requires c κs =
     let a = c .before .before .before .before .before .args in
     let s = a .s .now in
     seeking-placed (entryFor (a .m)) s (a .snapshot) (c .before .before .loop .inv) (c .before .loop-test .taken) (c .entry-at .result) (c .entry-at .ensures) (sound-for (a .m) s) .0
-
-is-bad-price-requires : tie.Need-is-bad-price-requires Inv-loop μ-loop
-is-bad-price-requires c κs = search needs
 
 returns : tie.Need-returns Inv-loop μ-loop
 returns c =
@@ -58,9 +49,6 @@ parse-quoted-requires-2 c κs =
     let s = a .s .now in
     seeking-placed (entryFor (a .m)) s (a .snapshot) (c .before .before .before .before .before .loop .inv) (c .before .before .before .before .loop-test .taken) (c .before .before .before .entry-at .result) (c .before .before .before .entry-at .ensures) (sound-for (a .m) s) .1
 
-is-bad-size-requires : tie.Need-is-bad-size-requires Inv-loop μ-loop
-is-bad-size-requires c κs = search needs
-
 returns-2 : tie.Need-returns-2 Inv-loop μ-loop
 returns-2 c =
     let a = c .before .before .before .before .before .before .before .before .before .before .before .args in
@@ -76,9 +64,6 @@ returns-2 c =
       order = omega arith;
       inside = q .1;
     }
-
-comma-end-requires : tie.Need-comma-end-requires Inv-loop μ-loop
-comma-end-requires c κs = search needs
 
 loop-less : tie.Need-loop-less Inv-loop μ-loop
 loop-less c =
@@ -112,16 +97,16 @@ first-bad-spec =
     (tie.spec
     Inv-loop
     μ-loop
-    first-at-requires
+    (λ c κs. search needs)
     loop-holds
-    entry-at-requires
+    (λ c κs. search needs)
     parse-quoted-requires
-    is-bad-price-requires
+    (λ c κs. search needs)
     returns
     parse-quoted-requires-2
-    is-bad-size-requires
+    (λ c κs. search needs)
     returns-2
-    comma-end-requires
+    (λ c κs. search needs)
     loop-less
     loop-again
     returns-3)

@@ -21,21 +21,12 @@ loop-holds : tie.Need-loop-holds Inv-loop μ-loop
 unfolding hasBackslash part
 loop-holds c = refl
 
-byte-at-requires : tie.Need-byte-at-requires Inv-loop μ-loop
-byte-at-requires c κs = search needs
-
 returns : tie.Need-returns Inv-loop μ-loop
 returns c =
     let a = c .before .before .before .before .before .args in
     let s = now (a .s) in
     let i = c .before .before .before .loop .i in
     sym (holds-here s (a .to) i 92 (omega arith) (c .before .before .loop-test .taken) (sym (c .before .byte-at .ensures) ∙ c .if1 .taken)) ∙ c .before .before .before .loop .inv
-
-add-i : tie.Need-add-i Inv-loop μ-loop
-add-i c = omega arith
-
-loop-less : tie.Need-loop-less Inv-loop μ-loop
-loop-less c = omega arith
 
 loop-again : tie.Need-loop-again Inv-loop μ-loop
 loop-again c =
@@ -58,9 +49,9 @@ has-backslash-spec =
     Inv-loop
     μ-loop
     loop-holds
-    byte-at-requires
+    (λ c κs. search needs)
     returns
-    add-i
-    loop-less
+    (λ c. omega arith)
+    (λ c. omega arith)
     loop-again
     returns-2)

@@ -12,20 +12,11 @@ use Rattle.json.proofs.Names.{means-elsewhere, means-longer, means-no-q
 use Rattle.json.proofs.is_name.Statement.{statement}
 use Rattle.json.proofs.is_name.Tie as tie
 
-byte-at-requires : tie.Need-byte-at-requires
-byte-at-requires c κs = search needs
-
 add-word-end : tie.Need-add-word-end
 add-word-end c =
     let a = c .before .before .before .before .args in
     let s = now (a .s) in
     omega (arith, in-byte s (a .from) 34 (omega arith) (sym (c .before .byte-at .ensures) ∙ c .if1 .taken))
-
-word-end-requires : tie.Need-word-end-requires
-word-end-requires c κs = search needs
-
-byte-at-requires-2 : tie.Need-byte-at-requires-2
-byte-at-requires-2 c κs = search needs
 
 add-if4 : tie.Need-add-if4
 add-if4 c =
@@ -86,10 +77,10 @@ pub is-name-spec : {M : Type 1} → statement M
 is-name-spec =
     tie.close
     (tie.spec
-    byte-at-requires
+    (λ c κs. search needs)
     add-word-end
-    word-end-requires
-    byte-at-requires-2
+    (λ c κs. search needs)
+    (λ c κs. search needs)
     add-if4
     returns
     returns-2

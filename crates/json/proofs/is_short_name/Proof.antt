@@ -13,20 +13,11 @@ use Rattle.json.specs.Ends.{spelled}
 use Rattle.json.proofs.is_short_name.Statement.{statement}
 use Rattle.json.proofs.is_short_name.Tie as tie
 
-byte-at-requires : tie.Need-byte-at-requires
-byte-at-requires c κs = search needs
-
 add-short-name-end : tie.Need-add-short-name-end
 add-short-name-end c =
     let a = c .before .before .before .args in
     let s = now (a .s) in
     omega (arith, in-byte s (a .from) 34 (omega arith) (sym (c .before .byte-at .ensures) ∙ c .if1 .taken))
-
-short-name-end-requires : tie.Need-short-name-end-requires
-short-name-end-requires c κs = search needs
-
-byte-at-requires-2 : tie.Need-byte-at-requires-2
-byte-at-requires-2 c κs = search needs
 
 add-if4 : tie.Need-add-if4
 add-if4 c =
@@ -87,10 +78,10 @@ pub is-short-name-spec : {M : Type 1} → statement M
 is-short-name-spec =
     tie.close
     (tie.spec
-    byte-at-requires
+    (λ c κs. search needs)
     add-short-name-end
-    short-name-end-requires
-    byte-at-requires-2
+    (λ c κs. search needs)
+    (λ c κs. search needs)
     add-if4
     returns
     returns-2

@@ -29,12 +29,6 @@ returns c =
     let n = c .before .before .loop .left in
     end-none (sym (c .before .before .loop .inv) ∙ spelled-past s n w i (c .before .loop-test .taken) (c .if1 .taken))
 
-shared-slice-read-if2 : tie.Need-shared-slice-read-if2 Inv-loop μ-loop
-shared-slice-read-if2 c = omega arith
-
-cast-if2 : tie.Need-cast-if2 Inv-loop μ-loop
-cast-if2 c = search needs
-
 returns-2 : tie.Need-returns-2 Inv-loop μ-loop
 returns-2 c =
     let s = now (c .before .before .before .before .before .args .s) in
@@ -42,15 +36,6 @@ returns-2 c =
     let w = c .before .before .before .before .loop .rest in
     let n = c .before .before .before .before .loop .left in
     end-none (sym (c .before .before .before .before .loop .inv) ∙ spelled-off s n w i (c .before .before .before .loop-test .taken) (omega arith) (c .if2 .taken))
-
-add-i : tie.Need-add-i Inv-loop μ-loop
-add-i c = omega arith
-
-sub-left : tie.Need-sub-left Inv-loop μ-loop
-sub-left c = omega arith
-
-loop-less : tie.Need-loop-less Inv-loop μ-loop
-loop-less c = omega arith
 
 loop-again : tie.Need-loop-again Inv-loop μ-loop
 loop-again c =
@@ -76,11 +61,11 @@ short-name-end-spec =
     μ-loop
     loop-holds
     returns
-    shared-slice-read-if2
-    cast-if2
+    (λ c. omega arith)
+    (λ c. search needs)
     returns-2
-    add-i
-    sub-left
-    loop-less
+    (λ c. omega arith)
+    (λ c. omega arith)
+    (λ c. omega arith)
     loop-again
     returns-3)

@@ -13,12 +13,6 @@ use Rattle.json_tokens.specs.Ends.{unescaped}
 use Rattle.json_tokens.proofs.char_end.Statement.{statement}
 use Rattle.json_tokens.proofs.char_end.Tie as tie
 
-byte-at-requires : tie.Need-byte-at-requires
-byte-at-requires c κs = search needs
-
-is-unescaped-requires : tie.Need-is-unescaped-requires
-is-unescaped-requires c κs = search needs
-
 add-result : tie.Need-add-result
 add-result c =
     let a = c .before .before .before .before .args in
@@ -53,9 +47,6 @@ add-byte-at c =
     let i = a .i in
     omega (arith, in-byte s i 92 (omega arith) (sym (c .before .before .before .byte-at .ensures) ∙ c .if2 .left))
 
-byte-at-requires-2 : tie.Need-byte-at-requires-2
-byte-at-requires-2 c κs = search needs
-
 add-is-four-hex : tie.Need-add-is-four-hex
 add-is-four-hex c =
     let a = c .before .before .before .before .before .before .before .args in
@@ -63,18 +54,12 @@ add-is-four-hex c =
     let i = a .i in
     omega (arith, in-byte s (i + 1) 117 (omega arith) (sym (c .before .byte-at2 .ensures) ∙ c .if3 .taken))
 
-is-four-hex-requires : tie.Need-is-four-hex-requires
-is-four-hex-requires c κs = search needs
-
 add-result-2 : tie.Need-add-result-2
 add-result-2 c =
     let a = c .before .before .before .before .before .before .before .before .before .args in
     let s = now (a .s) in
     let i = a .i in
     omega (arith, in-four-hex s (i + 2) (sym (c .before .is-four-hex .ensures) ∙ c .if4 .taken))
-
-is-escaped-requires : tie.Need-is-escaped-requires
-is-escaped-requires c κs = search needs
 
 add-result-3 : tie.Need-add-result-3
 add-result-3 c =
@@ -129,17 +114,17 @@ pub char-end-spec : {M : Type 1} → statement M
 char-end-spec =
     tie.close
     (tie.spec
-    byte-at-requires
-    is-unescaped-requires
+    (λ c κs. search needs)
+    (λ c κs. search needs)
     add-result
     returns
     returns-2
     add-byte-at
-    byte-at-requires-2
+    (λ c κs. search needs)
     add-is-four-hex
-    is-four-hex-requires
+    (λ c κs. search needs)
     add-result-2
-    is-escaped-requires
+    (λ c κs. search needs)
     add-result-3
     returns-3
     returns-4

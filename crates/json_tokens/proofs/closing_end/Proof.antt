@@ -10,12 +10,6 @@ use Rattle.text.specs.Text.{byteAt}
 use Rattle.json_tokens.proofs.closing_end.Statement.{statement}
 use Rattle.json_tokens.proofs.closing_end.Tie as tie
 
-skip-blanks-requires : tie.Need-skip-blanks-requires
-skip-blanks-requires c κs = search needs
-
-byte-at-requires : tie.Need-byte-at-requires
-byte-at-requires c κs = search needs
-
 add-result : tie.Need-add-result
 add-result c =
     let a = c .before .before .before .before .args in
@@ -39,4 +33,6 @@ returns-2 c =
 
 pub closing-end-spec : {M : Type 1} → statement M
 closing-end-spec =
-    tie.close (tie.spec skip-blanks-requires byte-at-requires add-result returns returns-2)
+    tie.close
+    (tie.spec
+    (λ c κs. search needs) (λ c κs. search needs) add-result returns returns-2)

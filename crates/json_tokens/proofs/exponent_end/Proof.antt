@@ -10,9 +10,6 @@ use Rattle.json_tokens.specs.Ends.{endOf}
 use Rattle.json_tokens.proofs.exponent_end.Statement.{statement}
 use Rattle.json_tokens.proofs.exponent_end.Tie as tie
 
-byte-at-requires : tie.Need-byte-at-requires
-byte-at-requires c κs = search needs
-
 add-skip-sign : tie.Need-add-skip-sign
 add-skip-sign c =
     let a = c .before .before .before .args in
@@ -20,24 +17,12 @@ add-skip-sign c =
     let i = a .at in
     omega (arith, in-byte s i 101 (omega arith) (sym (c .before .byte-at .ensures) ∙ c .if1 .taken))
 
-skip-sign-requires : tie.Need-skip-sign-requires
-skip-sign-requires c κs = search needs
-
-some-digits-end-requires : tie.Need-some-digits-end-requires
-some-digits-end-requires c κs = search needs
-
 add-skip-sign-2 : tie.Need-add-skip-sign-2
 add-skip-sign-2 c =
     let a = c .before .before .before .before .args in
     let s = now (a .s) in
     let i = a .at in
     omega (arith, in-byte s i 69 (omega arith) (sym (c .before .before .byte-at .ensures) ∙ c .if2 .taken))
-
-skip-sign-requires-2 : tie.Need-skip-sign-requires-2
-skip-sign-requires-2 c κs = search needs
-
-some-digits-end-requires-2 : tie.Need-some-digits-end-requires-2
-some-digits-end-requires-2 c κs = search needs
 
 returns : tie.Need-returns
 returns c =
@@ -64,13 +49,13 @@ pub exponent-end-spec : {M : Type 1} → statement M
 exponent-end-spec =
     tie.close
     (tie.spec
-    byte-at-requires
+    (λ c κs. search needs)
     add-skip-sign
-    skip-sign-requires
-    some-digits-end-requires
+    (λ c κs. search needs)
+    (λ c κs. search needs)
     add-skip-sign-2
-    skip-sign-requires-2
-    some-digits-end-requires-2
+    (λ c κs. search needs)
+    (λ c κs. search needs)
     returns
     returns-2
     returns-3)

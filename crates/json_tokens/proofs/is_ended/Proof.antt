@@ -8,9 +8,6 @@ use Rattle.json_tokens.specs.Tokens.{ended}
 use Rattle.json_tokens.proofs.is_ended.Statement.{statement}
 use Rattle.json_tokens.proofs.is_ended.Tie as tie
 
-skip-blanks-requires : tie.Need-skip-blanks-requires
-skip-blanks-requires c κs = search needs
-
 returns : tie.Need-returns
 unfolding ended
 returns c =
@@ -28,4 +25,4 @@ returns-2 c =
     sym (ne-eqb _ _ (λ e. c .if1 .left (c .before .skip-blanks .ensures ∙ e)))
 
 pub is-ended-spec : {M : Type 1} → statement M
-is-ended-spec = tie.close (tie.spec skip-blanks-requires returns returns-2)
+is-ended-spec = tie.close (tie.spec (λ c κs. search needs) returns returns-2)

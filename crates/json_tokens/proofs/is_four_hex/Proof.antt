@@ -11,44 +11,20 @@ use Rattle.json_tokens.specs.Ends.{fourHex}
 use Rattle.json_tokens.proofs.is_four_hex.Statement.{statement}
 use Rattle.json_tokens.proofs.is_four_hex.Tie as tie
 
-byte-at-requires : tie.Need-byte-at-requires
-byte-at-requires c κs = search needs
-
-is-hex-requires : tie.Need-is-hex-requires
-is-hex-requires c κs = search needs
-
 add-byte-at : tie.Need-add-byte-at
 add-byte-at c =
     let a = c .before .before .before .before .args in
     omega (arith, in-hex (now (a .s)) (a .i) (ap hexDigit (sym (c .before .before .byte-at .ensures)) ∙ sym (c .before .is-hex .ensures) ∙ c .if1 .taken))
-
-byte-at-requires-2 : tie.Need-byte-at-requires-2
-byte-at-requires-2 c κs = search needs
-
-is-hex-requires-2 : tie.Need-is-hex-requires-2
-is-hex-requires-2 c κs = search needs
 
 add-byte-at-2 : tie.Need-add-byte-at-2
 add-byte-at-2 c =
     let a = c .before .before .before .before .before .before .before .args in
     omega (arith, in-hex (now (a .s)) (a .i + 1) (ap hexDigit (sym (c .before .before .byte-at2 .ensures)) ∙ sym (c .before .is-hex2 .ensures) ∙ c .if2 .taken))
 
-byte-at-requires-3 : tie.Need-byte-at-requires-3
-byte-at-requires-3 c κs = search needs
-
-is-hex-requires-3 : tie.Need-is-hex-requires-3
-is-hex-requires-3 c κs = search needs
-
 add-byte-at-3 : tie.Need-add-byte-at-3
 add-byte-at-3 c =
     let a = c .before .before .before .before .before .before .before .before .before .before .args in
     omega (arith, in-hex (now (a .s)) (a .i + 2) (ap hexDigit (sym (c .before .before .byte-at3 .ensures)) ∙ sym (c .before .is-hex3 .ensures) ∙ c .if3 .taken))
-
-byte-at-requires-4 : tie.Need-byte-at-requires-4
-byte-at-requires-4 c κs = search needs
-
-is-hex-requires-4 : tie.Need-is-hex-requires-4
-is-hex-requires-4 c κs = search needs
 
 returns : tie.Need-returns
 unfolding fourHex
@@ -70,17 +46,17 @@ pub is-four-hex-spec : {M : Type 1} → statement M
 is-four-hex-spec =
     tie.close
     (tie.spec
-    byte-at-requires
-    is-hex-requires
+    (λ c κs. search needs)
+    (λ c κs. search needs)
     add-byte-at
-    byte-at-requires-2
-    is-hex-requires-2
+    (λ c κs. search needs)
+    (λ c κs. search needs)
     add-byte-at-2
-    byte-at-requires-3
-    is-hex-requires-3
+    (λ c κs. search needs)
+    (λ c κs. search needs)
     add-byte-at-3
-    byte-at-requires-4
-    is-hex-requires-4
+    (λ c κs. search needs)
+    (λ c κs. search needs)
     returns
     returns-2
     returns-3

@@ -11,12 +11,6 @@ use Rattle.json_tokens.specs.Ends.{endOf}
 use Rattle.json_tokens.proofs.number_end.Statement.{statement}
 use Rattle.json_tokens.proofs.number_end.Tie as tie
 
-skip-minus-requires : tie.Need-skip-minus-requires
-skip-minus-requires c κs = search needs
-
-int-end-requires : tie.Need-int-end-requires
-int-end-requires c κs = search needs
-
 returns : tie.Need-returns
 returns c =
     let a = c .before .before .before .before .args in
@@ -25,9 +19,6 @@ returns c =
     let j = c .before .int-end .result in
     let h : j ≡ endOf (int s (minus s i)) = c .before .int-end .ensures ∙ ap (λ n. endOf (int s n)) (c .before .before .skip-minus .ensures) in
     end-none (number-no-int s i (end-broken j (omega arith) (int-minus-in s i) h (c .if1 .taken)))
-
-fraction-end-requires : tie.Need-fraction-end-requires
-fraction-end-requires c κs = search needs
 
 returns-2 : tie.Need-returns-2
 returns-2 c =
@@ -40,9 +31,6 @@ returns-2 c =
     let b = bounds j (int-minus-in s i) p in
     let k = c .before .fraction-end .result in
     end-none (number-no-fraction s i j p (end-broken k (omega arith) (fraction-in s j (b .1)) (c .before .fraction-end .ensures) (c .if2 .taken)))
-
-exponent-end-requires : tie.Need-exponent-end-requires
-exponent-end-requires c κs = search needs
 
 returns-3 : tie.Need-returns-3
 returns-3 c =
@@ -60,10 +48,10 @@ pub number-end-spec : {M : Type 1} → statement M
 number-end-spec =
     tie.close
     (tie.spec
-    skip-minus-requires
-    int-end-requires
+    (λ c κs. search needs)
+    (λ c κs. search needs)
     returns
-    fraction-end-requires
+    (λ c κs. search needs)
     returns-2
-    exponent-end-requires
+    (λ c κs. search needs)
     returns-3)

@@ -8,33 +8,6 @@ use Rattle.json_tokens.specs.Ends.{endOf}
 use Rattle.json_tokens.proofs.scalar_end.Statement.{statement}
 use Rattle.json_tokens.proofs.scalar_end.Tie as tie
 
-byte-at-requires : tie.Need-byte-at-requires
-byte-at-requires c κs = search needs
-
-string-end-requires : tie.Need-string-end-requires
-string-end-requires c κs = search needs
-
-slice-aggregate-word-end : tie.Need-slice-aggregate-word-end
-slice-aggregate-word-end c = search needs
-
-word-end-requires : tie.Need-word-end-requires
-word-end-requires c κs = search needs
-
-slice-aggregate-word-end-2 : tie.Need-slice-aggregate-word-end-2
-slice-aggregate-word-end-2 c = search needs
-
-word-end-requires-2 : tie.Need-word-end-requires-2
-word-end-requires-2 c κs = search needs
-
-slice-aggregate-word-end-3 : tie.Need-slice-aggregate-word-end-3
-slice-aggregate-word-end-3 c = search needs
-
-word-end-requires-3 : tie.Need-word-end-requires-3
-word-end-requires-3 c κs = search needs
-
-number-end-requires : tie.Need-number-end-requires
-number-end-requires c κs = search needs
-
 returns : tie.Need-returns
 returns c =
     let a = c .before .before .before .before .args in
@@ -74,15 +47,15 @@ pub scalar-end-spec : {M : Type 1} → statement M
 scalar-end-spec =
     tie.close
     (tie.spec
-    byte-at-requires
-    string-end-requires
-    slice-aggregate-word-end
-    word-end-requires
-    slice-aggregate-word-end-2
-    word-end-requires-2
-    slice-aggregate-word-end-3
-    word-end-requires-3
-    number-end-requires
+    (λ c κs. search needs)
+    (λ c κs. search needs)
+    (λ c. search needs)
+    (λ c κs. search needs)
+    (λ c. search needs)
+    (λ c κs. search needs)
+    (λ c. search needs)
+    (λ c κs. search needs)
+    (λ c κs. search needs)
     returns
     returns-2
     returns-3

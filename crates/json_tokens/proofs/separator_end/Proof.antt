@@ -11,21 +11,12 @@ use Rattle.json_tokens.specs.Tokens.{blanks}
 use Rattle.json_tokens.proofs.separator_end.Statement.{statement}
 use Rattle.json_tokens.proofs.separator_end.Tie as tie
 
-skip-blanks-requires : tie.Need-skip-blanks-requires
-skip-blanks-requires c κs = search needs
-
-byte-at-requires : tie.Need-byte-at-requires
-byte-at-requires c κs = search needs
-
 add-skip-blanks : tie.Need-add-skip-blanks
 add-skip-blanks c =
     let a = c .before .before .before .before .args in
     let s = now (a .s) in
     let i = a .at in
     omega (arith, in-byte s (c .before .before .skip-blanks .result) (a .byte) (c .before .before .before .before .pre) (sym (c .before .byte-at .ensures) ∙ c .if1 .taken))
-
-skip-blanks-requires-2 : tie.Need-skip-blanks-requires-2
-skip-blanks-requires-2 c κs = search needs
 
 returns : tie.Need-returns
 returns c =
@@ -45,9 +36,9 @@ pub separator-end-spec : {M : Type 1} → statement M
 separator-end-spec =
     tie.close
     (tie.spec
-    skip-blanks-requires
-    byte-at-requires
+    (λ c κs. search needs)
+    (λ c κs. search needs)
     add-skip-blanks
-    skip-blanks-requires-2
+    (λ c κs. search needs)
     returns
     returns-2)

@@ -21,12 +21,6 @@ abbrev μ-loop : tie.MeasureT-loop
 loop-holds : tie.Need-loop-holds Inv-loop μ-loop
 loop-holds c = refl
 
-byte-at-requires : tie.Need-byte-at-requires Inv-loop μ-loop
-byte-at-requires c κs = search needs
-
-is-blank-requires : tie.Need-is-blank-requires Inv-loop μ-loop
-is-blank-requires c κs = search needs
-
 add-i : tie.Need-add-i Inv-loop μ-loop
 add-i c = omega (arith, in-blank (now (c .before .before .before .before .before .args .s)) (c .before .before .before .loop .i) (ap blank (sym (c .before .before .byte-at .ensures)) ∙ sym (c .before .is-blank .ensures) ∙ c .if1 .taken))
 
@@ -46,8 +40,8 @@ skip-blanks-spec =
     Inv-loop
     μ-loop
     loop-holds
-    byte-at-requires
-    is-blank-requires
+    (λ c κs. search needs)
+    (λ c κs. search needs)
     add-i
     loop-less
     loop-again

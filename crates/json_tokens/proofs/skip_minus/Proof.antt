@@ -8,9 +8,6 @@ use Rattle.json_tokens.proofs.Laws.{in-byte, minus-no, minus-yes}
 use Rattle.json_tokens.proofs.skip_minus.Statement.{statement}
 use Rattle.json_tokens.proofs.skip_minus.Tie as tie
 
-byte-at-requires : tie.Need-byte-at-requires
-byte-at-requires c κs = search needs
-
 add-result : tie.Need-add-result
 add-result c =
     let a = c .before .before .before .args in
@@ -27,4 +24,7 @@ returns-2 c =
     sym (minus-no (now (a .s)) (a .at) (λ e. c .if1 .left (c .before .byte-at .ensures ∙ e)))
 
 pub skip-minus-spec : {M : Type 1} → statement M
-skip-minus-spec = tie.close (tie.spec byte-at-requires add-result returns returns-2)
+skip-minus-spec =
+    tie.close
+    (tie.spec
+    (λ c κs. search needs) add-result returns returns-2)

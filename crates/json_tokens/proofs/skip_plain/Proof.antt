@@ -29,15 +29,6 @@ past s small i w m e f = ap (λ n. stringRest s (i + trailingZeros 64 n / 8)) (f
 loop-holds : tie.Need-loop-holds Inv-loop μ-loop
 loop-holds c = (omega arith, refl)
 
-add-loop : tie.Need-add-loop Inv-loop μ-loop
-add-loop c = omega arith
-
-word-at-requires : tie.Need-word-at-requires Inv-loop μ-loop
-word-at-requires c κs = search needs
-
-special-bytes-requires : tie.Need-special-bytes-requires Inv-loop μ-loop
-special-bytes-requires c κs = search needs
-
 cast-result : tie.Need-cast-result Inv-loop μ-loop
 cast-result c = omega (arith, trailing-le 64 (c .before .special-bytes .result))
 
@@ -50,12 +41,6 @@ returns c =
     let i = c .before .before .before .before .loop .i in
     let p = past s (λ k. omega (arith, c .before .before .before .before .before .shared-slice-known .given k)) i (c .before .before .word-at .result) (c .before .special-bytes .result) (c .before .before .word-at .ensures) (c .before .special-bytes .ensures) in
     p ∙ c .before .before .before .before .loop .inv .1
-
-add-i : tie.Need-add-i Inv-loop μ-loop
-add-i c = omega arith
-
-loop-less : tie.Need-loop-less Inv-loop μ-loop
-loop-less c = omega arith
 
 loop-again : tie.Need-loop-again Inv-loop μ-loop
 loop-again c =
@@ -75,13 +60,13 @@ skip-plain-spec =
     Inv-loop
     μ-loop
     loop-holds
-    add-loop
-    word-at-requires
-    special-bytes-requires
+    (λ c. omega arith)
+    (λ c κs. search needs)
+    (λ c κs. search needs)
     cast-result
     add-result
     returns
-    add-i
-    loop-less
+    (λ c. omega arith)
+    (λ c. omega arith)
     loop-again
     returns-2)

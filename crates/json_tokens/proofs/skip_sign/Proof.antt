@@ -8,9 +8,6 @@ use Rattle.json_tokens.proofs.Laws.{in-byte, sign-minus, sign-none, sig
 use Rattle.json_tokens.proofs.skip_sign.Statement.{statement}
 use Rattle.json_tokens.proofs.skip_sign.Tie as tie
 
-byte-at-requires : tie.Need-byte-at-requires
-byte-at-requires c κs = search needs
-
 add-result : tie.Need-add-result
 add-result c =
     let a = c .before .before .before .args in
@@ -38,4 +35,6 @@ returns-3 c =
 
 pub skip-sign-spec : {M : Type 1} → statement M
 skip-sign-spec =
-    tie.close (tie.spec byte-at-requires add-result add-result-2 returns returns-2 returns-3)
+    tie.close
+    (tie.spec
+    (λ c κs. search needs) add-result add-result-2 returns returns-2 returns-3)

@@ -8,15 +8,6 @@ use Rattle.text.specs.Text.{isDigit}
 use Rattle.json_tokens.proofs.some_digits_end.Statement.{statement}
 use Rattle.json_tokens.proofs.some_digits_end.Tie as tie
 
-byte-at-requires : tie.Need-byte-at-requires
-byte-at-requires c κs = search needs
-
-is-digit-requires : tie.Need-is-digit-requires
-is-digit-requires c κs = search needs
-
-skip-digits-requires : tie.Need-skip-digits-requires
-skip-digits-requires c κs = search needs
-
 returns : tie.Need-returns
 returns c =
     let a = c .before .before .before .before .before .args in
@@ -33,4 +24,6 @@ returns-2 c =
 
 pub some-digits-end-spec : {M : Type 1} → statement M
 some-digits-end-spec =
-    tie.close (tie.spec byte-at-requires is-digit-requires skip-digits-requires returns returns-2)
+    tie.close
+    (tie.spec
+    (λ c κs. search needs) (λ c κs. search needs) (λ c κs. search needs) returns returns-2)

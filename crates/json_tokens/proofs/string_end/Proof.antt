@@ -9,9 +9,6 @@ use Rattle.json_tokens.specs.Ends.{endOf}
 use Rattle.json_tokens.proofs.string_end.Statement.{statement}
 use Rattle.json_tokens.proofs.string_end.Tie as tie
 
-byte-at-requires : tie.Need-byte-at-requires
-byte-at-requires c κs = search needs
-
 add-skip-plain : tie.Need-add-skip-plain
 add-skip-plain c =
     let a = c .before .before .before .args in
@@ -26,17 +23,11 @@ skip-plain-requires c κs =
     let i = a .at in
     omega (arith, in-byte s i 34 (omega arith) (sym (c .before .byte-at .ensures) ∙ c .if1 .taken))
 
-byte-at-requires-2 : tie.Need-byte-at-requires-2
-byte-at-requires-2 c κs = search needs
-
 add-result : tie.Need-add-result
 add-result c =
     let s = now (c .before .before .before .before .before .before .args .s) in
     let k = c .before .before .skip-plain .result in
     omega (arith, in-byte s k 34 (omega arith) (sym (c .before .byte-at2 .ensures) ∙ c .if2 .taken))
-
-string-rest-end-requires : tie.Need-string-rest-end-requires
-string-rest-end-requires c κs = search needs
 
 returns : tie.Need-returns
 returns c =
@@ -66,12 +57,12 @@ pub string-end-spec : {M : Type 1} → statement M
 string-end-spec =
     tie.close
     (tie.spec
-    byte-at-requires
+    (λ c κs. search needs)
     add-skip-plain
     skip-plain-requires
-    byte-at-requires-2
+    (λ c κs. search needs)
     add-result
-    string-rest-end-requires
+    (λ c κs. search needs)
     returns
     returns-2
     returns-3)

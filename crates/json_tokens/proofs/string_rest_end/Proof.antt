@@ -21,9 +21,6 @@ abbrev μ-loop : tie.MeasureT-loop
 loop-holds : tie.Need-loop-holds Inv-loop μ-loop
 loop-holds c = refl
 
-byte-at-requires : tie.Need-byte-at-requires Inv-loop μ-loop
-byte-at-requires c κs = search needs
-
 add-result : tie.Need-add-result Inv-loop μ-loop
 add-result c =
     let s = now (c .before .before .before .before .args .s) in
@@ -35,9 +32,6 @@ returns c =
     let s = now (c .before .before .before .before .args .s) in
     let i = c .before .before .loop .i in
     end-is (rest-quote s i (sym (c .before .byte-at .ensures) ∙ c .if1 .taken)) ∙ ap endOf (c .before .before .loop .inv)
-
-char-end-requires : tie.Need-char-end-requires Inv-loop μ-loop
-char-end-requires c κs = search needs
 
 returns-2 : tie.Need-returns-2 Inv-loop μ-loop
 returns-2 c = end-none (sym (c .before .before .before .before .loop .inv) ∙ c .before .char-end .ensures .none (c .if2 .taken) (λ e. c .before .before .if1 .left (c .before .before .before .byte-at .ensures ∙ e)))
@@ -55,10 +49,10 @@ string-rest-end-spec =
     Inv-loop
     μ-loop
     loop-holds
-    byte-at-requires
+    (λ c κs. search needs)
     add-result
     returns
-    char-end-requires
+    (λ c κs. search needs)
     returns-2
     loop-less
     loop-again)

@@ -29,12 +29,6 @@ returns c =
     let i = c .before .before .loop .i in
     end-none (sym (c .before .before .loop .inv) ∙ word-past w s k i (c .before .loop-test .taken) (c .if1 .taken))
 
-shared-slice-read-if2 : tie.Need-shared-slice-read-if2 Inv-loop μ-loop
-shared-slice-read-if2 c = omega arith
-
-shared-slice-read-if2-2 : tie.Need-shared-slice-read-if2-2 Inv-loop μ-loop
-shared-slice-read-if2-2 c = omega arith
-
 returns-2 : tie.Need-returns-2 Inv-loop μ-loop
 returns-2 c =
     let a = c .before .before .before .before .before .before .args in
@@ -43,15 +37,6 @@ returns-2 c =
     let k = c .before .before .before .before .before .loop .k in
     let i = c .before .before .before .before .before .loop .i in
     end-none (sym (c .before .before .before .before .before .loop .inv) ∙ word-off w s k i (c .before .before .before .before .loop-test .taken) (omega arith) (c .if2 .taken))
-
-add-k : tie.Need-add-k Inv-loop μ-loop
-add-k c = omega arith
-
-add-i : tie.Need-add-i Inv-loop μ-loop
-add-i c = omega arith
-
-loop-less : tie.Need-loop-less Inv-loop μ-loop
-loop-less c = omega arith
 
 loop-again : tie.Need-loop-again Inv-loop μ-loop
 loop-again c =
@@ -79,11 +64,11 @@ word-end-spec =
     μ-loop
     loop-holds
     returns
-    shared-slice-read-if2
-    shared-slice-read-if2-2
+    (λ c. omega arith)
+    (λ c. omega arith)
     returns-2
-    add-k
-    add-i
-    loop-less
+    (λ c. omega arith)
+    (λ c. omega arith)
+    (λ c. omega arith)
     loop-again
     returns-3)

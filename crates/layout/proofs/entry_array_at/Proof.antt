@@ -5,17 +5,14 @@ use borrow.Author.Needs.{needs}
 use Rattle.layout.proofs.entry_array_at.Statement.{statement}
 use Rattle.layout.proofs.entry_array_at.Tie as tie
 
-flags-of-requires : tie.Need-flags-of-requires
-flags-of-requires c κs = search needs
-
 returns : tie.Need-returns
 returns c = listing-fair (c .before .before .args .at) (c .before .before .args .entries) (c .flags-of .result) (c .flags-of .ensures) (c .before .if1 .taken)
-
-not-entry-array-requires : tie.Need-not-entry-array-requires
-not-entry-array-requires c κs = search needs
 
 returns-2 : tie.Need-returns-2
 returns-2 c = c .not-entry-array .ensures ∙ listing-unfair (c .before .before .args .at) (c .before .before .args .entries) (c .before .if1 .left)
 
 pub entry-array-at-spec : {M : Type 1} → statement M
-entry-array-at-spec = tie.close (tie.spec flags-of-requires returns not-entry-array-requires returns-2)
+entry-array-at-spec =
+    tie.close
+    (tie.spec
+    (λ c κs. search needs) returns (λ c κs. search needs) returns-2)

@@ -5,16 +5,10 @@ use borrow.Author.Needs.{needs}
 use Rattle.layout.proofs.is_bad.Statement.{statement}
 use Rattle.layout.proofs.is_bad.Tie as tie
 
-is-broken-requires : tie.Need-is-broken-requires
-is-broken-requires c κs = search needs
-
 returns : tie.Need-returns
 returns c =
     let s = c .before .before in
     bad-broken (s .args .snapshot) (s .args .side) (sym (c .before .is-broken .ensures) ∙ c .if1 .taken)
-
-has-zero-requires : tie.Need-has-zero-requires
-has-zero-requires c κs = search needs
 
 returns-2 : tie.Need-returns-2
 returns-2 c =
@@ -27,4 +21,7 @@ returns-3 c =
     bad-update (s .args .snapshot) (s .args .side) (sym (c .before .before .is-broken .ensures) ∙ c .before .if1 .left) (c .if2 .left)
 
 pub is-bad-spec : {M : Type 1} → statement M
-is-bad-spec = tie.close (tie.spec is-broken-requires returns has-zero-requires returns-2 returns-3)
+is-bad-spec =
+    tie.close
+    (tie.spec
+    (λ c κs. search needs) returns (λ c κs. search needs) returns-2 returns-3)

@@ -3,11 +3,8 @@ use borrow.Author.Needs.{needs}
 use Rattle.layout.proofs.no_entry_member.Statement.{statement}
 use Rattle.layout.proofs.no_entry_member.Tie as tie
 
-not-entry-array-requires : tie.Need-not-entry-array-requires
-not-entry-array-requires c κs = search needs
-
 returns : tie.Need-returns
 returns c = rw (c .not-entry-array .ensures)
 
 pub no-entry-member-spec : {M : Type 1} → statement M
-no-entry-member-spec = tie.close (tie.spec not-entry-array-requires returns)
+no-entry-member-spec = tie.close (tie.spec (λ c κs. search needs) returns)

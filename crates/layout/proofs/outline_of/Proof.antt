@@ -5,21 +5,6 @@ use borrow.Author.Needs.{needs}
 use Rattle.layout.proofs.outline_of.Statement.{statement}
 use Rattle.layout.proofs.outline_of.Tie as tie
 
-is-listed-requires : tie.Need-is-listed-requires
-is-listed-requires c κs = search needs
-
-is-listed-requires-2 : tie.Need-is-listed-requires-2
-is-listed-requires-2 c κs = search needs
-
-is-bad-requires : tie.Need-is-bad-requires
-is-bad-requires c κs = search needs
-
-is-bad-requires-2 : tie.Need-is-bad-requires-2
-is-bad-requires-2 c κs = search needs
-
-either-requires : tie.Need-either-requires
-either-requires c κs = search needs
-
 returns : tie.Need-returns
 returns c =
     let w = c .before .before .before .before .before .before in
@@ -27,17 +12,11 @@ returns c =
     let y = c .before .before .before .before in
     outline-fair (a .snapshot) (a .bids) (a .asks) (a .printed) (a .checksum) (a .number) (sym (w .is-listed .ensures) ∙ y .before .if1 .taken) (sym (y .is-listed2 .ensures) ∙ c .before .before .before .if2 .taken) (c .before .before .is-bad .result) (c .before .is-bad2 .result) (c .either .result) (c .before .before .is-bad .ensures) (c .before .is-bad2 .ensures) (c .either .ensures)
 
-no-outline-requires : tie.Need-no-outline-requires
-no-outline-requires c κs = search needs
-
 returns-2 : tie.Need-returns-2
 returns-2 c =
     let w = c .before .before .before .before in
     let a = w .before .args in
     c .no-outline .ensures ∙ outline-asks (a .snapshot) (a .bids) (a .asks) (a .printed) (a .checksum) (a .number) (sym (w .is-listed .ensures) ∙ c .before .before .before .if1 .taken) (sym (c .before .before .is-listed2 .ensures) ∙ c .before .if2 .left)
-
-no-outline-requires-2 : tie.Need-no-outline-requires-2
-no-outline-requires-2 c κs = search needs
 
 returns-3 : tie.Need-returns-3
 returns-3 c =
@@ -48,13 +27,13 @@ pub outline-of-spec : {M : Type 1} → statement M
 outline-of-spec =
     tie.close
     (tie.spec
-    is-listed-requires
-    is-listed-requires-2
-    is-bad-requires
-    is-bad-requires-2
-    either-requires
+    (λ c κs. search needs)
+    (λ c κs. search needs)
+    (λ c κs. search needs)
+    (λ c κs. search needs)
+    (λ c κs. search needs)
     returns
-    no-outline-requires
+    (λ c κs. search needs)
     returns-2
-    no-outline-requires-2
+    (λ c κs. search needs)
     returns-3)

@@ -3,11 +3,8 @@ use borrow.Author.Needs.{needs}
 use Rattle.layout.proofs.with_entry_array.Statement.{statement}
 use Rattle.layout.proofs.with_entry_array.Tie as tie
 
-few-more-requires : tie.Need-few-more-requires
-few-more-requires c κs = search needs
-
 returns : tie.Need-returns
 returns c = rw (c .few-more .ensures)
 
 pub with-entry-array-spec : {M : Type 1} → statement M
-with-entry-array-spec = tie.close (tie.spec few-more-requires returns)
+with-entry-array-spec = tie.close (tie.spec (λ c κs. search needs) returns)

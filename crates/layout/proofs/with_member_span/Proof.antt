@@ -4,12 +4,9 @@ use borrow.Author.Needs.{needs}
 use Rattle.layout.proofs.with_member_span.Statement.{statement}
 use Rattle.layout.proofs.with_member_span.Tie as tie
 
-few-more-requires : tie.Need-few-more-requires
-few-more-requires c κs = search needs
-
 returns : tie.Need-returns
 unfolding withMemberSpan
 returns c = rw (c .few-more .ensures)
 
 pub with-member-span-spec : {M : Type 1} → statement M
-with-member-span-spec = tie.close (tie.spec few-more-requires returns)
+with-member-span-spec = tie.close (tie.spec (λ c κs. search needs) returns)

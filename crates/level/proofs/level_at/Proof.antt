@@ -12,9 +12,6 @@ use Rattle.level.proofs.Held.{held-length, level-in, level-past}
 use Rattle.level.proofs.level_at.Statement.{statement}
 use Rattle.level.proofs.level_at.Tie as tie
 
-level-in-requires : tie.Need-level-in-requires
-level-in-requires c κs = search needs
-
 room : (s : tie.Start) → length (s .args .t1 .words) ≡ 300
 room s = search needs
 
@@ -33,4 +30,4 @@ returns-2 : tie.Need-returns-2
 returns-2 c = sym (level-past (held (c .before .args .t1)) (c .before .args .i) (omega (arith, long (c .before), c .if1 .left)))
 
 pub level-at-spec : {M : Type 1} → statement M
-level-at-spec = tie.close (tie.spec level-in-requires returns returns-2)
+level-at-spec = tie.close (tie.spec (λ c κs. search needs) returns returns-2)

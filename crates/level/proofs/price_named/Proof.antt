@@ -12,15 +12,6 @@ use Rattle.level.proofs.price_named.Tie as tie
 abbrev price : Change → Number
 price change = named levelPrice (edit change)
 
-enum-known-change : tie.Need-enum-known-change
-enum-known-change c = search needs
-
-price-of-requires : tie.Need-price-of-requires
-price-of-requires c κs = search needs
-
-enum-known-change-2 : tie.Need-enum-known-change-2
-enum-known-change-2 c = search needs
-
 returns : tie.Need-returns
 unfolding named edit
 returns c = c .price-of .ensures ∙ sym (ap price (c .before .before .change .given .1))
@@ -31,4 +22,6 @@ returns-2 c = sym (ap price (c .before .change2 .given .1))
 
 pub price-named-spec : {M : Type 1} → statement M
 price-named-spec =
-    tie.close (tie.spec enum-known-change price-of-requires enum-known-change-2 returns returns-2)
+    tie.close
+    (tie.spec
+    (λ c. search needs) (λ c κs. search needs) (λ c. search needs) returns returns-2)

@@ -6,12 +6,9 @@ use Rattle.level.specs.Words.{levelPrice}
 use Rattle.level.proofs.price_of.Statement.{statement}
 use Rattle.level.proofs.price_of.Tie as tie
 
-cast-t2 : tie.Need-cast-t2
-cast-t2 c = search needs
-
 returns : tie.Need-returns
 unfolding number levelPrice
 returns c = refl
 
 pub price-of-spec : {M : Type 1} → statement M
-price-of-spec = tie.close (tie.spec cast-t2 returns)
+price-of-spec = tie.close (tie.spec (λ c. search needs) returns)

@@ -6,12 +6,9 @@ use Rattle.level.specs.Words.{levelSize}
 use Rattle.level.proofs.size_of.Statement.{statement}
 use Rattle.level.proofs.size_of.Tie as tie
 
-cast-t2 : tie.Need-cast-t2
-cast-t2 c = search needs
-
 returns : tie.Need-returns
 unfolding number levelSize
 returns c = refl
 
 pub size-of-spec : {M : Type 1} → statement M
-size-of-spec = tie.close (tie.spec cast-t2 returns)
+size-of-spec = tie.close (tie.spec (λ c. search needs) returns)

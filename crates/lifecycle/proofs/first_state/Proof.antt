@@ -4,15 +4,6 @@ use Rattle.lifecycle.specs.Lifecycle.{firstState}
 use Rattle.lifecycle.proofs.first_state.Statement.{statement}
 use Rattle.lifecycle.proofs.first_state.Tie as tie
 
-enum-told : tie.Need-enum-told
-enum-told c = search needs
-
-enum-told-2 : tie.Need-enum-told-2
-enum-told-2 c = search needs
-
-enum-told-3 : tie.Need-enum-told-3
-enum-told-3 c = search needs
-
 returns : tie.Need-returns
 unfolding firstState
 returns c = rw (c .enum-told .given .1)
@@ -27,4 +18,6 @@ returns-3 c = rw (c .enum-told3 .given .1)
 
 pub first-state-spec : {M : Type 1} → statement M
 first-state-spec =
-    tie.close (tie.spec enum-told enum-told-2 enum-told-3 returns returns-2 returns-3)
+    tie.close
+    (tie.spec
+    (λ c. search needs) (λ c. search needs) (λ c. search needs) returns returns-2 returns-3)

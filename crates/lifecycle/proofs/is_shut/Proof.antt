@@ -5,15 +5,6 @@ use borrow.Author.Needs.{needs}
 use Rattle.lifecycle.proofs.is_shut.Statement.{statement}
 use Rattle.lifecycle.proofs.is_shut.Tie as tie
 
-enum-told : tie.Need-enum-told
-enum-told c = search needs
-
-enum-told-2 : tie.Need-enum-told-2
-enum-told-2 c = search needs
-
-enum-told-3 : tie.Need-enum-told-3
-enum-told-3 c = search needs
-
 returns : tie.Need-returns
 unfolding isShut statusOf
 returns c = rw (c .enum-told .given .1)
@@ -27,4 +18,7 @@ unfolding isShut statusOf
 returns-3 c = rw (c .enum-told3 .given .1)
 
 pub is-shut-spec : {M : Type 1} → statement M
-is-shut-spec = tie.close (tie.spec enum-told enum-told-2 enum-told-3 returns returns-2 returns-3)
+is-shut-spec =
+    tie.close
+    (tie.spec
+    (λ c. search needs) (λ c. search needs) (λ c. search needs) returns returns-2 returns-3)

@@ -12,18 +12,6 @@ returns : tie.Need-returns
 returns c =
     judged-snapshot (c .before .args .state) (c .before .args .m) (c .before .args .number) (c .before .args .outline) (c .if1 .taken)
 
-enum-told : tie.Need-enum-told
-enum-told c = search needs
-
-enum-told-2 : tie.Need-enum-told-2
-enum-told-2 c = search needs
-
-enum-told-3 : tie.Need-enum-told-3
-enum-told-3 c = search needs
-
-is-old-requires : tie.Need-is-old-requires
-is-old-requires c κs = search needs
-
 returns-2 : tie.Need-returns-2
 unfolding isLive statusOf
 returns-2 c =
@@ -53,10 +41,10 @@ judge-update-spec =
     tie.close
     (tie.spec
     returns
-    enum-told
-    enum-told-2
-    enum-told-3
-    is-old-requires
+    (λ c. search needs)
+    (λ c. search needs)
+    (λ c. search needs)
+    (λ c κs. search needs)
     returns-2
     returns-3
     returns-4

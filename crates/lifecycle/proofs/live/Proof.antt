@@ -4,12 +4,9 @@ use Rattle.lifecycle.specs.Lifecycle.{liveLifecycle}
 use Rattle.lifecycle.proofs.live.Statement.{statement}
 use Rattle.lifecycle.proofs.live.Tie as tie
 
-either-requires : tie.Need-either-requires
-either-requires c κs = search needs
-
 returns : tie.Need-returns
 unfolding liveLifecycle
 returns c = rw (c .either .ensures)
 
 pub live-spec : {M : Type 1} → statement M
-live-spec = tie.close (tie.spec either-requires returns)
+live-spec = tie.close (tie.spec (λ c κs. search needs) returns)

@@ -5,9 +5,6 @@ use borrow.Author.Needs.{needs}
 use Rattle.lifecycle.proofs.one_more.Statement.{statement}
 use Rattle.lifecycle.proofs.one_more.Tie as tie
 
-add-result : tie.Need-add-result
-add-result c = search needs
-
 returns : tie.Need-returns
 unfolding oneMore
 returns c =
@@ -21,4 +18,4 @@ returns-2 c =
     rw (e, oneMore)
 
 pub one-more-spec : {M : Type 1} → statement M
-one-more-spec = tie.close (tie.spec add-result returns returns-2)
+one-more-spec = tie.close (tie.spec (λ c. search needs) returns returns-2)

@@ -5,9 +5,6 @@ use borrow.Author.Needs.{needs}
 use Rattle.lifecycle.proofs.refused.Statement.{statement}
 use Rattle.lifecycle.proofs.refused.Tie as tie
 
-leaves-state-requires : tie.Need-leaves-state-requires
-leaves-state-requires c κs = search needs
-
 returns : tie.Need-returns
 returns c =
     refused-left (c .before .before .args .lifecycle) (c .before .before .args .answer) (sym (c .before .leaves-state .ensures) ∙ c .if1 .taken)
@@ -17,4 +14,4 @@ returns-2 c =
     refused-waits (c .before .before .args .lifecycle) (c .before .before .args .answer) (sym (c .before .leaves-state .ensures) ∙ c .if1 .left)
 
 pub refused-spec : {M : Type 1} → statement M
-refused-spec = tie.close (tie.spec leaves-state-requires returns returns-2)
+refused-spec = tie.close (tie.spec (λ c κs. search needs) returns returns-2)

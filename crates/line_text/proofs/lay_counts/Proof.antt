@@ -42,26 +42,14 @@ after-asks c = owed-rest (after-bids (c .before .before .before .before .before)
 
 -- ---- needs
 
-slice-aggregate-lay-number : tie.Need-slice-aggregate-lay-number
-slice-aggregate-lay-number c = search needs
-
 lay-number-requires : tie.Need-lay-number-requires
 lay-number-requires c κs = room-first (bidsText (c .before .before .before)) (fromAsks (c .before .before .before)) (left (c .before .before .before))
-
-slice-aggregate-lay-number-2 : tie.Need-slice-aggregate-lay-number-2
-slice-aggregate-lay-number-2 c = search needs
 
 lay-number-requires-2 : tie.Need-lay-number-requires-2
 lay-number-requires-2 c κs = room-first (asksText (start₁ (c .before .before .before .before))) (ascii "\n") (after-bids (c .before .before .before .before))
 
-slice-aggregate-lay : tie.Need-slice-aggregate-lay
-slice-aggregate-lay c = search needs
-
 lay-requires : tie.Need-lay-requires
 lay-requires c κs = after-asks (c .before .before .before .before) .room
-
-same-length : tie.Need-same-length
-same-length c = search needs
 
 returns : tie.Need-returns
 returns c = put-last (after-asks (c .before .before .before .before .before .before .before)) refl (c .before .before .lay .ensures)
@@ -70,11 +58,11 @@ pub lay-counts-spec : {M : Type 1} → statement M
 lay-counts-spec =
     tie.close
     (tie.spec
-    slice-aggregate-lay-number
+    (λ c. search needs)
     lay-number-requires
-    slice-aggregate-lay-number-2
+    (λ c. search needs)
     lay-number-requires-2
-    slice-aggregate-lay
+    (λ c. search needs)
     lay-requires
-    same-length
+    (λ c. search needs)
     returns)

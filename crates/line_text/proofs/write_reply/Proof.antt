@@ -46,29 +46,17 @@ not-live s e = ap (follows s) e
 
 -- ---- needs
 
-number-of-requires : tie.Need-number-of-requires
-number-of-requires c κs = search needs
-
 lay-whole-requires : tie.Need-lay-whole-requires
 lay-whole-requires c κs = room-first-as (numberText (c .before .before .before)) (fromCounts (c .before .before .before)) (ap written (c .before .number-of .ensures)) (left (c .before .before .before))
 
 lay-counts-requires : tie.Need-lay-counts-requires
 lay-counts-requires c κs = room-all (after-number (c .before .before .before .before)) (is-live (start₁ (c .before .before .before .before)) (c .before .if1 .taken))
 
-same-length : tie.Need-same-length
-same-length c = search needs
-
 returns : tie.Need-returns
 returns c = put-last (after-number (c .before .before .before .before .before .before .before)) (is-live (start₁ (c .before .before .before .before .before .before .before)) (c .before .before .before .before .if1 .taken)) (c .before .before .lay-counts .ensures)
 
-slice-aggregate-lay : tie.Need-slice-aggregate-lay
-slice-aggregate-lay c = search needs
-
 lay-requires : tie.Need-lay-requires
 lay-requires c κs = room-all (after-number (c .before .before .before .before .before)) (not-live (start₁ (c .before .before .before .before .before)) (c .before .before .if1 .left))
-
-same-length-2 : tie.Need-same-length-2
-same-length-2 c = search needs
 
 returns-2 : tie.Need-returns-2
 returns-2 c = put-last (after-number (c .before .before .before .before .before .before .before .before)) (not-live (start₁ (c .before .before .before .before .before .before .before .before)) (c .before .before .before .before .before .if1 .left)) (c .before .before .lay .ensures)
@@ -77,12 +65,12 @@ pub write-reply-spec : {M : Type 1} → statement M
 write-reply-spec =
     tie.close
     (tie.spec
-    number-of-requires
+    (λ c κs. search needs)
     lay-whole-requires
     lay-counts-requires
-    same-length
+    (λ c. search needs)
     returns
-    slice-aggregate-lay
+    (λ c. search needs)
     lay-requires
-    same-length-2
+    (λ c. search needs)
     returns-2)

@@ -15,14 +15,8 @@ Inv-loop s at b i₀ i = (at ≤ i) × (i ≤ length s) × (i + bytesBefore b (d
 abbrev μ-loop : tie.MeasureT-loop
 μ-loop s at b i₀ i = length s - i
 
-skip-blocks-requires : tie.Need-skip-blocks-requires Inv-loop μ-loop
-skip-blocks-requires c κs = search needs
-
 loop-holds : tie.Need-loop-holds Inv-loop μ-loop
 loop-holds c = c .skip-blocks .ensures
-
-shared-slice-read-if1 : tie.Need-shared-slice-read-if1 Inv-loop μ-loop
-shared-slice-read-if1 c = search needs
 
 returns : tie.Need-returns Inv-loop μ-loop
 returns c =
@@ -30,12 +24,6 @@ returns c =
     let i = c .before .before .before .loop .i in
     let inv = c .before .before .before .loop .inv in
     (inv .0, inv .1, sym (found s i (c .before .before .before .before .before .before .args .b) (c .before .before .loop-test .taken) (c .if1 .taken)) ∙ inv .2)
-
-add-i : tie.Need-add-i Inv-loop μ-loop
-add-i c = search needs
-
-loop-less : tie.Need-loop-less Inv-loop μ-loop
-loop-less c = search needs
 
 loop-again : tie.Need-loop-again Inv-loop μ-loop
 loop-again c =
@@ -56,11 +44,11 @@ find-spec =
     (tie.spec
     Inv-loop
     μ-loop
-    skip-blocks-requires
+    (λ c κs. search needs)
     loop-holds
-    shared-slice-read-if1
+    (λ c. search needs)
     returns
-    add-i
-    loop-less
+    (λ c. search needs)
+    (λ c. search needs)
     loop-again
     returns-2)

@@ -18,22 +18,10 @@ Inv-loop s at b end found₀ k₀ found k = (at ≤ k) × (k ≤ end) × (found 
 abbrev μ-loop : tie.MeasureT-loop
 μ-loop s at b end found₀ k₀ found k = end - k
 
-add-end : tie.Need-add-end Inv-loop μ-loop
-add-end c = search needs
-
 loop-holds : tie.Need-loop-holds Inv-loop μ-loop
 loop-holds c =
     let a = c .args in
     (omega arith, omega arith, sym (le-ltb (bytesBefore (a .b) (drop (a .at) (a .s .now))) (a .at - a .at) (omega arith)))
-
-shared-slice-read-if1 : tie.Need-shared-slice-read-if1 Inv-loop μ-loop
-shared-slice-read-if1 c = search needs
-
-add-k : tie.Need-add-k Inv-loop μ-loop
-add-k c = search needs
-
-loop-less : tie.Need-loop-less Inv-loop μ-loop
-loop-less c = search needs
 
 loop-again : tie.Need-loop-again Inv-loop μ-loop
 loop-again c =
@@ -59,10 +47,10 @@ is-in-block-spec =
     (tie.spec
     Inv-loop
     μ-loop
-    add-end
+    (λ c. search needs)
     loop-holds
-    shared-slice-read-if1
-    add-k
-    loop-less
+    (λ c. search needs)
+    (λ c. search needs)
+    (λ c. search needs)
     loop-again
     returns)

@@ -7,16 +7,10 @@ use borrow.Author.Needs.{needs}
 use Rattle.loader.proofs.level_of.Statement.{statement}
 use Rattle.loader.proofs.level_of.Tie as tie
 
-m-level-requires : tie.Need-m-level-requires
-m-level-requires c κs = search needs
-
 returns : tie.Need-returns
 returns c =
     let a = c .before .before .args in
     subst (λ (m : Bool). Made (pieceFor m) (a .price) (a .size) (c .m-level .result)) (sym (c .before .if1 .taken)) (c .m-level .ensures)
-
-k-level-requires : tie.Need-k-level-requires
-k-level-requires c κs = search needs
 
 returns-2 : tie.Need-returns-2
 returns-2 c =
@@ -24,4 +18,7 @@ returns-2 c =
     subst (λ (m : Bool). Made (pieceFor m) (a .price) (a .size) (c .k-level .result)) (sym (c .before .if1 .left)) (c .k-level .ensures)
 
 pub level-of-spec : {M : Type 1} → statement M
-level-of-spec = tie.close (tie.spec m-level-requires returns k-level-requires returns-2)
+level-of-spec =
+    tie.close
+    (tie.spec
+    (λ c κs. search needs) returns (λ c κs. search needs) returns-2)

@@ -18,9 +18,6 @@ Inv-loop s m prices₀ sizes₀ packs₀ at₀ k₀ prices sizes packs at k =
 abbrev μ-loop : tie.MeasureT-loop
 μ-loop s m prices₀ sizes₀ packs₀ at₀ k₀ prices sizes packs at k = 100 - k
 
-first-at-requires : tie.Need-first-at-requires Inv-loop μ-loop
-first-at-requires c κs = search needs
-
 loop-holds : tie.Need-loop-holds Inv-loop μ-loop
 loop-holds c =
     let a = c .before .before .args in
@@ -66,9 +63,6 @@ element-write-sizes c =
     let r = c .before .before .before .loop .inv .loaded .room in
     omega arith
 
-pack-requires : tie.Need-pack-requires Inv-loop μ-loop
-pack-requires c κs = search needs
-
 mul-packs : tie.Need-mul-packs Inv-loop μ-loop
 mul-packs c =
     let a = c .before .before .before .before .before .before .before .args in
@@ -90,9 +84,6 @@ add-k c =
     let s = a .s .now in
     let k = going-below (entryFor (a .m)) s (c .before .before .before .before .loop .inv) (c .before .before .before .loop-test .taken) in
     omega arith
-
-comma-end-requires : tie.Need-comma-end-requires Inv-loop μ-loop
-comma-end-requires c κs = search needs
 
 loop-less : tie.Need-loop-less Inv-loop μ-loop
 loop-less c =
@@ -125,7 +116,7 @@ load-spec =
     (tie.spec
     Inv-loop
     μ-loop
-    first-at-requires
+    (λ c κs. search needs)
     loop-holds
     read-entry-requires
     level-of-requires
@@ -133,11 +124,11 @@ load-spec =
     element-write-prices
     mul-sizes
     element-write-sizes
-    pack-requires
+    (λ c κs. search needs)
     mul-packs
     element-write-packs
     add-k
-    comma-end-requires
+    (λ c κs. search needs)
     loop-less
     loop-again
     returns)

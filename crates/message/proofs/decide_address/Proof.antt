@@ -8,9 +8,6 @@ use Rattle.message.proofs.decide_address.Tie as tie
 returns : tie.Need-returns
 returns c = address-escaped (c .before .before .args .scan) (c .before .if1 .taken) (c .if2 .taken)
 
-decide-layout-requires : tie.Need-decide-layout-requires
-decide-layout-requires c κs = search needs
-
 returns-2 : tie.Need-returns-2
 returns-2 c = c .decide-layout .ensures ∙ address-ours (c .before .before .before .before .args .scan) (c .before .before .before .if1 .taken) (c .before .before .if2 .left) (c .before .if3 .taken)
 
@@ -22,4 +19,6 @@ returns-4 c = address-no-frame (c .before .args .scan) (c .if1 .left)
 
 pub decide-address-spec : {M : Type 1} → statement M
 decide-address-spec =
-    tie.close (tie.spec returns decide-layout-requires returns-2 returns-3 returns-4)
+    tie.close
+    (tie.spec
+    returns (λ c κs. search needs) returns-2 returns-3 returns-4)

@@ -6,9 +6,6 @@ use borrow.Author.Needs.{needs}
 use Rattle.message.proofs.read.Statement.{statement}
 use Rattle.message.proofs.read.Tie as tie
 
-is-good-requires : tie.Need-is-good-requires
-is-good-requires c κs = search needs
-
 read-open-requires : tie.Need-read-open-requires
 read-open-requires c κs = sym (c .before .is-good .ensures) ∙ c .if1 .taken
 
@@ -23,4 +20,7 @@ returns-2 c =
     judged-shut (record { dialect = a .dialect; depth = a .depth; name = now (a .name) }) (now (a .s)) (sym (c .before .is-good .ensures) ∙ c .if1 .left)
 
 pub read-spec : {M : Type 1} → statement M
-read-spec = tie.close (tie.spec is-good-requires read-open-requires returns returns-2)
+read-spec =
+    tie.close
+    (tie.spec
+    (λ c κs. search needs) read-open-requires returns returns-2)

@@ -13,18 +13,6 @@ returns c =
     let a = c .before .before .before .args in
     frame-long (record { dialect = a .dialect; depth = a .depth; name = now (a .name) }) (now (a .s)) (c .if1 .taken)
 
-skip-blanks-requires : tie.Need-skip-blanks-requires
-skip-blanks-requires c κs = search needs
-
-scan-at-requires : tie.Need-scan-at-requires
-scan-at-requires c κs = search needs
-
-is-ended-requires : tie.Need-is-ended-requires
-is-ended-requires c κs = search needs
-
-decide-requires : tie.Need-decide-requires
-decide-requires c κs = search needs
-
 returns-2 : tie.Need-returns-2
 returns-2 c =
     let a = c .before .before .before .before .before .before .before .args in
@@ -36,8 +24,8 @@ read-frame-spec =
     tie.close
     (tie.spec
     returns
-    skip-blanks-requires
-    scan-at-requires
-    is-ended-requires
-    decide-requires
+    (λ c κs. search needs)
+    (λ c κs. search needs)
+    (λ c κs. search needs)
+    (λ c κs. search needs)
     returns-2)

@@ -5,15 +5,6 @@ use borrow.Author.Needs.{needs}
 use Rattle.message.proofs.read_open.Statement.{statement}
 use Rattle.message.proofs.read_open.Tie as tie
 
-read-frame-requires : tie.Need-read-frame-requires
-read-frame-requires c κs = search needs
-
-enum-known-answer : tie.Need-enum-known-answer
-enum-known-answer c = search needs
-
-enum-known-outline : tie.Need-enum-known-outline
-enum-known-outline c = search needs
-
 returns : tie.Need-returns
 returns c =
     let a = c .before .before .before .before .before .before .before .args in
@@ -32,4 +23,5 @@ returns-3 c =
 pub read-open-spec : {M : Type 1} → statement M
 read-open-spec =
     tie.close
-    (tie.spec read-frame-requires enum-known-answer enum-known-outline returns returns-2 returns-3)
+    (tie.spec
+    (λ c κs. search needs) (λ c. search needs) (λ c. search needs) returns returns-2 returns-3)

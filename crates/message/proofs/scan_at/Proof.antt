@@ -9,34 +9,16 @@ use borrow.Author.Needs.{needs}
 use Rattle.message.proofs.scan_at.Statement.{statement}
 use Rattle.message.proofs.scan_at.Tie as tie
 
-enum-scan : tie.Need-enum-scan
-enum-scan c = search needs
-
 k-message-requires : tie.Need-k-message-requires
 k-message-requires c κs =
     let a = c .before .before .before .before .args in
-    k-depth (a .depth) (now (a .name)) (rw (sym (c .enum-scan .given .1)) (c .before .before .before .before .pre))
-
-enum-scan-2 : tie.Need-enum-scan-2
-enum-scan-2 c = search needs
-
-m-message-requires : tie.Need-m-message-requires
-m-message-requires c κs = search needs
-
-enum-scan-3 : tie.Need-enum-scan-3
-enum-scan-3 c = search needs
-
-value-end-requires : tie.Need-value-end-requires
-value-end-requires c κs = search needs
-
-not-framed-requires : tie.Need-not-framed-requires
-not-framed-requires c κs = search needs
+    k-depth (a .depth) (now (a .name)) (rw (sym (c .enum-told .given .1)) (c .before .before .before .before .pre))
 
 returns : tie.Need-returns
 unfolding envelopeIn envelopeK
 returns c =
     let a = c .before .before .before .before .before .args in
-    rw (c .before .enum-scan .given .1) (c .k-message .ensures)
+    rw (c .before .enum-told .given .1) (c .k-message .ensures)
 
 returns-2 : tie.Need-returns-2
 unfolding envelopeIn envelopeM
@@ -54,13 +36,13 @@ pub scan-at-spec : {M : Type 1} → statement M
 scan-at-spec =
     tie.close
     (tie.spec
-    enum-scan
+    (λ c. search needs)
     k-message-requires
-    enum-scan-2
-    m-message-requires
-    enum-scan-3
-    value-end-requires
-    not-framed-requires
+    (λ c. search needs)
+    (λ c κs. search needs)
+    (λ c. search needs)
+    (λ c κs. search needs)
+    (λ c κs. search needs)
     returns
     returns-2
     returns-3)

@@ -15,21 +15,6 @@ use borrow.Author.Needs.{needs}
 use Rattle.message_k.proofs.framed.Statement.{statement}
 use Rattle.message_k.proofs.framed.Tie as tie
 
-is-escaped-requires : tie.Need-is-escaped-requires
-is-escaped-requires c κs = search needs
-
-is-escaped-requires-2 : tie.Need-is-escaped-requires-2
-is-escaped-requires-2 c κs = search needs
-
-is-channel-requires : tie.Need-is-channel-requires
-is-channel-requires c κs = search needs
-
-is-name-requires : tie.Need-is-name-requires
-is-name-requires c κs = search needs
-
-both-requires : tie.Need-both-requires
-both-requires c κs = search needs
-
 returns : tie.Need-returns
 unfolding oursBy
 returns c =
@@ -47,9 +32,9 @@ pub framed-spec : {M : Type 1} → statement M
 framed-spec =
     tie.close
     (tie.spec
-    is-escaped-requires
-    is-escaped-requires-2
-    is-channel-requires
-    is-name-requires
-    both-requires
+    (λ c κs. search needs)
+    (λ c κs. search needs)
+    (λ c κs. search needs)
+    (λ c κs. search needs)
+    (λ c κs. search needs)
     returns)

@@ -9,15 +9,6 @@ use borrow.Author.Needs.{needs}
 use Rattle.message_k.proofs.is_channel.Statement.{statement}
 use Rattle.message_k.proofs.is_channel.Tie as tie
 
-two-digits-requires : tie.Need-two-digits-requires
-two-digits-requires c κs = search needs
-
-is-short-name-requires : tie.Need-is-short-name-requires
-is-short-name-requires c κs = search needs
-
-is-short-name-requires-2 : tie.Need-is-short-name-requires-2
-is-short-name-requires-2 c κs = search needs
-
 returns : tie.Need-returns
 returns c = let a = c .before .before .before .before .args in c .is-short-name .ensures ∙ ap (means (now (a .s)) (record { from = a .from; to = a .to })) (c .before .two-digits .ensures)
 
@@ -28,8 +19,8 @@ pub is-channel-spec : {M : Type 1} → statement M
 is-channel-spec =
     tie.close
     (tie.spec
-    two-digits-requires
-    is-short-name-requires
-    is-short-name-requires-2
+    (λ c κs. search needs)
+    (λ c κs. search needs)
+    (λ c κs. search needs)
     returns
     returns-2)

@@ -8,12 +8,6 @@ use borrow.Author.Needs.{needs}
 use Rattle.message_k.proofs.is_escaped.Statement.{statement}
 use Rattle.message_k.proofs.is_escaped.Tie as tie
 
-byte-at-requires : tie.Need-byte-at-requires
-byte-at-requires c κs = search needs
-
-has-backslash-requires : tie.Need-has-backslash-requires
-has-backslash-requires c κs = search needs
-
 returns : tie.Need-returns
 unfolding escapedAt isString
 returns c = c .has-backslash .ensures ∙ sym (rw (eq-eqb _ _ (sym (c .before .before .byte-at .ensures) ∙ c .before .if1 .taken), escapedAt))
@@ -23,4 +17,7 @@ unfolding escapedAt isString
 returns-2 c = sym (rw (ne-eqb _ _ (λ h. c .if1 .left (c .before .byte-at .ensures ∙ h)), escapedAt))
 
 pub is-escaped-spec : {M : Type 1} → statement M
-is-escaped-spec = tie.close (tie.spec byte-at-requires has-backslash-requires returns returns-2)
+is-escaped-spec =
+    tie.close
+    (tie.spec
+    (λ c κs. search needs) (λ c κs. search needs) returns returns-2)

@@ -20,15 +20,6 @@ part-parse-whole-start c = let a = c .before .args in let q = value-room 15 (now
 part-parse-whole-end : tie.Need-part-parse-whole-end
 part-parse-whole-end c = let a = c .before .args in let q = value-room 15 (now (a .s)) (a .from) (a .to) (c .before .pre) in omega arith
 
-parse-whole-requires : tie.Need-parse-whole-requires
-parse-whole-requires c κs = search needs
-
-enum-told : tie.Need-enum-told
-enum-told c = search needs
-
-enum-told-2 : tie.Need-enum-told-2
-enum-told-2 c = search needs
-
 returns : tie.Need-returns
 unfolding isRead
 returns c = let a = c .before .before .before .before .before .args in whole-read (now (a .s)) (a .from) (a .to) (reads (c .enum-told .given .0 .0)) (sym (ap parsedWhole (c .enum-told .given .1)) ∙ c .before .before .parse-whole .ensures)
@@ -44,8 +35,8 @@ is-whole-spec =
     sub-parse-whole
     part-parse-whole-start
     part-parse-whole-end
-    parse-whole-requires
-    enum-told
-    enum-told-2
+    (λ c κs. search needs)
+    (λ c. search needs)
+    (λ c. search needs)
     returns
     returns-2)

@@ -11,15 +11,6 @@ use borrow.Author.Needs.{needs}
 use Rattle.message_k.proofs.k_message.Statement.{statement}
 use Rattle.message_k.proofs.k_message.Tie as tie
 
-byte-at-requires : tie.Need-byte-at-requires
-byte-at-requires c κs = search needs
-
-value-end-requires : tie.Need-value-end-requires
-value-end-requires c κs = search needs
-
-not-framed-requires : tie.Need-not-framed-requires
-not-framed-requires c κs = search needs
-
 returns : tie.Need-returns
 returns c =
     let a = c .before .before .before .before .before .before .args in
@@ -36,15 +27,6 @@ add-k-parts c =
     let n = now (a .name) in
     let l = in-byte s (a .at) 91 (omega arith) (sym (c .before .byte-at .ensures) ∙ c .if1 .left) in omega arith
 
-k-parts-requires : tie.Need-k-parts-requires
-k-parts-requires c κs = search needs
-
-one-object-requires : tie.Need-one-object-requires
-one-object-requires c κs = search needs
-
-framed-requires : tie.Need-framed-requires
-framed-requires c κs = search needs
-
 returns-2 : tie.Need-returns-2
 returns-2 c =
     let a = c .before .before .before .before .before .before .before .before .before .before .args in
@@ -54,12 +36,6 @@ returns-2 c =
     let p = c .before .before .before .before .before .k-parts .result in
     c .framed .ensures ∙ ap (framedAs d n s (p .end) (p .outer)) (c .before .one-object .ensures) ∙ told-four d n s p (c .before .before .before .if2 .taken) ∙ ap (toldBy d n s) (c .before .before .before .before .before .k-parts .ensures) ∙ told-array d n s (a .at) (sym (c .before .before .before .before .before .before .before .byte-at .ensures) ∙ c .before .before .before .before .before .before .if1 .left)
 
-two-objects-requires : tie.Need-two-objects-requires
-two-objects-requires c κs = search needs
-
-framed-requires-2 : tie.Need-framed-requires-2
-framed-requires-2 c κs = search needs
-
 returns-3 : tie.Need-returns-3
 returns-3 c =
     let a = c .before .before .before .before .before .before .before .before .before .before .before .before .args in
@@ -68,9 +44,6 @@ returns-3 c =
     let n = now (a .name) in
     let p = c .before .before .before .before .before .before .before .k-parts .result in
     c .framed2 .ensures ∙ ap (framedAs d n s (p .end) (p .outer)) (c .before .two-objects .ensures) ∙ told-five d n s p (c .before .before .before .before .if3 .taken) ∙ ap (toldBy d n s) (c .before .before .before .before .before .before .before .k-parts .ensures) ∙ told-array d n s (a .at) (sym (c .before .before .before .before .before .before .before .before .before .byte-at .ensures) ∙ c .before .before .before .before .before .before .before .before .if1 .left)
-
-not-framed-requires-2 : tie.Need-not-framed-requires-2
-not-framed-requires-2 c κs = search needs
 
 returns-4 : tie.Need-returns-4
 returns-4 c =
@@ -85,17 +58,17 @@ pub k-message-spec : {M : Type 1} → statement M
 k-message-spec =
     tie.close
     (tie.spec
-    byte-at-requires
-    value-end-requires
-    not-framed-requires
+    (λ c κs. search needs)
+    (λ c κs. search needs)
+    (λ c κs. search needs)
     returns
     add-k-parts
-    k-parts-requires
-    one-object-requires
-    framed-requires
+    (λ c κs. search needs)
+    (λ c κs. search needs)
+    (λ c κs. search needs)
     returns-2
-    two-objects-requires
-    framed-requires-2
+    (λ c κs. search needs)
+    (λ c κs. search needs)
     returns-3
-    not-framed-requires-2
+    (λ c κs. search needs)
     returns-4)

@@ -58,15 +58,6 @@ module _ (c : tie.After-k-member Inv-loop μ-loop) where
   steps : (next .end ≡ 0 → ⊥) → next ≡ withMember (text at) (at .loop .members) here
   steps n = c .k-member .ensures .collected (next .end) (end-at (value 14 (text at) (c .before .before .colon-end .result)) (next .end) ends n)
 
-byte-at-requires : tie.Need-byte-at-requires Inv-loop μ-loop
-byte-at-requires c κs = search needs
-
-value-end-requires : tie.Need-value-end-requires Inv-loop μ-loop
-value-end-requires c κs = search needs
-
-no-members-requires : tie.Need-no-members-requires Inv-loop μ-loop
-no-members-requires c κs = search needs
-
 returns : tie.Need-returns Inv-loop μ-loop
 returns c =
     let a = c .before .before .before .before .before .args in
@@ -78,12 +69,6 @@ add-object-close-end c =
     let a = c .before .before .before .args in
     let s = now (a .s) in
     let l = in-byte s (a .at) 123 (omega arith) (sym (c .before .byte-at .ensures) ∙ c .if1 .left) in omega arith
-
-object-close-end-requires : tie.Need-object-close-end-requires Inv-loop μ-loop
-object-close-end-requires c κs = search needs
-
-closed-requires : tie.Need-closed-requires Inv-loop μ-loop
-closed-requires c κs = search needs
 
 returns-2 : tie.Need-returns-2 Inv-loop μ-loop
 unfolding members
@@ -98,9 +83,6 @@ add-skip-blanks c =
     let s = now (a .s) in
     let l = in-byte s (a .at) 123 (omega arith) (sym (c .before .before .before .byte-at .ensures) ∙ c .before .before .if1 .left) in omega arith
 
-skip-blanks-requires : tie.Need-skip-blanks-requires Inv-loop μ-loop
-skip-blanks-requires c κs = search needs
-
 loop-holds : tie.Need-loop-holds Inv-loop μ-loop
 unfolding members
 loop-holds c =
@@ -108,55 +90,25 @@ loop-holds c =
     let s = now (a .s) in
     rw (object-fold s (a .before) (a .at) (sym (c .before .before .before .before .byte-at .ensures) ∙ c .before .before .before .if1 .left)) at (fold-start (over s) (a .before) (a .at + 1) (c .before .before .object-close-end .result) (c .before .before .object-close-end .ensures) (c .before .if2 .left) (c .skip-blanks .result) (c .skip-blanks .ensures))
 
-string-end-requires : tie.Need-string-end-requires Inv-loop μ-loop
-string-end-requires c κs = search needs
-
-no-members-requires-2 : tie.Need-no-members-requires-2 Inv-loop μ-loop
-no-members-requires-2 c κs = search needs
-
 returns-3 : tie.Need-returns-3 Inv-loop μ-loop
 returns-3 c =
     let a = c .before .before .before in
     c .no-members2 .ensures ∙ fold-wrong (over (text a)) (a .loop .members) (a .loop .inv) (no-name 14 (text a) (a .loop .i) (c .before .before .string-end .result) (c .before .before .string-end .ensures) (c .before .if3 .taken))
-
-colon-end-requires : tie.Need-colon-end-requires Inv-loop μ-loop
-colon-end-requires c κs = search needs
-
-no-members-requires-3 : tie.Need-no-members-requires-3 Inv-loop μ-loop
-no-members-requires-3 c κs = search needs
 
 returns-4 : tie.Need-returns-4 Inv-loop μ-loop
 returns-4 c =
     let a = c .before .before .before .before .before in
     c .no-members3 .ensures ∙ fold-wrong (over (text a)) (a .loop .members) (a .loop .inv) (no-colon 14 (text a) (a .loop .i) (c .before .before .before .before .string-end .result) (c .before .before .before .before .string-end .ensures) (c .before .before .before .if3 .left) (c .before .before .colon-end .result) (c .before .before .colon-end .ensures) (c .before .if4 .taken))
 
-k-member-requires : tie.Need-k-member-requires Inv-loop μ-loop
-k-member-requires c κs = search needs
-
-no-members-requires-4 : tie.Need-no-members-requires-4 Inv-loop μ-loop
-no-members-requires-4 c κs = search needs
-
 returns-5 : tie.Need-returns-5 Inv-loop μ-loop
 returns-5 c =
     let m = c .before .before in
     c .no-members4 .ensures ∙ fold-wrong (over (text (at m))) (at m .loop .members) (at m .loop .inv) (none m (c .before .if5 .taken))
 
-comma-end-requires : tie.Need-comma-end-requires Inv-loop μ-loop
-comma-end-requires c κs = search needs
-
-object-close-end-requires-2 : tie.Need-object-close-end-requires-2 Inv-loop μ-loop
-object-close-end-requires-2 c κs = search needs
-
-no-members-requires-5 : tie.Need-no-members-requires-5 Inv-loop μ-loop
-no-members-requires-5 c κs = search needs
-
 returns-6 : tie.Need-returns-6 Inv-loop μ-loop
 returns-6 c =
     let m = c .before .before .before .before .before .before in
     c .no-members5 .ensures ∙ fold-broken (over (text (at m))) (at m .loop .members) (at m .loop .inv) (stands m (c .before .before .before .before .before .if5 .left)) (c .before .before .before .before .comma-end .result) (c .before .before .before .before .comma-end .ensures) (c .before .before .before .if6 .taken) (c .before .before .object-close-end2 .result) (c .before .before .object-close-end2 .ensures) (c .before .if7 .taken)
-
-closed-requires-2 : tie.Need-closed-requires-2 Inv-loop μ-loop
-closed-requires-2 c κs = search needs
 
 returns-7 : tie.Need-returns-7 Inv-loop μ-loop
 returns-7 c =
@@ -180,31 +132,31 @@ k-object-spec =
     (tie.spec
     Inv-loop
     μ-loop
-    byte-at-requires
-    value-end-requires
-    no-members-requires
+    (λ c κs. search needs)
+    (λ c κs. search needs)
+    (λ c κs. search needs)
     returns
     add-object-close-end
-    object-close-end-requires
-    closed-requires
+    (λ c κs. search needs)
+    (λ c κs. search needs)
     returns-2
     add-skip-blanks
-    skip-blanks-requires
+    (λ c κs. search needs)
     loop-holds
-    string-end-requires
-    no-members-requires-2
+    (λ c κs. search needs)
+    (λ c κs. search needs)
     returns-3
-    colon-end-requires
-    no-members-requires-3
+    (λ c κs. search needs)
+    (λ c κs. search needs)
     returns-4
-    k-member-requires
-    no-members-requires-4
+    (λ c κs. search needs)
+    (λ c κs. search needs)
     returns-5
-    comma-end-requires
-    object-close-end-requires-2
-    no-members-requires-5
+    (λ c κs. search needs)
+    (λ c κs. search needs)
+    (λ c κs. search needs)
     returns-6
-    closed-requires-2
+    (λ c κs. search needs)
     returns-7
     loop-less
     loop-again)

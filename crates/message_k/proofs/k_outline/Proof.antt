@@ -6,35 +6,11 @@ use borrow.Author.Needs.{needs}
 use Rattle.message_k.proofs.k_outline.Statement.{statement}
 use Rattle.message_k.proofs.k_outline.Tie as tie
 
-side-of-requires : tie.Need-side-of-requires
-side-of-requires c κs = search needs
-
-side-of-requires-2 : tie.Need-side-of-requires-2
-side-of-requires-2 c κs = search needs
-
-outline-of-requires : tie.Need-outline-of-requires
-outline-of-requires c κs = search needs
-
 returns : tie.Need-returns
 returns c = c .outline-of .ensures ∙ outline-snapshot (c .before .before .before .before .args .all) (c .before .before .before .before .args .update) (c .before .before .before .if1 .taken) (c .before .before .side-of .ensures) (c .before .side-of2 .ensures)
 
-both-requires : tie.Need-both-requires
-both-requires c κs = search needs
-
-side-of-requires-3 : tie.Need-side-of-requires-3
-side-of-requires-3 c κs = search needs
-
-side-of-requires-4 : tie.Need-side-of-requires-4
-side-of-requires-4 c κs = search needs
-
-outline-of-requires-2 : tie.Need-outline-of-requires-2
-outline-of-requires-2 c κs = search needs
-
 returns-2 : tie.Need-returns-2
 returns-2 c = c .outline-of2 .ensures ∙ outline-update (c .before .before .before .before .before .before .args .all) (c .before .before .before .before .before .before .args .update) (c .before .before .before .before .before .if1 .left) (sym (c .before .before .before .before .both .ensures) ∙ c .before .before .before .if2 .taken) (c .before .before .side-of3 .ensures) (c .before .side-of4 .ensures)
-
-no-outline-requires : tie.Need-no-outline-requires
-no-outline-requires c κs = search needs
 
 returns-3 : tie.Need-returns-3
 returns-3 c = c .no-outline .ensures ∙ outline-neither (c .before .before .before .before .args .all) (c .before .before .before .before .args .update) (c .before .before .before .if1 .left) (sym (c .before .before .both .ensures) ∙ c .before .if2 .left)
@@ -43,14 +19,14 @@ pub k-outline-spec : {M : Type 1} → statement M
 k-outline-spec =
     tie.close
     (tie.spec
-    side-of-requires
-    side-of-requires-2
-    outline-of-requires
+    (λ c κs. search needs)
+    (λ c κs. search needs)
+    (λ c κs. search needs)
     returns
-    both-requires
-    side-of-requires-3
-    side-of-requires-4
-    outline-of-requires-2
+    (λ c κs. search needs)
+    (λ c κs. search needs)
+    (λ c κs. search needs)
+    (λ c κs. search needs)
     returns-2
-    no-outline-requires
+    (λ c κs. search needs)
     returns-3)

@@ -50,12 +50,6 @@ module _ (c : tie.Joined2 Inv-loop μ-loop) where
   stands : (c .if2 .past ≡ 0 → ⊥) → Stands (element (value 15 (text at))) (text at) (at .loop .i) (record { from = at .loop .i; to = c .if2 .past }) (c .if2 .past)
   stands = element-stands 15 (text at) (at .loop .i) (c .if2 .past) (read .ends)
 
-array-close-end-requires : tie.Need-array-close-end-requires Inv-loop μ-loop
-array-close-end-requires c κs = search needs
-
-no-parts-requires : tie.Need-no-parts-requires Inv-loop μ-loop
-no-parts-requires c κs = search needs
-
 returns : tie.Need-returns Inv-loop μ-loop
 unfolding partsIn elements
 returns c =
@@ -63,33 +57,12 @@ returns c =
     let s = now (a .s) in
     c .no-parts .ensures ∙ fold-empty (over s) (noParts 0) (a .at) (c .before .before .array-close-end .result) (c .before .before .array-close-end .ensures) (λ z. let l = c .before .if1 .taken in omega arith)
 
-skip-blanks-requires : tie.Need-skip-blanks-requires Inv-loop μ-loop
-skip-blanks-requires c κs = search needs
-
-no-parts-requires-2 : tie.Need-no-parts-requires-2 Inv-loop μ-loop
-no-parts-requires-2 c κs = search needs
-
 loop-holds : tie.Need-loop-holds Inv-loop μ-loop
 unfolding partsIn elements
 loop-holds c =
     let a = c .before .before .before .before .before .args in
     let s = now (a .s) in
     rw (c .no-parts2 .ensures) (fold-start (over s) (noParts 0) (a .at) (c .before .before .before .array-close-end .result) (c .before .before .before .array-close-end .ensures) (omega arith) (c .before .skip-blanks .result) (c .before .skip-blanks .ensures))
-
-no-members-requires : tie.Need-no-members-requires Inv-loop μ-loop
-no-members-requires c κs = search needs
-
-k-object-requires : tie.Need-k-object-requires Inv-loop μ-loop
-k-object-requires c κs = search needs
-
-k-object-requires-2 : tie.Need-k-object-requires-2 Inv-loop μ-loop
-k-object-requires-2 c κs = search needs
-
-value-end-requires : tie.Need-value-end-requires Inv-loop μ-loop
-value-end-requires c κs = search needs
-
-no-parts-requires-3 : tie.Need-no-parts-requires-3 Inv-loop μ-loop
-no-parts-requires-3 c κs = search needs
 
 returns-2 : tie.Need-returns-2 Inv-loop μ-loop
 unfolding partsIn
@@ -101,15 +74,6 @@ pass-requires : tie.Need-pass-requires Inv-loop μ-loop
 pass-requires c κs =
     let m = c .before in
     step-value (text (at m)) (at m .loop .parts) (at m .loop .i) (read m) (c .if4 .left)
-
-comma-end-requires : tie.Need-comma-end-requires Inv-loop μ-loop
-comma-end-requires c κs = search needs
-
-array-close-end-requires-2 : tie.Need-array-close-end-requires-2 Inv-loop μ-loop
-array-close-end-requires-2 c κs = search needs
-
-no-parts-requires-4 : tie.Need-no-parts-requires-4 Inv-loop μ-loop
-no-parts-requires-4 c κs = search needs
 
 returns-3 : tie.Need-returns-3 Inv-loop μ-loop
 unfolding partsIn
@@ -140,22 +104,22 @@ k-parts-spec =
     (tie.spec
     Inv-loop
     μ-loop
-    array-close-end-requires
-    no-parts-requires
+    (λ c κs. search needs)
+    (λ c κs. search needs)
     returns
-    skip-blanks-requires
-    no-parts-requires-2
+    (λ c κs. search needs)
+    (λ c κs. search needs)
     loop-holds
-    no-members-requires
-    k-object-requires
-    k-object-requires-2
-    value-end-requires
-    no-parts-requires-3
+    (λ c κs. search needs)
+    (λ c κs. search needs)
+    (λ c κs. search needs)
+    (λ c κs. search needs)
+    (λ c κs. search needs)
     returns-2
     pass-requires
-    comma-end-requires
-    array-close-end-requires-2
-    no-parts-requires-4
+    (λ c κs. search needs)
+    (λ c κs. search needs)
+    (λ c κs. search needs)
     returns-3
     returns-4
     loop-less

@@ -7,21 +7,6 @@ use borrow.Author.Needs.{needs}
 use Rattle.message_k.proofs.one_object.Statement.{statement}
 use Rattle.message_k.proofs.one_object.Tie as tie
 
-no-members-requires : tie.Need-no-members-requires
-no-members-requires c κs = search needs
-
-has-more-requires : tie.Need-has-more-requires
-has-more-requires c κs = search needs
-
-is-update-requires : tie.Need-is-update-requires
-is-update-requires c κs = search needs
-
-is-snapshot-requires : tie.Need-is-snapshot-requires
-is-snapshot-requires c κs = search needs
-
-k-outline-requires : tie.Need-k-outline-requires
-k-outline-requires c κs = search needs
-
 returns : tie.Need-returns
 returns c =
     let a = c .before .before .before .before .before .before .before .args in
@@ -29,14 +14,8 @@ returns c =
     let u = c .before .before .is-update .ensures ∙ ap (λ h. updateBy h (c .before .before .before .before .no-members .result) (a .one)) (c .before .before .before .has-more .ensures) ∙ ap (λ t. updateBy (hasMore t (a .one)) t (a .one)) n in
     c .k-outline .ensures ∙ ap (λ x. outlineBy x (c .before .before .is-update .result) (a .one)) (c .before .is-snapshot .ensures) ∙ ap (λ x. outlineBy (snapshotBy (a .one)) x (a .one)) u ∙ one-is (a .whole) (a .one) (c .before .before .before .before .before .before .if1 .taken) (c .before .before .before .before .before .if2 .taken)
 
-no-outline-requires : tie.Need-no-outline-requires
-no-outline-requires c κs = search needs
-
 returns-2 : tie.Need-returns-2
 returns-2 c = c .no-outline .ensures ∙ one-no-object (c .before .before .before .args .whole) (c .before .before .before .args .one) (c .before .before .if1 .taken) (c .before .if2 .left)
-
-no-outline-requires-2 : tie.Need-no-outline-requires-2
-no-outline-requires-2 c κs = search needs
 
 returns-3 : tie.Need-returns-3
 returns-3 c = c .no-outline2 .ensures ∙ one-no-whole (c .before .before .args .whole) (c .before .before .args .one) (c .before .if1 .left)
@@ -45,13 +24,13 @@ pub one-object-spec : {M : Type 1} → statement M
 one-object-spec =
     tie.close
     (tie.spec
-    no-members-requires
-    has-more-requires
-    is-update-requires
-    is-snapshot-requires
-    k-outline-requires
+    (λ c κs. search needs)
+    (λ c κs. search needs)
+    (λ c κs. search needs)
+    (λ c κs. search needs)
+    (λ c κs. search needs)
     returns
-    no-outline-requires
+    (λ c κs. search needs)
     returns-2
-    no-outline-requires-2
+    (λ c κs. search needs)
     returns-3)

@@ -6,9 +6,6 @@ use borrow.Author.Needs.{needs}
 use Rattle.message_k.proofs.pass.Statement.{statement}
 use Rattle.message_k.proofs.pass.Tie as tie
 
-up-to-six-requires : tie.Need-up-to-six-requires
-up-to-six-requires c κs = search needs
-
 is-whole-requires : tie.Need-is-whole-requires
 is-whole-requires c κs = c .before .before .before .before .pre
 
@@ -19,4 +16,7 @@ returns-2 : tie.Need-returns-2
 returns-2 c = let a = c .before .before .before .before .args in outer-later (now (a .s)) (a .outer) (a .from) (a .to) (c .before .before .up-to-six .ensures) (c .if1 .left)
 
 pub pass-spec : {M : Type 1} → statement M
-pass-spec = tie.close (tie.spec up-to-six-requires is-whole-requires returns returns-2)
+pass-spec =
+    tie.close
+    (tie.spec
+    (λ c κs. search needs) is-whole-requires returns returns-2)

@@ -7,9 +7,6 @@ use borrow.Author.Needs.{needs}
 use Rattle.message_k.proofs.side_of.Statement.{statement}
 use Rattle.message_k.proofs.side_of.Tie as tie
 
-absent-entry-array-requires : tie.Need-absent-entry-array-requires
-absent-entry-array-requires c κs = search needs
-
 returns : tie.Need-returns
 unfolding sideOf
 returns c = c .absent-entry-array .ensures ∙ sym (rw (eq-eqb _ _ (c .before .if1 .taken), sideOf))
@@ -19,4 +16,4 @@ unfolding sideOf
 returns-2 c = sym (rw (ne-eqb _ _ (c .before .if1 .left), sideOf))
 
 pub side-of-spec : {M : Type 1} → statement M
-side-of-spec = tie.close (tie.spec absent-entry-array-requires returns returns-2)
+side-of-spec = tie.close (tie.spec (λ c κs. search needs) returns returns-2)

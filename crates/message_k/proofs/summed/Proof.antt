@@ -11,12 +11,6 @@ use borrow.Author.Needs.{needs}
 use Rattle.message_k.proofs.summed.Statement.{statement}
 use Rattle.message_k.proofs.summed.Tie as tie
 
-with-member-span-requires : tie.Need-with-member-span-requires
-with-member-span-requires c κs = search needs
-
-byte-at-requires : tie.Need-byte-at-requires
-byte-at-requires c κs = search needs
-
 returns : tie.Need-returns
 returns c = let a = c .before .before .before .before .before .args in sum-other (now (a .s)) (a .from) (a .to) (a .sum) (c .before .before .with-member-span .ensures) (λ h. c .if1 .taken (c .before .byte-at .ensures ∙ h))
 
@@ -34,15 +28,6 @@ part-parse-checksum-start c = let a = c .before .before .before .before .before 
 
 part-parse-checksum-end : tie.Need-part-parse-checksum-end
 part-parse-checksum-end c = let a = c .before .before .before .before .before .args in let v = c .before .before .before .before .before .pre in let q = quoted-room 14 (now (a .s)) (a .from) (a .to) v (sym (c .before .byte-at .ensures) ∙ c .if1 .left) in omega arith
-
-parse-checksum-requires : tie.Need-parse-checksum-requires
-parse-checksum-requires c κs = search needs
-
-enum-known-n : tie.Need-enum-known-n
-enum-known-n c = search needs
-
-enum-told : tie.Need-enum-told
-enum-told c = search needs
 
 returns-2 : tie.Need-returns-2
 unfolding isRead orZero
@@ -62,16 +47,16 @@ pub summed-spec : {M : Type 1} → statement M
 summed-spec =
     tie.close
     (tie.spec
-    with-member-span-requires
-    byte-at-requires
+    (λ c κs. search needs)
+    (λ c κs. search needs)
     returns
     add-first
     sub-last
     sub-parse-checksum
     part-parse-checksum-start
     part-parse-checksum-end
-    parse-checksum-requires
-    enum-known-n
-    enum-told
+    (λ c κs. search needs)
+    (λ c. search needs)
+    (λ c. search needs)
     returns-2
     returns-3)

@@ -8,39 +8,12 @@ use borrow.Author.Needs.{needs}
 use Rattle.message_k.proofs.two_objects.Statement.{statement}
 use Rattle.message_k.proofs.two_objects.Tie as tie
 
-both-requires : tie.Need-both-requires
-both-requires c κs = search needs
-
-both-requires-2 : tie.Need-both-requires-2
-both-requires-2 c κs = search needs
-
-no-members-requires : tie.Need-no-members-requires
-no-members-requires c κs = search needs
-
-has-more-requires : tie.Need-has-more-requires
-has-more-requires c κs = search needs
-
-has-more-requires-2 : tie.Need-has-more-requires-2
-has-more-requires-2 c κs = search needs
-
-both-requires-3 : tie.Need-both-requires-3
-both-requires-3 c κs = search needs
-
-is-update-requires : tie.Need-is-update-requires
-is-update-requires c κs = search needs
-
-k-outline-requires : tie.Need-k-outline-requires
-k-outline-requires c κs = search needs
-
 returns : tie.Need-returns
 returns c =
     let a = c .before .before .before .before .before .before .before .before .before .args in
     let g = c .before .before .before .before .before .before .before .both2 .ensures ∙ ap (λ x. a .whole && x) (c .before .before .before .before .before .before .before .before .both .ensures) in
     let e = c .before .before .both3 .ensures ∙ ap (λ x. x && (c .before .before .before .has-more2 .result)) (c .before .before .before .before .has-more .ensures ∙ ap (λ t. hasMore t (a .one)) (c .before .before .before .before .before .no-members .ensures)) ∙ ap (λ x. hasMore (noMembers 0) (a .one) && x) (c .before .before .before .has-more2 .ensures) in
     c .k-outline .ensures ∙ ap (λ x. outlineBy false x (a .two)) (c .before .is-update .ensures ∙ ap (λ x. updateBy x (a .one) (a .two)) e) ∙ two-is (a .whole) (a .one) (a .two) (sym g ∙ c .before .before .before .before .before .before .if1 .taken)
-
-no-outline-requires : tie.Need-no-outline-requires
-no-outline-requires c κs = search needs
 
 returns-2 : tie.Need-returns-2
 returns-2 c =
@@ -52,14 +25,14 @@ pub two-objects-spec : {M : Type 1} → statement M
 two-objects-spec =
     tie.close
     (tie.spec
-    both-requires
-    both-requires-2
-    no-members-requires
-    has-more-requires
-    has-more-requires-2
-    both-requires-3
-    is-update-requires
-    k-outline-requires
+    (λ c κs. search needs)
+    (λ c κs. search needs)
+    (λ c κs. search needs)
+    (λ c κs. search needs)
+    (λ c κs. search needs)
+    (λ c κs. search needs)
+    (λ c κs. search needs)
+    (λ c κs. search needs)
     returns
-    no-outline-requires
+    (λ c κs. search needs)
     returns-2)

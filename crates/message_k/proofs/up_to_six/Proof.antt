@@ -7,9 +7,6 @@ use borrow.Author.Needs.{needs}
 use Rattle.message_k.proofs.up_to_six.Statement.{statement}
 use Rattle.message_k.proofs.up_to_six.Tie as tie
 
-add-result : tie.Need-add-result
-add-result c = search needs
-
 returns : tie.Need-returns
 unfolding upToSix
 returns c = sym (rw (le-leb _ _ (c .if1 .taken), upToSix))
@@ -19,4 +16,4 @@ unfolding upToSix
 returns-2 c = sym (rw (lt-leb _ _ (c .if1 .left), upToSix))
 
 pub up-to-six-spec : {M : Type 1} → statement M
-up-to-six-spec = tie.close (tie.spec add-result returns returns-2)
+up-to-six-spec = tie.close (tie.spec (λ c. search needs) returns returns-2)

@@ -9,9 +9,6 @@ use borrow.Author.Needs.{needs}
 use Rattle.message_k.proofs.with_checksum.Statement.{statement}
 use Rattle.message_k.proofs.with_checksum.Tie as tie
 
-value-end-requires : tie.Need-value-end-requires
-value-end-requires c κs = search needs
-
 returns : tie.Need-returns
 returns c = let a = c .before .before .before .args in sum-none (now (a .s)) (a .members) (a .from) (c .before .value-end .result) (c .before .value-end .ensures) (c .if1 .taken) _ refl
 
@@ -22,4 +19,7 @@ returns-2 : tie.Need-returns-2
 returns-2 c = let a = c .before .before .before .before .args in sum-told (now (a .s)) (a .members) (a .from) (c .before .before .value-end .result) (c .before .before .value-end .ensures) (c .summed .result) (c .summed .ensures)
 
 pub with-checksum-spec : {M : Type 1} → statement M
-with-checksum-spec = tie.close (tie.spec value-end-requires returns summed-requires returns-2)
+with-checksum-spec =
+    tie.close
+    (tie.spec
+    (λ c κs. search needs) returns summed-requires returns-2)

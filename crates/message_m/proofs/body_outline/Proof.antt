@@ -9,23 +9,11 @@ use borrow.Author.Needs.{needs}
 use Rattle.message_m.proofs.body_outline.Statement.{statement}
 use Rattle.message_m.proofs.body_outline.Tie as tie
 
-no-outline-requires : tie.Need-no-outline-requires
-no-outline-requires c κs = search needs
-
 returns : tie.Need-returns
 returns c =
     let a = c .before .before .before .before .before .before .args in
     let s = now (a .s) in
     c .no-outline .ensures ∙ body-not-once s (a .snapshot) (a .met) (c .before .if1 .taken)
-
-once-listed-requires : tie.Need-once-listed-requires
-once-listed-requires c κs = search needs
-
-once-listed-requires-2 : tie.Need-once-listed-requires-2
-once-listed-requires-2 c κs = search needs
-
-numbers-outline-requires : tie.Need-numbers-outline-requires
-numbers-outline-requires c κs = search needs
 
 returns-2 : tie.Need-returns-2
 returns-2 c =
@@ -39,9 +27,9 @@ pub body-outline-spec : {M : Type 1} → statement M
 body-outline-spec =
     tie.close
     (tie.spec
-    no-outline-requires
+    (λ c κs. search needs)
     returns
-    once-listed-requires
-    once-listed-requires-2
-    numbers-outline-requires
+    (λ c κs. search needs)
+    (λ c κs. search needs)
+    (λ c κs. search needs)
     returns-2)

@@ -15,18 +15,6 @@ returns c =
     let s = now (a .s) in
     sym (then-no (a .mark) (checksumAt s) (c .if1 .taken))
 
-sub-parse-checksum : tie.Need-sub-parse-checksum
-sub-parse-checksum c = search needs
-
-part-parse-checksum-start : tie.Need-part-parse-checksum-start
-part-parse-checksum-start c = search needs
-
-part-parse-checksum-end : tie.Need-part-parse-checksum-end
-part-parse-checksum-end c = search needs
-
-parse-checksum-requires : tie.Need-parse-checksum-requires
-parse-checksum-requires c κs = search needs
-
 returns-2 : tie.Need-returns-2
 unfolding checksumAt part
 returns-2 c =
@@ -39,8 +27,8 @@ checksum-of-spec =
     tie.close
     (tie.spec
     returns
-    sub-parse-checksum
-    part-parse-checksum-start
-    part-parse-checksum-end
-    parse-checksum-requires
+    (λ c. search needs)
+    (λ c. search needs)
+    (λ c. search needs)
+    (λ c κs. search needs)
     returns-2)

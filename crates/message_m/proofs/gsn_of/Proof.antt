@@ -15,18 +15,6 @@ returns c =
     let s = now (a .s) in
     sym (then-no (a .mark) (wholeAt s) (c .if1 .taken))
 
-sub-parse-whole : tie.Need-sub-parse-whole
-sub-parse-whole c = search needs
-
-part-parse-whole-start : tie.Need-part-parse-whole-start
-part-parse-whole-start c = search needs
-
-part-parse-whole-end : tie.Need-part-parse-whole-end
-part-parse-whole-end c = search needs
-
-parse-whole-requires : tie.Need-parse-whole-requires
-parse-whole-requires c κs = search needs
-
 returns-2 : tie.Need-returns-2
 unfolding wholeAt part
 returns-2 c =
@@ -39,8 +27,8 @@ gsn-of-spec =
     tie.close
     (tie.spec
     returns
-    sub-parse-whole
-    part-parse-whole-start
-    part-parse-whole-end
-    parse-whole-requires
+    (λ c. search needs)
+    (λ c. search needs)
+    (λ c. search needs)
+    (λ c κs. search needs)
     returns-2)

@@ -10,9 +10,6 @@ use borrow.Author.Needs.{needs}
 use Rattle.message_m.proofs.is_book.Statement.{statement}
 use Rattle.message_m.proofs.is_book.Tie as tie
 
-is-short-name-requires : tie.Need-is-short-name-requires
-is-short-name-requires c κs = search needs
-
 returns : tie.Need-returns
 returns c =
     let a = c .before .before .before .args in
@@ -29,4 +26,4 @@ returns-2 c =
     and-no (means s v (ascii "book")) (a .key) 1 (c .if1 .left)
 
 pub is-book-spec : {M : Type 1} → statement M
-is-book-spec = tie.close (tie.spec is-short-name-requires returns returns-2)
+is-book-spec = tie.close (tie.spec (λ c κs. search needs) returns returns-2)

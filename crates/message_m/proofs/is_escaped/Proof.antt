@@ -9,9 +9,6 @@ use borrow.Author.Needs.{needs}
 use Rattle.message_m.proofs.is_escaped.Statement.{statement}
 use Rattle.message_m.proofs.is_escaped.Tie as tie
 
-string-escaped-requires : tie.Need-string-escaped-requires
-string-escaped-requires c κs = search needs
-
 returns : tie.Need-returns
 returns c =
     let a = c .before .before .before .args in
@@ -19,18 +16,12 @@ returns c =
     let v : Span = record { from = a .from; to = a .to } in
     c .string-escaped .ensures ∙ escaped-channel s (record { from = a .first; to = a .past }) (isEscaped s v) (a .key) (c .before .before .before .pre) (c .before .if1 .taken)
 
-string-escaped-requires-2 : tie.Need-string-escaped-requires-2
-string-escaped-requires-2 c κs = search needs
-
 returns-2 : tie.Need-returns-2
 returns-2 c =
     let a = c .before .before .before .before .args in
     let s = now (a .s) in
     let v : Span = record { from = a .from; to = a .to } in
     c .string-escaped2 .ensures ∙ escaped-product s (record { from = a .first; to = a .past }) (isEscaped s v) (a .key) (c .before .before .before .before .pre) (c .before .before .if1 .left) (c .before .if2 .taken)
-
-has-backslash-requires : tie.Need-has-backslash-requires
-has-backslash-requires c κs = search needs
 
 returns-3 : tie.Need-returns-3
 returns-3 c =
@@ -50,10 +41,10 @@ pub is-escaped-spec : {M : Type 1} → statement M
 is-escaped-spec =
     tie.close
     (tie.spec
-    string-escaped-requires
+    (λ c κs. search needs)
     returns
-    string-escaped-requires-2
+    (λ c κs. search needs)
     returns-2
-    has-backslash-requires
+    (λ c κs. search needs)
     returns-3
     returns-4)

@@ -9,9 +9,6 @@ use borrow.Author.Needs.{needs}
 use Rattle.message_m.proofs.is_product.Statement.{statement}
 use Rattle.message_m.proofs.is_product.Tie as tie
 
-is-name-requires : tie.Need-is-name-requires
-is-name-requires c κs = search needs
-
 returns : tie.Need-returns
 returns c =
     let a = c .before .before .before .before .args in
@@ -27,4 +24,4 @@ returns-2 c =
     and-no (means s v (now (a .name))) (a .key) 2 (c .if1 .left)
 
 pub is-product-spec : {M : Type 1} → statement M
-is-product-spec = tie.close (tie.spec is-name-requires returns returns-2)
+is-product-spec = tie.close (tie.spec (λ c κs. search needs) returns returns-2)

@@ -7,18 +7,12 @@ use borrow.Author.Needs.{needs}
 use Rattle.message_m.proofs.key_of.Statement.{statement}
 use Rattle.message_m.proofs.key_of.Tie as tie
 
-is-short-name-requires : tie.Need-is-short-name-requires
-is-short-name-requires c κs = search needs
-
 returns : tie.Need-returns
 returns c =
     let a = c .before .before .before .args in
     let s = now (a .s) in
     let v : Span = record { from = a .from; to = a .to } in
     key-channel s v (named s v channel-name (c .before .is-short-name .ensures) (c .if1 .taken))
-
-is-short-name-requires-2 : tie.Need-is-short-name-requires-2
-is-short-name-requires-2 c κs = search needs
 
 returns-2 : tie.Need-returns-2
 returns-2 c =
@@ -27,18 +21,12 @@ returns-2 c =
     let v : Span = record { from = a .from; to = a .to } in
     key-product s v (named s v channel-name (c .before .before .before .is-short-name .ensures) (c .before .before .if1 .left)) (named s v product-name (c .before .is-short-name2 .ensures) (c .if2 .taken))
 
-is-short-name-requires-3 : tie.Need-is-short-name-requires-3
-is-short-name-requires-3 c κs = search needs
-
 returns-3 : tie.Need-returns-3
 returns-3 c =
     let a = c .before .before .before .before .before .before .before .args in
     let s = now (a .s) in
     let v : Span = record { from = a .from; to = a .to } in
     key-type s v (named s v channel-name (c .before .before .before .before .before .is-short-name .ensures) (c .before .before .before .before .if1 .left)) (named s v product-name (c .before .before .before .is-short-name2 .ensures) (c .before .before .if2 .left)) (named s v type-name (c .before .is-short-name3 .ensures) (c .if3 .taken))
-
-is-short-name-requires-4 : tie.Need-is-short-name-requires-4
-is-short-name-requires-4 c κs = search needs
 
 returns-4 : tie.Need-returns-4
 returns-4 c =
@@ -47,18 +35,12 @@ returns-4 c =
     let v : Span = record { from = a .from; to = a .to } in
     key-data s v (named s v channel-name (c .before .before .before .before .before .before .before .is-short-name .ensures) (c .before .before .before .before .before .before .if1 .left)) (named s v product-name (c .before .before .before .before .before .is-short-name2 .ensures) (c .before .before .before .before .if2 .left)) (named s v type-name (c .before .before .before .is-short-name3 .ensures) (c .before .before .if3 .left)) (named s v data-name (c .before .is-short-name4 .ensures) (c .if4 .taken))
 
-is-short-name-requires-5 : tie.Need-is-short-name-requires-5
-is-short-name-requires-5 c κs = search needs
-
 returns-5 : tie.Need-returns-5
 returns-5 c =
     let a = c .before .before .before .before .before .before .before .before .before .before .before .args in
     let s = now (a .s) in
     let v : Span = record { from = a .from; to = a .to } in
     key-checksum s v (named s v channel-name (c .before .before .before .before .before .before .before .before .before .is-short-name .ensures) (c .before .before .before .before .before .before .before .before .if1 .left)) (named s v product-name (c .before .before .before .before .before .before .before .is-short-name2 .ensures) (c .before .before .before .before .before .before .if2 .left)) (named s v type-name (c .before .before .before .before .before .is-short-name3 .ensures) (c .before .before .before .before .if3 .left)) (named s v data-name (c .before .before .before .is-short-name4 .ensures) (c .before .before .if4 .left)) (named s v checksum-name (c .before .is-short-name5 .ensures) (c .if5 .taken))
-
-is-short-name-requires-6 : tie.Need-is-short-name-requires-6
-is-short-name-requires-6 c κs = search needs
 
 returns-6 : tie.Need-returns-6
 returns-6 c =
@@ -78,16 +60,16 @@ pub key-of-spec : {M : Type 1} → statement M
 key-of-spec =
     tie.close
     (tie.spec
-    is-short-name-requires
+    (λ c κs. search needs)
     returns
-    is-short-name-requires-2
+    (λ c κs. search needs)
     returns-2
-    is-short-name-requires-3
+    (λ c κs. search needs)
     returns-3
-    is-short-name-requires-4
+    (λ c κs. search needs)
     returns-4
-    is-short-name-requires-5
+    (λ c κs. search needs)
     returns-5
-    is-short-name-requires-6
+    (λ c κs. search needs)
     returns-6
     returns-7)

@@ -56,15 +56,6 @@ module _ (c : tie.After-more-data Inv-loop μ-loop) where
   steps : next ≡ moreData (text at) (at .loop .met) here
   steps = next-is (moreData (text at)) (λ (d : Data). d .end) (data-ends (text at)) 14 (text at) (at .loop .met) (at .loop .i) (c .before .before .before .before .string-end .result) (c .before .before .colon-end .result) next (c .more-data .ensures)
 
-byte-at-requires : tie.Need-byte-at-requires Inv-loop μ-loop
-byte-at-requires c κs = search needs
-
-value-end-requires : tie.Need-value-end-requires Inv-loop μ-loop
-value-end-requires c κs = search needs
-
-no-data-requires : tie.Need-no-data-requires Inv-loop μ-loop
-no-data-requires c κs = search needs
-
 returns : tie.Need-returns Inv-loop μ-loop
 returns c =
     let a = c .before .before .before .before .before .args in
@@ -77,12 +68,6 @@ add-object-close-end c =
     let s = now (a .s) in
     let l = in-byte s (a .at) 123 (omega arith) (sym (c .before .byte-at .ensures) ∙ c .if1 .left) in
     omega arith
-
-object-close-end-requires : tie.Need-object-close-end-requires Inv-loop μ-loop
-object-close-end-requires c κs = search needs
-
-no-data-requires-2 : tie.Need-no-data-requires-2 Inv-loop μ-loop
-no-data-requires-2 c κs = search needs
 
 returns-2 : tie.Need-returns-2 Inv-loop μ-loop
 returns-2 c =
@@ -98,12 +83,6 @@ add-skip-blanks c =
     let l = in-byte s (a .at) 123 (omega arith) (sym (c .before .before .before .byte-at .ensures) ∙ c .before .before .if1 .left) in
     omega arith
 
-skip-blanks-requires : tie.Need-skip-blanks-requires Inv-loop μ-loop
-skip-blanks-requires c κs = search needs
-
-no-data-requires-3 : tie.Need-no-data-requires-3 Inv-loop μ-loop
-no-data-requires-3 c κs = search needs
-
 loop-holds : tie.Need-loop-holds Inv-loop μ-loop
 loop-holds c =
     let a = c .before .before .before .before .before .before .before .args in
@@ -112,55 +91,25 @@ loop-holds c =
     let w = data-start s (a .at) o (c .before .before .before .object-close-end .result) (c .before .before .before .object-close-end .ensures) (omega arith) (c .before .skip-blanks .result) (c .before .skip-blanks .ensures) in
     rw (c .no-data3 .ensures) w
 
-string-end-requires : tie.Need-string-end-requires Inv-loop μ-loop
-string-end-requires c κs = search needs
-
-no-data-requires-4 : tie.Need-no-data-requires-4 Inv-loop μ-loop
-no-data-requires-4 c κs = search needs
-
 returns-3 : tie.Need-returns-3 Inv-loop μ-loop
 returns-3 c =
     let a = c .before .before .before in
     c .no-data4 .ensures ∙ fold-wrong (dataLoop (text a)) (a .loop .met) (a .loop .inv) (no-name 14 (text a) (a .loop .i) (c .before .before .string-end .result) (c .before .before .string-end .ensures) (c .before .if3 .taken))
-
-colon-end-requires : tie.Need-colon-end-requires Inv-loop μ-loop
-colon-end-requires c κs = search needs
-
-no-data-requires-5 : tie.Need-no-data-requires-5 Inv-loop μ-loop
-no-data-requires-5 c κs = search needs
 
 returns-4 : tie.Need-returns-4 Inv-loop μ-loop
 returns-4 c =
     let a = c .before .before .before .before .before in
     c .no-data5 .ensures ∙ fold-wrong (dataLoop (text a)) (a .loop .met) (a .loop .inv) (no-colon 14 (text a) (a .loop .i) (c .before .before .before .before .string-end .result) (c .before .before .before .before .string-end .ensures) (c .before .before .before .if3 .left) (c .before .before .colon-end .result) (c .before .before .colon-end .ensures) (c .before .if4 .taken))
 
-more-data-requires : tie.Need-more-data-requires Inv-loop μ-loop
-more-data-requires c κs = search needs
-
-no-data-requires-6 : tie.Need-no-data-requires-6 Inv-loop μ-loop
-no-data-requires-6 c κs = search needs
-
 returns-5 : tie.Need-returns-5 Inv-loop μ-loop
 returns-5 c =
     let m = c .before .before in
     c .no-data6 .ensures ∙ fold-wrong (dataLoop (text (at m))) (at m .loop .met) (at m .loop .inv) (none m (c .before .if5 .taken))
 
-comma-end-requires : tie.Need-comma-end-requires Inv-loop μ-loop
-comma-end-requires c κs = search needs
-
-object-close-end-requires-2 : tie.Need-object-close-end-requires-2 Inv-loop μ-loop
-object-close-end-requires-2 c κs = search needs
-
-no-data-requires-7 : tie.Need-no-data-requires-7 Inv-loop μ-loop
-no-data-requires-7 c κs = search needs
-
 returns-6 : tie.Need-returns-6 Inv-loop μ-loop
 returns-6 c =
     let m = c .before .before .before .before .before .before in
     c .no-data7 .ensures ∙ fold-broken (dataLoop (text (at m))) (at m .loop .met) (at m .loop .inv) (stands m (c .before .before .before .before .before .if5 .left)) (c .before .before .before .before .comma-end .result) (c .before .before .before .before .comma-end .ensures) (c .before .before .before .if6 .taken) (c .before .before .object-close-end2 .result) (c .before .before .object-close-end2 .ensures) (c .before .if7 .taken)
-
-data-end-requires : tie.Need-data-end-requires Inv-loop μ-loop
-data-end-requires c κs = search needs
 
 returns-7 : tie.Need-returns-7 Inv-loop μ-loop
 returns-7 c =
@@ -184,32 +133,32 @@ m-data-spec =
     (tie.spec
     Inv-loop
     μ-loop
-    byte-at-requires
-    value-end-requires
-    no-data-requires
+    (λ c κs. search needs)
+    (λ c κs. search needs)
+    (λ c κs. search needs)
     returns
     add-object-close-end
-    object-close-end-requires
-    no-data-requires-2
+    (λ c κs. search needs)
+    (λ c κs. search needs)
     returns-2
     add-skip-blanks
-    skip-blanks-requires
-    no-data-requires-3
+    (λ c κs. search needs)
+    (λ c κs. search needs)
     loop-holds
-    string-end-requires
-    no-data-requires-4
+    (λ c κs. search needs)
+    (λ c κs. search needs)
     returns-3
-    colon-end-requires
-    no-data-requires-5
+    (λ c κs. search needs)
+    (λ c κs. search needs)
     returns-4
-    more-data-requires
-    no-data-requires-6
+    (λ c κs. search needs)
+    (λ c κs. search needs)
     returns-5
-    comma-end-requires
-    object-close-end-requires-2
-    no-data-requires-7
+    (λ c κs. search needs)
+    (λ c κs. search needs)
+    (λ c κs. search needs)
     returns-6
-    data-end-requires
+    (λ c κs. search needs)
     returns-7
     loop-less
     loop-again)

@@ -68,15 +68,6 @@ module _ (c : tie.After-more-members Inv-loop μ-loop) where
       let l : c .before .before .colon-end .result ≤ next .body .end = let x = b .2 in omega arith in
       marked-more (product at) (text at) (at .loop .met) (here .name) 15 (c .before .before .colon-end .result) (next .body .end) next (c .more-members .ensures) refl l (b .3) (at .loop .inv .1)
 
-byte-at-requires : tie.Need-byte-at-requires Inv-loop μ-loop
-byte-at-requires c κs = search needs
-
-value-end-requires : tie.Need-value-end-requires Inv-loop μ-loop
-value-end-requires c κs = search needs
-
-not-framed-requires : tie.Need-not-framed-requires Inv-loop μ-loop
-not-framed-requires c κs = search needs
-
 returns : tie.Need-returns Inv-loop μ-loop
 returns c =
     let a = c .before .before .before .before .before .before .args in
@@ -89,12 +80,6 @@ add-object-close-end c =
     let s = now (a .s) in
     let l = in-byte s (a .at) 123 (omega arith) (sym (c .before .byte-at .ensures) ∙ c .if1 .left) in
     omega arith
-
-object-close-end-requires : tie.Need-object-close-end-requires Inv-loop μ-loop
-object-close-end-requires c κs = search needs
-
-no-members-requires : tie.Need-no-members-requires Inv-loop μ-loop
-no-members-requires c κs = search needs
 
 scan-requires : tie.Need-scan-requires Inv-loop μ-loop
 scan-requires c κs =
@@ -116,12 +101,6 @@ add-skip-blanks c =
     let l = in-byte s (a .at) 123 (omega arith) (sym (c .before .before .before .byte-at .ensures) ∙ c .before .before .if1 .left) in
     omega arith
 
-skip-blanks-requires : tie.Need-skip-blanks-requires Inv-loop μ-loop
-skip-blanks-requires c κs = search needs
-
-no-members-requires-2 : tie.Need-no-members-requires-2 Inv-loop μ-loop
-no-members-requires-2 c κs = search needs
-
 loop-holds : tie.Need-loop-holds Inv-loop μ-loop
 loop-holds c =
     let a = c .before .before .before .before .before .before .before .before .args in
@@ -130,47 +109,20 @@ loop-holds c =
     let w = told-start (now (a .name)) s (a .at) o (c .before .before .before .object-close-end .result) (c .before .before .before .object-close-end .ensures) (omega arith) (c .before .skip-blanks .result) (c .before .skip-blanks .ensures) in
     rw (c .no-members2 .ensures) (w, unmarked-placed s)
 
-string-end-requires : tie.Need-string-end-requires Inv-loop μ-loop
-string-end-requires c κs = search needs
-
-not-framed-requires-2 : tie.Need-not-framed-requires-2 Inv-loop μ-loop
-not-framed-requires-2 c κs = search needs
-
 returns-3 : tie.Need-returns-3 Inv-loop μ-loop
 returns-3 c =
     let a = c .before .before .before in
     c .not-framed2 .ensures ∙ fold-wrong (messageLoop (product a) (text a)) (a .loop .met) (a .loop .inv .0) (no-name 15 (text a) (a .loop .i) (c .before .before .string-end .result) (c .before .before .string-end .ensures) (c .before .if3 .taken))
-
-colon-end-requires : tie.Need-colon-end-requires Inv-loop μ-loop
-colon-end-requires c κs = search needs
-
-not-framed-requires-3 : tie.Need-not-framed-requires-3 Inv-loop μ-loop
-not-framed-requires-3 c κs = search needs
 
 returns-4 : tie.Need-returns-4 Inv-loop μ-loop
 returns-4 c =
     let a = c .before .before .before .before .before in
     c .not-framed3 .ensures ∙ fold-wrong (messageLoop (product a) (text a)) (a .loop .met) (a .loop .inv .0) (no-colon 15 (text a) (a .loop .i) (c .before .before .before .before .string-end .result) (c .before .before .before .before .string-end .ensures) (c .before .before .before .if3 .left) (c .before .before .colon-end .result) (c .before .before .colon-end .ensures) (c .before .if4 .taken))
 
-more-members-requires : tie.Need-more-members-requires Inv-loop μ-loop
-more-members-requires c κs = search needs
-
-not-framed-requires-4 : tie.Need-not-framed-requires-4 Inv-loop μ-loop
-not-framed-requires-4 c κs = search needs
-
 returns-5 : tie.Need-returns-5 Inv-loop μ-loop
 returns-5 c =
     let m = c .before .before in
     c .not-framed4 .ensures ∙ fold-wrong (messageLoop (product (at m)) (text (at m))) (at m .loop .met) (at m .loop .inv .0) (none m (c .before .if5 .taken))
-
-comma-end-requires : tie.Need-comma-end-requires Inv-loop μ-loop
-comma-end-requires c κs = search needs
-
-object-close-end-requires-2 : tie.Need-object-close-end-requires-2 Inv-loop μ-loop
-object-close-end-requires-2 c κs = search needs
-
-not-framed-requires-5 : tie.Need-not-framed-requires-5 Inv-loop μ-loop
-not-framed-requires-5 c κs = search needs
 
 returns-6 : tie.Need-returns-6 Inv-loop μ-loop
 returns-6 c =
@@ -203,31 +155,31 @@ m-message-spec =
     (tie.spec
     Inv-loop
     μ-loop
-    byte-at-requires
-    value-end-requires
-    not-framed-requires
+    (λ c κs. search needs)
+    (λ c κs. search needs)
+    (λ c κs. search needs)
     returns
     add-object-close-end
-    object-close-end-requires
-    no-members-requires
+    (λ c κs. search needs)
+    (λ c κs. search needs)
     scan-requires
     returns-2
     add-skip-blanks
-    skip-blanks-requires
-    no-members-requires-2
+    (λ c κs. search needs)
+    (λ c κs. search needs)
     loop-holds
-    string-end-requires
-    not-framed-requires-2
+    (λ c κs. search needs)
+    (λ c κs. search needs)
     returns-3
-    colon-end-requires
-    not-framed-requires-3
+    (λ c κs. search needs)
+    (λ c κs. search needs)
     returns-4
-    more-members-requires
-    not-framed-requires-4
+    (λ c κs. search needs)
+    (λ c κs. search needs)
     returns-5
-    comma-end-requires
-    object-close-end-requires-2
-    not-framed-requires-5
+    (λ c κs. search needs)
+    (λ c κs. search needs)
+    (λ c κs. search needs)
     returns-6
     scan-requires-2
     returns-7

@@ -8,17 +8,11 @@ use borrow.Author.Needs.{needs}
 use Rattle.message_m.proofs.m_outline.Statement.{statement}
 use Rattle.message_m.proofs.m_outline.Tie as tie
 
-no-outline-requires : tie.Need-no-outline-requires
-no-outline-requires c κs = search needs
-
 returns : tie.Need-returns
 returns c =
     let a = c .before .before .before .before .before .before .before .args in
     let s = now (a .s) in
     c .no-outline .ensures ∙ outline-no-channel s (a .met) (c .before .if1 .taken)
-
-no-outline-requires-2 : tie.Need-no-outline-requires-2
-no-outline-requires-2 c κs = search needs
 
 returns-2 : tie.Need-returns-2
 returns-2 c =
@@ -26,20 +20,11 @@ returns-2 c =
     let s = now (a .s) in
     c .no-outline2 .ensures ∙ outline-no-product s (a .met) (c .before .before .before .if1 .left) (c .before .if2 .taken)
 
-no-outline-requires-3 : tie.Need-no-outline-requires-3
-no-outline-requires-3 c κs = search needs
-
 returns-3 : tie.Need-returns-3
 returns-3 c =
     let a = c .before .before .before .before .before .before .before .before .before .before .before .args in
     let s = now (a .s) in
     c .no-outline3 .ensures ∙ outline-no-type s (a .met) (c .before .before .before .before .before .if1 .left) (c .before .before .before .if2 .left) (c .before .if3 .taken)
-
-is-short-name-requires : tie.Need-is-short-name-requires
-is-short-name-requires c κs = search needs
-
-body-outline-requires : tie.Need-body-outline-requires
-body-outline-requires c κs = search needs
 
 returns-4 : tie.Need-returns-4
 returns-4 c =
@@ -48,21 +33,12 @@ returns-4 c =
     let k = placeOf (a .met .kind) in
     c .body-outline .ensures ∙ outline-snapshot s (a .met) (c .before .before .before .before .before .before .before .if1 .left) (c .before .before .before .before .before .if2 .left) (c .before .before .before .if3 .left) (named s k snapshot-name (c .before .before .is-short-name .ensures) (c .before .if4 .taken))
 
-is-short-name-requires-2 : tie.Need-is-short-name-requires-2
-is-short-name-requires-2 c κs = search needs
-
-body-outline-requires-2 : tie.Need-body-outline-requires-2
-body-outline-requires-2 c κs = search needs
-
 returns-5 : tie.Need-returns-5
 returns-5 c =
     let a = c .before .before .before .before .before .before .before .before .before .before .before .before .before .before .before .args in
     let s = now (a .s) in
     let k = placeOf (a .met .kind) in
     c .body-outline2 .ensures ∙ outline-update s (a .met) (c .before .before .before .before .before .before .before .before .before .if1 .left) (c .before .before .before .before .before .before .before .if2 .left) (c .before .before .before .before .before .if3 .left) (named s k snapshot-name (c .before .before .before .before .is-short-name .ensures) (c .before .before .before .if4 .left)) (named s k update-name (c .before .before .is-short-name2 .ensures) (c .before .if5 .taken))
-
-no-outline-requires-4 : tie.Need-no-outline-requires-4
-no-outline-requires-4 c κs = search needs
 
 returns-6 : tie.Need-returns-6
 returns-6 c =
@@ -75,17 +51,17 @@ pub m-outline-spec : {M : Type 1} → statement M
 m-outline-spec =
     tie.close
     (tie.spec
-    no-outline-requires
+    (λ c κs. search needs)
     returns
-    no-outline-requires-2
+    (λ c κs. search needs)
     returns-2
-    no-outline-requires-3
+    (λ c κs. search needs)
     returns-3
-    is-short-name-requires
-    body-outline-requires
+    (λ c κs. search needs)
+    (λ c κs. search needs)
     returns-4
-    is-short-name-requires-2
-    body-outline-requires-2
+    (λ c κs. search needs)
+    (λ c κs. search needs)
     returns-5
-    no-outline-requires-4
+    (λ c κs. search needs)
     returns-6)

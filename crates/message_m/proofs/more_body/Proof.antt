@@ -8,21 +8,12 @@ use borrow.Author.Needs.{needs}
 use Rattle.message_m.proofs.more_body.Statement.{statement}
 use Rattle.message_m.proofs.more_body.Tie as tie
 
-m-data-requires : tie.Need-m-data-requires
-m-data-requires c κs = search needs
-
-with-member-span-requires : tie.Need-with-member-span-requires
-with-member-span-requires c κs = search needs
-
 returns : tie.Need-returns
 returns c =
     let a = c .before .before .before .before .args in
     let s = now (a .s) in
     let v : Span = record { from = a .from; to = endOf (value 15 s (a .from)) } in
     body-data s (a .body) v (a .key) 4 (c .before .before .if1 .taken) (c .before .m-data .result) (c .before .m-data .ensures) (c .with-member-span .result) (c .with-member-span .ensures)
-
-value-end-requires : tie.Need-value-end-requires
-value-end-requires c κs = search needs
 
 returns-2 : tie.Need-returns-2
 returns-2 c =
@@ -33,4 +24,6 @@ returns-2 c =
 
 pub more-body-spec : {M : Type 1} → statement M
 more-body-spec =
-    tie.close (tie.spec m-data-requires with-member-span-requires returns value-end-requires returns-2)
+    tie.close
+    (tie.spec
+    (λ c κs. search needs) (λ c κs. search needs) returns (λ c κs. search needs) returns-2)

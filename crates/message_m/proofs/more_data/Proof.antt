@@ -12,18 +12,6 @@ use borrow.Author.Needs.{needs}
 use Rattle.message_m.proofs.more_data.Statement.{statement}
 use Rattle.message_m.proofs.more_data.Tie as tie
 
-is-short-name-requires : tie.Need-is-short-name-requires
-is-short-name-requires c κs = search needs
-
-entries-at-requires : tie.Need-entries-at-requires
-entries-at-requires c κs = search needs
-
-entry-array-at-requires : tie.Need-entry-array-at-requires
-entry-array-at-requires c κs = search needs
-
-with-entry-array-requires : tie.Need-with-entry-array-requires
-with-entry-array-requires c κs = search needs
-
 returns : tie.Need-returns
 returns c =
     let a = c .before .before .before .before .before .before .before .before .args in
@@ -33,18 +21,6 @@ returns c =
     let g = slot-more s (a .met .bids) (m .value) (c .with-entry-array .ensures) (side-is s (a .from) (c .before .before .entries-at .result) (c .before .before .entries-at .ensures) (c .before .entry-array-at .result) (c .before .entry-array-at .ensures)) in
     data-bids s (a .met) m h (named s (m .name) bids-name (c .before .before .before .before .is-short-name .ensures) (c .before .before .before .if1 .taken)) g
 
-is-short-name-requires-2 : tie.Need-is-short-name-requires-2
-is-short-name-requires-2 c κs = search needs
-
-entries-at-requires-2 : tie.Need-entries-at-requires-2
-entries-at-requires-2 c κs = search needs
-
-entry-array-at-requires-2 : tie.Need-entry-array-at-requires-2
-entry-array-at-requires-2 c κs = search needs
-
-with-entry-array-requires-2 : tie.Need-with-entry-array-requires-2
-with-entry-array-requires-2 c κs = search needs
-
 returns-2 : tie.Need-returns-2
 returns-2 c =
     let a = c .before .before .before .before .before .before .before .before .before .before .args in
@@ -53,9 +29,6 @@ returns-2 c =
     let h = ap (λ (x : Entries). x .end) (c .before .before .entries-at2 .ensures) ∙ summary-end entryM s (a .from) in
     let g = slot-more s (a .met .asks) (m .value) (c .with-entry-array2 .ensures) (side-is s (a .from) (c .before .before .entries-at2 .result) (c .before .before .entries-at2 .ensures) (c .before .entry-array-at2 .result) (c .before .entry-array-at2 .ensures)) in
     data-asks s (a .met) m h (named s (m .name) bids-name (c .before .before .before .before .before .before .is-short-name .ensures) (c .before .before .before .before .before .if1 .left)) (named s (m .name) asks-name (c .before .before .before .before .is-short-name2 .ensures) (c .before .before .before .if2 .taken)) g
-
-value-end-requires : tie.Need-value-end-requires
-value-end-requires c κs = search needs
 
 returns-3 : tie.Need-returns-3
 returns-3 c =
@@ -68,15 +41,15 @@ pub more-data-spec : {M : Type 1} → statement M
 more-data-spec =
     tie.close
     (tie.spec
-    is-short-name-requires
-    entries-at-requires
-    entry-array-at-requires
-    with-entry-array-requires
+    (λ c κs. search needs)
+    (λ c κs. search needs)
+    (λ c κs. search needs)
+    (λ c κs. search needs)
     returns
-    is-short-name-requires-2
-    entries-at-requires-2
-    entry-array-at-requires-2
-    with-entry-array-requires-2
+    (λ c κs. search needs)
+    (λ c κs. search needs)
+    (λ c κs. search needs)
+    (λ c κs. search needs)
     returns-2
-    value-end-requires
+    (λ c κs. search needs)
     returns-3)

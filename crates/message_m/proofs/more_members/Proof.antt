@@ -10,45 +10,6 @@ use borrow.Author.Needs.{needs}
 use Rattle.message_m.proofs.more_members.Statement.{statement}
 use Rattle.message_m.proofs.more_members.Tie as tie
 
-key-of-requires : tie.Need-key-of-requires
-key-of-requires c κs = search needs
-
-more-body-requires : tie.Need-more-body-requires
-more-body-requires c κs = search needs
-
-is-escaped-requires : tie.Need-is-escaped-requires
-is-escaped-requires c κs = search needs
-
-either-requires : tie.Need-either-requires
-either-requires c κs = search needs
-
-is-book-requires : tie.Need-is-book-requires
-is-book-requires c κs = search needs
-
-either-requires-2 : tie.Need-either-requires-2
-either-requires-2 c κs = search needs
-
-is-product-requires : tie.Need-is-product-requires
-is-product-requires c κs = search needs
-
-either-requires-3 : tie.Need-either-requires-3
-either-requires-3 c κs = search needs
-
-more-with-member-span-requires : tie.Need-more-with-member-span-requires
-more-with-member-span-requires c κs = search needs
-
-more-with-member-span-requires-2 : tie.Need-more-with-member-span-requires-2
-more-with-member-span-requires-2 c κs = search needs
-
-more-with-member-span-requires-3 : tie.Need-more-with-member-span-requires-3
-more-with-member-span-requires-3 c κs = search needs
-
-more-with-member-span-requires-4 : tie.Need-more-with-member-span-requires-4
-more-with-member-span-requires-4 c κs = search needs
-
-more-with-member-span-requires-5 : tie.Need-more-with-member-span-requires-5
-more-with-member-span-requires-5 c κs = search needs
-
 returns : tie.Need-returns
 returns c =
     let a = c .before .before .before .before .before .before .before .before .before .before .before .before .before .before .before .args in
@@ -64,17 +25,17 @@ pub more-members-spec : {M : Type 1} → statement M
 more-members-spec =
     tie.close
     (tie.spec
-    key-of-requires
-    more-body-requires
-    is-escaped-requires
-    either-requires
-    is-book-requires
-    either-requires-2
-    is-product-requires
-    either-requires-3
-    more-with-member-span-requires
-    more-with-member-span-requires-2
-    more-with-member-span-requires-3
-    more-with-member-span-requires-4
-    more-with-member-span-requires-5
+    (λ c κs. search needs)
+    (λ c κs. search needs)
+    (λ c κs. search needs)
+    (λ c κs. search needs)
+    (λ c κs. search needs)
+    (λ c κs. search needs)
+    (λ c κs. search needs)
+    (λ c κs. search needs)
+    (λ c κs. search needs)
+    (λ c κs. search needs)
+    (λ c κs. search needs)
+    (λ c κs. search needs)
+    (λ c κs. search needs)
     returns)

@@ -9,9 +9,6 @@ use borrow.Author.Needs.{needs}
 use Rattle.message_m.proofs.more_spans.Statement.{statement}
 use Rattle.message_m.proofs.more_spans.Tie as tie
 
-with-member-span-requires : tie.Need-with-member-span-requires
-with-member-span-requires c κs = search needs
-
 returns : tie.Need-returns
 returns c =
     let a = c .before .before .args in
@@ -23,4 +20,4 @@ returns-2 c =
     sym (hit-no (eqb (a .key) (a .name)) withMemberSpan (a .mark) (record { from = a .from; to = a .to }) (ne-eqb (a .key) (a .name) (c .if1 .left)))
 
 pub more-spans-spec : {M : Type 1} → statement M
-more-spans-spec = tie.close (tie.spec with-member-span-requires returns returns-2)
+more-spans-spec = tie.close (tie.spec (λ c κs. search needs) returns returns-2)

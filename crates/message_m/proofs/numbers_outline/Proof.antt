@@ -9,33 +9,6 @@ use borrow.Author.Needs.{needs}
 use Rattle.message_m.proofs.numbers_outline.Statement.{statement}
 use Rattle.message_m.proofs.numbers_outline.Tie as tie
 
-checksum-of-requires : tie.Need-checksum-of-requires
-checksum-of-requires c κs = search needs
-
-enum-known-sum : tie.Need-enum-known-sum
-enum-known-sum c = search needs
-
-gsn-of-requires : tie.Need-gsn-of-requires
-gsn-of-requires c κs = search needs
-
-enum-known-number : tie.Need-enum-known-number
-enum-known-number c = search needs
-
-outline-of-requires : tie.Need-outline-of-requires
-outline-of-requires c κs = search needs
-
-enum-scan : tie.Need-enum-scan
-enum-scan c = search needs
-
-no-outline-requires : tie.Need-no-outline-requires
-no-outline-requires c κs = search needs
-
-enum-scan-2 : tie.Need-enum-scan-2
-enum-scan-2 c = search needs
-
-no-outline-requires-2 : tie.Need-no-outline-requires-2
-no-outline-requires-2 c κs = search needs
-
 returns : tie.Need-returns
 returns c =
     let a = c .before .before .before .before .before .before .before .before .before .before .args in
@@ -51,7 +24,7 @@ returns-2 c =
     let s = now (a .s) in
     let u : ℕ = c .before .before .before .before .before .sum .given .0 .0 in
     let h = sym (c .before .before .before .before .before .before .before .checksum-of .ensures) ∙ ap parsedChecksum (c .before .before .before .before .before .sum .given .1) in
-    c .no-outline .ensures ∙ numbers-no-number s (a .snapshot) (a .bids) (a .asks) (a .checksum) (a .gsn) u h (sym (c .before .before .before .gsn-of .ensures) ∙ ap parsedWhole (c .before .enum-scan .given .1))
+    c .no-outline .ensures ∙ numbers-no-number s (a .snapshot) (a .bids) (a .asks) (a .checksum) (a .gsn) u h (sym (c .before .before .before .gsn-of .ensures) ∙ ap parsedWhole (c .before .enum-told .given .1))
 
 returns-3 : tie.Need-returns-3
 returns-3 c =
@@ -63,15 +36,15 @@ pub numbers-outline-spec : {M : Type 1} → statement M
 numbers-outline-spec =
     tie.close
     (tie.spec
-    checksum-of-requires
-    enum-known-sum
-    gsn-of-requires
-    enum-known-number
-    outline-of-requires
-    enum-scan
-    no-outline-requires
-    enum-scan-2
-    no-outline-requires-2
+    (λ c κs. search needs)
+    (λ c. search needs)
+    (λ c κs. search needs)
+    (λ c. search needs)
+    (λ c κs. search needs)
+    (λ c. search needs)
+    (λ c κs. search needs)
+    (λ c. search needs)
+    (λ c κs. search needs)
     returns
     returns-2
     returns-3)

@@ -12,13 +12,10 @@ returns c =
     let a = c .before .before .before .args in
     listed-yes (a .slot) (c .before .if1 .taken)
 
-no-entry-member-requires : tie.Need-no-entry-member-requires
-no-entry-member-requires c κs = search needs
-
 returns-2 : tie.Need-returns-2
 returns-2 c =
     let a = c .before .before .before .before .args in
     ap (λ (t : EntryMember). t .listing) (c .before .no-entry-member .ensures) ∙ listed-no (a .slot) (c .before .before .if1 .left)
 
 pub once-listed-spec : {M : Type 1} → statement M
-once-listed-spec = tie.close (tie.spec returns no-entry-member-requires returns-2)
+once-listed-spec = tie.close (tie.spec returns (λ c κs. search needs) returns-2)

@@ -6,12 +6,6 @@ use borrow.Author.Needs.{needs}
 use Rattle.message_m.proofs.scan.Statement.{statement}
 use Rattle.message_m.proofs.scan.Tie as tie
 
-both-requires : tie.Need-both-requires
-both-requires c κs = search needs
-
-m-outline-requires : tie.Need-m-outline-requires
-m-outline-requires c κs = search needs
-
 returns : tie.Need-returns
 returns c =
     let a = c .before .before .before .args in
@@ -19,4 +13,4 @@ returns c =
     told-made s (a .met) (a .end) (c .before .both .ensures) (c .m-outline .ensures)
 
 pub scan-spec : {M : Type 1} → statement M
-scan-spec = tie.close (tie.spec both-requires m-outline-requires returns)
+scan-spec = tie.close (tie.spec (λ c κs. search needs) (λ c κs. search needs) returns)

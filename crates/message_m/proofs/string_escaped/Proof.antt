@@ -8,12 +8,6 @@ use borrow.Author.Needs.{needs}
 use Rattle.message_m.proofs.string_escaped.Statement.{statement}
 use Rattle.message_m.proofs.string_escaped.Tie as tie
 
-byte-at-requires : tie.Need-byte-at-requires
-byte-at-requires c κs = search needs
-
-has-backslash-requires : tie.Need-has-backslash-requires
-has-backslash-requires c κs = search needs
-
 returns : tie.Need-returns
 returns c =
     let a = c .before .before .before .before .args in
@@ -30,4 +24,6 @@ returns-2 c =
 
 pub string-escaped-spec : {M : Type 1} → statement M
 string-escaped-spec =
-    tie.close (tie.spec byte-at-requires has-backslash-requires returns returns-2)
+    tie.close
+    (tie.spec
+    (λ c κs. search needs) (λ c κs. search needs) returns returns-2)

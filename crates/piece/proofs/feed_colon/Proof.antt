@@ -4,14 +4,8 @@ use mathlib.Core.Path.{refl}
 use Rattle.piece.proofs.feed_colon.Statement.{statement}
 use Rattle.piece.proofs.feed_colon.Tie as tie
 
-front-requires : tie.Need-front-requires
-front-requires c κs = search needs
-
-add-t3 : tie.Need-add-t3
-add-t3 c = search needs
-
 returns : tie.Need-returns
 returns c = record { sum = c .before .front .ensures; long = refl }
 
 pub feed-colon-spec : {M : Type 1} → statement M
-feed-colon-spec = tie.close (tie.spec front-requires add-t3 returns)
+feed-colon-spec = tie.close (tie.spec (λ c κs. search needs) (λ c. search needs) returns)

@@ -10,14 +10,8 @@ use borrow.Author.Needs.{needs}
 use Rattle.piece.proofs.k_piece.Statement.{statement}
 use Rattle.piece.proofs.k_piece.Tie as tie
 
-stripped-tail-requires : tie.Need-stripped-tail-requires
-stripped-tail-requires c κs = search needs
-
 feed-requires : tie.Need-feed-requires
 feed-requires c κs = let e = ap length (c .stripped-tail .ensures) in let l = length-stripped (number (c .before .args .size)) (c .before .pre .1) in omega arith
-
-stripped-tail-requires-2 : tie.Need-stripped-tail-requires-2
-stripped-tail-requires-2 c κs = search needs
 
 feed-requires-2 : tie.Need-feed-requires-2
 feed-requires-2 c κs = let n = (fed-first (c .before .before .stripped-tail .ensures) refl refl (c .before .feed .ensures)) .long in let e = ap length (c .stripped-tail2 .ensures) in let l = length-stripped (number (c .before .before .before .args .size)) (c .before .before .before .pre .1) in let k = length-stripped (number (c .before .before .before .args .price)) (c .before .before .before .pre .0) in omega arith
@@ -30,8 +24,8 @@ pub k-piece-spec : {M : Type 1} → statement M
 k-piece-spec =
     tie.close
     (tie.spec
-    stripped-tail-requires
+    (λ c κs. search needs)
     feed-requires
-    stripped-tail-requires-2
+    (λ c κs. search needs)
     feed-requires-2
     returns)

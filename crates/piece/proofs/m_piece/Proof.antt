@@ -11,17 +11,11 @@ use borrow.Author.Needs.{needs}
 use Rattle.piece.proofs.m_piece.Statement.{statement}
 use Rattle.piece.proofs.m_piece.Tie as tie
 
-text-tail-requires : tie.Need-text-tail-requires
-text-tail-requires c κs = search needs
-
 feed-requires : tie.Need-feed-requires
 feed-requires c κs = let e = ap length (c .text-tail .ensures) in let l = length-text (number (c .before .args .size)) (c .before .pre .1) in let k = length-text (number (c .before .args .price)) (c .before .pre .0) in omega arith
 
 feed-colon-requires : tie.Need-feed-colon-requires
 feed-colon-requires c κs = let n = (fed-first (c .before .text-tail .ensures) refl refl (c .feed .ensures)) .long in let l = length-text (number (c .before .before .args .size)) (c .before .before .pre .1) in let k = length-text (number (c .before .before .args .price)) (c .before .before .pre .0) in omega arith
-
-text-tail-requires-2 : tie.Need-text-tail-requires-2
-text-tail-requires-2 c κs = search needs
 
 feed-requires-2 : tie.Need-feed-requires-2
 feed-requires-2 c κs = let n = (sums-fronted (fed-first (c .before .before .before .text-tail .ensures) refl refl (c .before .before .feed .ensures)) (c .before .feed-colon .ensures)) .long in let e = ap length (c .text-tail2 .ensures) in let l = length-text (number (c .before .before .before .before .args .size)) (c .before .before .before .before .pre .1) in let k = length-text (number (c .before .before .before .before .args .price)) (c .before .before .before .before .pre .0) in omega arith
@@ -37,10 +31,10 @@ pub m-piece-spec : {M : Type 1} → statement M
 m-piece-spec =
     tie.close
     (tie.spec
-    text-tail-requires
+    (λ c κs. search needs)
     feed-requires
     feed-colon-requires
-    text-tail-requires-2
+    (λ c κs. search needs)
     feed-requires-2
     feed-colon-requires-2
     returns)

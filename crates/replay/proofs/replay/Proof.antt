@@ -16,53 +16,14 @@ Inv-loop depth name script out₀ book₀ at₀ done₀ calls₀ out book at don
 abbrev μ-loop : tie.MeasureT-loop
 μ-loop depth name script out₀ book₀ at₀ done₀ calls₀ out book at done calls = length script - at
 
-open-requires : tie.Need-open-requires Inv-loop μ-loop
-open-requires c κs = search needs
-
 loop-holds : tie.Need-loop-holds Inv-loop μ-loop
 loop-holds c = going-none (c .before .before .before .before .args .script .now) (c .before .before .before .before .args .out .now) (c .«open» .result) (c .«open» .ensures .good)
-
-sub-is-whole : tie.Need-sub-is-whole Inv-loop μ-loop
-sub-is-whole c = search needs
-
-part-is-whole-start : tie.Need-part-is-whole-start Inv-loop μ-loop
-part-is-whole-start c = search needs
-
-part-is-whole-end : tie.Need-part-is-whole-end Inv-loop μ-loop
-part-is-whole-end c = search needs
-
-sub-is-whole-2 : tie.Need-sub-is-whole-2 Inv-loop μ-loop
-sub-is-whole-2 c = search needs
-
-is-whole-requires : tie.Need-is-whole-requires Inv-loop μ-loop
-is-whole-requires c κs = search needs
-
-sub-room : tie.Need-sub-room Inv-loop μ-loop
-sub-room c = search needs
-
-sub-call-length : tie.Need-sub-call-length Inv-loop μ-loop
-sub-call-length c = search needs
-
-part-call-length-start : tie.Need-part-call-length-start Inv-loop μ-loop
-part-call-length-start c = search needs
-
-part-call-length-end : tie.Need-part-call-length-end Inv-loop μ-loop
-part-call-length-end c = search needs
 
 call-length-requires : tie.Need-call-length-requires Inv-loop μ-loop
 call-length-requires c κs = (sym (c .before .before .is-whole .ensures) ∙ c .before .if1 .taken)
 
 add-next : tie.Need-add-next Inv-loop μ-loop
 add-next c = let h = call-within (c .before .before .before .before .before .loop .inv) (rw (rest-is (c .before .before .before .before .before .before .before .before .before .before .args .script .now) (c .before .before .before .before .before .loop .at)) at (sym (c .before .before .before .is-whole .ensures) ∙ c .before .before .if1 .taken)) (rw (rest-is (c .before .before .before .before .before .before .before .before .before .before .args .script .now) (c .before .before .before .before .before .loop .at)) at (c .call-length .ensures)) refl in omega arith
-
-sub-reply-length : tie.Need-sub-reply-length Inv-loop μ-loop
-sub-reply-length c = search needs
-
-part-reply-length-start : tie.Need-part-reply-length-start Inv-loop μ-loop
-part-reply-length-start c = search needs
-
-part-reply-length-end : tie.Need-part-reply-length-end Inv-loop μ-loop
-part-reply-length-end c = search needs
 
 reply-length-requires : tie.Need-reply-length-requires Inv-loop μ-loop
 reply-length-requires c κs = (sym (c .before .before .before .before .is-whole .ensures) ∙ c .before .before .before .if1 .taken)
@@ -130,9 +91,6 @@ loop-less c =
 loop-again : tie.Need-loop-again Inv-loop μ-loop
 loop-again c = going-more (c .before .before .before .before .before .before .before .before .before .before .before .before .loop .inv) (rw (rest-is (c .before .before .before .before .before .before .before .before .before .before .before .before .before .before .before .before .before .args .script .now) (c .before .before .before .before .before .before .before .before .before .before .before .before .loop .at)) at (sym (c .before .before .before .before .before .before .before .before .before .before .is-whole .ensures) ∙ c .before .before .before .before .before .before .before .before .before .if1 .taken)) (rw (rest-is (c .before .before .before .before .before .before .before .before .before .before .before .before .before .before .before .before .before .args .script .now) (c .before .before .before .before .before .before .before .before .before .before .before .before .loop .at)) at (c .before .before .before .before .before .before .before .call-length .ensures)) (rw (rest-is (c .before .before .before .before .before .before .before .before .before .before .before .before .before .before .before .before .before .args .script .now) (c .before .before .before .before .before .before .before .before .before .before .before .before .loop .at)) at (c .before .before .before .before .before .reply-length .ensures)) (c .before .before .call .result) (c .before .before .call .last .1 .1 .0) (c .before .before .call .kept .1 .1 .0) (c .before .before .call .ensures)
 
-same-length : tie.Need-same-length Inv-loop μ-loop
-same-length c = search needs
-
 returns : tie.Need-returns Inv-loop μ-loop
 returns c = stop (c .before .before .before .loop .inv) _ (c .before .before .before .before .«open» .ensures .same) (rw (rest-is (c .before .before .before .before .before .before .before .before .args .script .now) (c .before .before .before .loop .at)) at (sym (c .before .is-whole .ensures) ∙ c .if1 .left))
 
@@ -142,22 +100,22 @@ replay-spec =
     (tie.spec
     Inv-loop
     μ-loop
-    open-requires
+    (λ c κs. search needs)
     loop-holds
-    sub-is-whole
-    part-is-whole-start
-    part-is-whole-end
-    sub-is-whole-2
-    is-whole-requires
-    sub-room
-    sub-call-length
-    part-call-length-start
-    part-call-length-end
+    (λ c. search needs)
+    (λ c. search needs)
+    (λ c. search needs)
+    (λ c. search needs)
+    (λ c κs. search needs)
+    (λ c. search needs)
+    (λ c. search needs)
+    (λ c. search needs)
+    (λ c. search needs)
     call-length-requires
     add-next
-    sub-reply-length
-    part-reply-length-start
-    part-reply-length-end
+    (λ c. search needs)
+    (λ c. search needs)
+    (λ c. search needs)
     reply-length-requires
     add-end
     sub-call
@@ -170,5 +128,5 @@ replay-spec =
     add-calls
     loop-less
     loop-again
-    same-length
+    (λ c. search needs)
     returns)

@@ -9,9 +9,6 @@ use borrow.Author.Needs.{needs}
 use Rattle.settings.proofs.choose.Statement.{statement}
 use Rattle.settings.proofs.choose.Tie as tie
 
-is-good-requires : tie.Need-is-good-requires
-is-good-requires c κs = search needs
-
 copy-name-requires : tie.Need-copy-name-requires
 copy-name-requires c κs = good-short (record { dialect = c .before .before .before .args .dialect; depth = c .before .before .before .args .depth; name = c .before .before .before .args .name .now }) (sym (c .before .is-good .ensures) ∙ c .if1 .taken)
 
@@ -30,4 +27,7 @@ unfolding configOf
 returns-2 c = record { config = sym (kept-none (record { dialect = c .before .before .before .args .dialect; depth = c .before .before .before .args .depth; name = c .before .before .before .args .name .now }) (sym (c .before .is-good .ensures) ∙ c .if1 .left)); room = refl; short = zero-le }
 
 pub choose-spec : {M : Type 1} → statement M
-choose-spec = tie.close (tie.spec is-good-requires copy-name-requires returns returns-2)
+choose-spec =
+    tie.close
+    (tie.spec
+    (λ c κs. search needs) copy-name-requires returns returns-2)

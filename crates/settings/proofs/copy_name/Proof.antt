@@ -22,18 +22,6 @@ abbrev μ-loop : tie.MeasureT-loop
 loop-holds : tie.Need-loop-holds Inv-loop μ-loop
 loop-holds c = (refl, zero-le, refl, c .pre)
 
-shared-slice-read-copy : tie.Need-shared-slice-read-copy Inv-loop μ-loop
-shared-slice-read-copy c = search needs
-
-array-write-copy : tie.Need-array-write-copy Inv-loop μ-loop
-array-write-copy c = search needs
-
-add-i : tie.Need-add-i Inv-loop μ-loop
-add-i c = search needs
-
-loop-less : tie.Need-loop-less Inv-loop μ-loop
-loop-less c = search needs
-
 loop-again : tie.Need-loop-again Inv-loop μ-loop
 loop-again c = let inv = c .before .before .loop .inv in let h = c .before .loop-test .taken in (copied-more (c .before .before .before .args .name .now) (c .before .before .loop .copy) (c .before .before .loop .i) h (omega arith) (inv .0), omega arith, length-set (c .before .before .loop .copy) (c .before .before .loop .i) (getD (c .before .before .before .args .name .now) (c .before .before .loop .i) 0) ∙ inv .2, inv .3)
 
@@ -47,9 +35,9 @@ copy-name-spec =
     Inv-loop
     μ-loop
     loop-holds
-    shared-slice-read-copy
-    array-write-copy
-    add-i
-    loop-less
+    (λ c. search needs)
+    (λ c. search needs)
+    (λ c. search needs)
+    (λ c. search needs)
     loop-again
     returns)

@@ -7,17 +7,8 @@ use borrow.Author.Needs.{needs}
 use Rattle.settings.proofs.is_good_depth.Statement.{statement}
 use Rattle.settings.proofs.is_good_depth.Tie as tie
 
-enum-told : tie.Need-enum-told
-enum-told c = search needs
-
 returns : tie.Need-returns
 returns c = sym (ap (λ (d : Dialect). goodDepth d (c .before .before .before .args .depth)) (c .before .enum-told .given .1) ∙ k-low (c .before .before .before .args .depth) (c .if1 .taken))
-
-enum-told-2 : tie.Need-enum-told-2
-enum-told-2 c = search needs
-
-enum-told-3 : tie.Need-enum-told-3
-enum-told-3 c = search needs
 
 returns-2 : tie.Need-returns-2
 returns-2 c = sym (ap (λ (d : Dialect). goodDepth d (c .before .before .before .args .depth)) (c .before .enum-told .given .1) ∙ k-deep (c .before .before .before .args .depth) (c .if1 .left))
@@ -30,4 +21,6 @@ returns-4 c = sym (ap (λ (d : Dialect). goodDepth d (c .before .before .args .d
 
 pub is-good-depth-spec : {M : Type 1} → statement M
 is-good-depth-spec =
-    tie.close (tie.spec enum-told returns enum-told-2 enum-told-3 returns-2 returns-3 returns-4)
+    tie.close
+    (tie.spec
+    (λ c. search needs) returns (λ c. search needs) (λ c. search needs) returns-2 returns-3 returns-4)

@@ -24,18 +24,6 @@ returns-2 c = sym (long-name (c .before .before .before .args .name .now) (c .be
 loop-holds : tie.Need-loop-holds Inv-loop μ-loop
 loop-holds c = (refl, zero-le)
 
-shared-slice-read-is-name-byte : tie.Need-shared-slice-read-is-name-byte Inv-loop μ-loop
-shared-slice-read-is-name-byte c = search needs
-
-is-name-byte-requires : tie.Need-is-name-byte-requires Inv-loop μ-loop
-is-name-byte-requires c κs = search needs
-
-add-i : tie.Need-add-i Inv-loop μ-loop
-add-i c = search needs
-
-loop-less : tie.Need-loop-less Inv-loop μ-loop
-loop-less c = search needs
-
 loop-again : tie.Need-loop-again Inv-loop μ-loop
 loop-again c = (byte-passes (c .before .before .before .before .before .before .before .before .args .name .now) (c .before .before .before .before .loop .i) (c .before .before .before .loop-test .taken) (sym (c .before .is-name-byte .ensures) ∙ c .if3 .taken) ∙ c .before .before .before .before .loop .inv .0, let h = c .before .before .before .loop-test .taken in omega arith)
 
@@ -54,10 +42,10 @@ is-good-name-spec =
     returns
     returns-2
     loop-holds
-    shared-slice-read-is-name-byte
-    is-name-byte-requires
-    add-i
-    loop-less
+    (λ c. search needs)
+    (λ c κs. search needs)
+    (λ c. search needs)
+    (λ c. search needs)
     loop-again
     returns-3
     returns-4)

@@ -25,11 +25,5 @@ returns c =
       replaced = nothing-met (s .args .side) (s .args .prices .now) (s .args .sizes .now) (s .args .packs .now) (held (keptIn (s .args .words .now) (s .args .kept))) none;
     }
 
-work-requires : tie.Need-work-requires
-work-requires c κs = search needs
-
-returns-2 : tie.Need-returns-2
-returns-2 c = search needs
-
 pub apply-spec : {M : Type 1} → statement M
-apply-spec = tie.close (tie.spec returns work-requires returns-2)
+apply-spec = tie.close (tie.spec returns (λ c κs. search needs) (λ c. search needs))

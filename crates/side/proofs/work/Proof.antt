@@ -223,18 +223,6 @@ load-holds c = (refl, omega arith, refl)
 level-in-requires : tie.Need-level-in-requires Inv-load μ-load Inv-find μ-find Inv-down μ-down Inv-up μ-up Inv-entry μ-entry Inv-cut μ-cut
 level-in-requires c κs = let s = c .before .before .before .before .before .before in (omega (arith, s .pre .0 .few), s .pre .0 .room)
 
-mul-levels : tie.Need-mul-levels Inv-load μ-load Inv-find μ-find Inv-down μ-down Inv-up μ-up Inv-entry μ-entry Inv-cut μ-cut
-mul-levels c = omega arith
-
-array-set-from-levels : tie.Need-array-set-from-levels Inv-load μ-load Inv-find μ-find Inv-down μ-down Inv-up μ-up Inv-entry μ-entry Inv-cut μ-cut
-array-set-from-levels c = omega arith
-
-add-i : tie.Need-add-i Inv-load μ-load Inv-find μ-find Inv-down μ-down Inv-up μ-up Inv-entry μ-entry Inv-cut μ-cut
-add-i c = omega arith
-
-load-less : tie.Need-load-less Inv-load μ-load Inv-find μ-find Inv-down μ-down Inv-up μ-up Inv-entry μ-entry Inv-cut μ-cut
-load-less c = omega arith
-
 load-again : tie.Need-load-again Inv-load μ-load Inv-find μ-find Inv-down μ-down Inv-up μ-up Inv-entry μ-entry Inv-cut μ-cut
 load-again c =
     let s = c .before .before .before .before .before .before .before in
@@ -252,65 +240,14 @@ entry-holds c =
     turn-start (s .args .side) (s .args .prices .now) (s .args .sizes .now) (s .args .packs .now) (s .pre .1) (take (s .args .kept) (c .before .load .levels)) (s .args .kept)
     (c .before .load .levels) (c .before .load .inv .0) refl (rw (loaded c) (s .pre .0 .sorted)) (rw (loaded c) (s .pre .0 .within))
 
-mul-entry-at : tie.Need-mul-entry-at Inv-load μ-load Inv-find μ-find Inv-down μ-down Inv-up μ-up Inv-entry μ-entry Inv-cut μ-cut
-mul-entry-at c = omega arith
-
-shared-slice-read-entry-at : tie.Need-shared-slice-read-entry-at Inv-load μ-load Inv-find μ-find Inv-down μ-down Inv-up μ-up Inv-entry μ-entry Inv-cut μ-cut
-shared-slice-read-entry-at c = omega arith
-
-mul-entry-at-2 : tie.Need-mul-entry-at-2 Inv-load μ-load Inv-find μ-find Inv-down μ-down Inv-up μ-up Inv-entry μ-entry Inv-cut μ-cut
-mul-entry-at-2 c = omega arith
-
-shared-slice-read-entry-at-2 : tie.Need-shared-slice-read-entry-at-2 Inv-load μ-load Inv-find μ-find Inv-down μ-down Inv-up μ-up Inv-entry μ-entry Inv-cut μ-cut
-shared-slice-read-entry-at-2 c = omega arith
-
-mul-entry-at-3 : tie.Need-mul-entry-at-3 Inv-load μ-load Inv-find μ-find Inv-down μ-down Inv-up μ-up Inv-entry μ-entry Inv-cut μ-cut
-mul-entry-at-3 c = omega arith
-
-shared-slice-read-entry-at-3 : tie.Need-shared-slice-read-entry-at-3 Inv-load μ-load Inv-find μ-find Inv-down μ-down Inv-up μ-up Inv-entry μ-entry Inv-cut μ-cut
-shared-slice-read-entry-at-3 c = omega arith
-
-entry-at-requires : tie.Need-entry-at-requires Inv-load μ-load Inv-find μ-find Inv-down μ-down Inv-up μ-up Inv-entry μ-entry Inv-cut μ-cut
-entry-at-requires c κs = search needs
-
-add-k : tie.Need-add-k Inv-load μ-load Inv-find μ-find Inv-down μ-down Inv-up μ-up Inv-entry μ-entry Inv-cut μ-cut
-add-k c = omega arith
-
-price-named-requires : tie.Need-price-named-requires Inv-load μ-load Inv-find μ-find Inv-down μ-down Inv-up μ-up Inv-entry μ-entry Inv-cut μ-cut
-price-named-requires c κs = search needs
-
 find-holds : tie.Need-find-holds Inv-load μ-load Inv-find μ-find Inv-down μ-down Inv-up μ-up Inv-entry μ-entry Inv-cut μ-cut
 find-holds c = (bracket-start levelPrice (s c .args .side) (S c) (P c) (N c) (side-long c), omega arith)
-
-sub-middle : tie.Need-sub-middle Inv-load μ-load Inv-find μ-find Inv-down μ-down Inv-up μ-up Inv-entry μ-entry Inv-cut μ-cut
-sub-middle c = omega arith
-
-add-middle : tie.Need-add-middle Inv-load μ-load Inv-find μ-find Inv-down μ-down Inv-up μ-up Inv-entry μ-entry Inv-cut μ-cut
-add-middle c = omega arith
-
-mul-level : tie.Need-mul-level Inv-load μ-load Inv-find μ-find Inv-down μ-down Inv-up μ-up Inv-entry μ-entry Inv-cut μ-cut
-mul-level c = omega arith
-
-array-copy-out-level : tie.Need-array-copy-out-level Inv-load μ-load Inv-find μ-find Inv-down μ-down Inv-up μ-up Inv-entry μ-entry Inv-cut μ-cut
-array-copy-out-level c = omega arith
-
-price-of-requires : tie.Need-price-of-requires Inv-load μ-load Inv-find μ-find Inv-down μ-down Inv-up μ-up Inv-entry μ-entry Inv-cut μ-cut
-price-of-requires c κs = search needs
 
 compare-requires : tie.Need-compare-requires Inv-load μ-load Inv-find μ-find Inv-down μ-down Inv-up μ-up Inv-entry μ-entry Inv-cut μ-cut
 compare-requires c κs =
     let v = c .before .before .before .before in
     let p = c .before .before .before .find in
     (subst Within (sym (c .price-of .ensures)) (sound-at (A v) (N v) (p .low + (p .high - p .low) / 2) (omega (arith, p .inv .1)) (room v) (E v .entry .inv .sound)), sound-price v)
-
-is-ahead-requires : tie.Need-is-ahead-requires Inv-load μ-load Inv-find μ-find Inv-down μ-down Inv-up μ-up Inv-entry μ-entry Inv-cut μ-cut
-is-ahead-requires c κs = search needs
-
-add-low : tie.Need-add-low Inv-load μ-load Inv-find μ-find Inv-down μ-down Inv-up μ-up Inv-entry μ-entry Inv-cut μ-cut
-add-low c = omega arith
-
-find-less : tie.Need-find-less Inv-load μ-load Inv-find μ-find Inv-down μ-down Inv-up μ-up Inv-entry μ-entry Inv-cut μ-cut
-find-less c = omega arith
 
 find-again : tie.Need-find-again Inv-load μ-load Inv-find μ-find Inv-down μ-down Inv-up μ-up Inv-entry μ-entry Inv-cut μ-cut
 find-again c =
@@ -323,9 +260,6 @@ find-again c =
       omega arith,
     )
 
-find-less-2 : tie.Need-find-less-2 Inv-load μ-load Inv-find μ-find Inv-down μ-down Inv-up μ-up Inv-entry μ-entry Inv-cut μ-cut
-find-less-2 c = omega arith
-
 find-again-2 : tie.Need-find-again-2 Inv-load μ-load Inv-find μ-find Inv-down μ-down Inv-up μ-up Inv-entry μ-entry Inv-cut μ-cut
 find-again-2 c =
     let v = c .before .before .before .before .before .before .before in
@@ -337,37 +271,16 @@ find-again-2 c =
       omega arith,
     )
 
-mul-level-2 : tie.Need-mul-level-2 Inv-load μ-load Inv-find μ-find Inv-down μ-down Inv-up μ-up Inv-entry μ-entry Inv-cut μ-cut
-mul-level-2 c = omega arith
-
-array-copy-out-level-2 : tie.Need-array-copy-out-level-2 Inv-load μ-load Inv-find μ-find Inv-down μ-down Inv-up μ-up Inv-entry μ-entry Inv-cut μ-cut
-array-copy-out-level-2 c = omega arith
-
-price-of-requires-2 : tie.Need-price-of-requires-2 Inv-load μ-load Inv-find μ-find Inv-down μ-down Inv-up μ-up Inv-entry μ-entry Inv-cut μ-cut
-price-of-requires-2 c κs = search needs
-
 compare-requires-2 : tie.Need-compare-requires-2 Inv-load μ-load Inv-find μ-find Inv-down μ-down Inv-up μ-up Inv-entry μ-entry Inv-cut μ-cut
 compare-requires-2 c κs =
     let v = c .before .before .before .before .before in
     (subst Within (sym (c .price-of2 .ensures)) (sound-at (A v) (N v) (c .before .before .before .before .find .low) (c .before .before .if2 .taken) (room v) (E v .entry .inv .sound)), sound-price v)
-
-is-equal-requires : tie.Need-is-equal-requires Inv-load μ-load Inv-find μ-find Inv-down μ-down Inv-up μ-up Inv-entry μ-entry Inv-cut μ-cut
-is-equal-requires c κs = search needs
-
-enum-known-change : tie.Need-enum-known-change Inv-load μ-load Inv-find μ-find Inv-down μ-down Inv-up μ-up Inv-entry μ-entry Inv-cut μ-cut
-enum-known-change c = search needs
 
 mul-levels-2 : tie.Need-mul-levels-2 Inv-load μ-load Inv-find μ-find Inv-down μ-down Inv-up μ-up Inv-entry μ-entry Inv-cut μ-cut
 mul-levels-2 c = omega (arith, few (c .before .before .before .before .before .before .before .before .before .before .before), c .before .before .before .before .before .before .before .before .if2 .taken)
 
 array-set-from-levels-2 : tie.Need-array-set-from-levels-2 Inv-load μ-load Inv-find μ-find Inv-down μ-down Inv-up μ-up Inv-entry μ-entry Inv-cut μ-cut
 array-set-from-levels-2 c = omega (arith, few (c .before .before .before .before .before .before .before .before .before .before .before), c .before .before .before .before .before .before .before .before .if2 .taken)
-
-enum-told : tie.Need-enum-told Inv-load μ-load Inv-find μ-find Inv-down μ-down Inv-up μ-up Inv-entry μ-entry Inv-cut μ-cut
-enum-told c = search needs
-
-sub-count : tie.Need-sub-count Inv-load μ-load Inv-find μ-find Inv-down μ-down Inv-up μ-up Inv-entry μ-entry Inv-cut μ-cut
-sub-count c = omega arith
 
 down-holds : tie.Need-down-holds Inv-load μ-load Inv-find μ-find Inv-down μ-down Inv-up μ-up Inv-entry μ-entry Inv-cut μ-cut
 down-holds c =
@@ -376,36 +289,12 @@ down-holds c =
     let lt : p .low < N v = c .before .before .before .before .before .before .before .if2 .taken in
     (down-start (A v) (p .low) (omega (arith, room v)), omega arith, omega arith)
 
-add-levels : tie.Need-add-levels Inv-load μ-load Inv-find μ-find Inv-down μ-down Inv-up μ-up Inv-entry μ-entry Inv-cut μ-cut
-add-levels c = omega arith
-
-mul-levels-3 : tie.Need-mul-levels-3 Inv-load μ-load Inv-find μ-find Inv-down μ-down Inv-up μ-up Inv-entry μ-entry Inv-cut μ-cut
-mul-levels-3 c = omega arith
-
-array-copy-out-levels : tie.Need-array-copy-out-levels Inv-load μ-load Inv-find μ-find Inv-down μ-down Inv-up μ-up Inv-entry μ-entry Inv-cut μ-cut
-array-copy-out-levels c = omega arith
-
-mul-levels-4 : tie.Need-mul-levels-4 Inv-load μ-load Inv-find μ-find Inv-down μ-down Inv-up μ-up Inv-entry μ-entry Inv-cut μ-cut
-mul-levels-4 c = omega arith
-
-array-set-from-levels-3 : tie.Need-array-set-from-levels-3 Inv-load μ-load Inv-find μ-find Inv-down μ-down Inv-up μ-up Inv-entry μ-entry Inv-cut μ-cut
-array-set-from-levels-3 c = omega arith
-
-add-j : tie.Need-add-j Inv-load μ-load Inv-find μ-find Inv-down μ-down Inv-up μ-up Inv-entry μ-entry Inv-cut μ-cut
-add-j c = omega arith
-
-down-less : tie.Need-down-less Inv-load μ-load Inv-find μ-find Inv-down μ-down Inv-up μ-up Inv-entry μ-entry Inv-cut μ-cut
-down-less c = omega arith
-
 down-again : tie.Need-down-again Inv-load μ-load Inv-find μ-find Inv-down μ-down Inv-up μ-up Inv-entry μ-entry Inv-cut μ-cut
 down-again c =
     let v = c .before .before .before .before .before .before .before .before .before .before .before .before .before in
     let p = c .before .before .down in
     let t : p .j < N v - 1 = c .before .down-test .taken in
     (down-turn (A v) (p .levels) (c .before .before .before .before .before .before .before .before .before .before .before .before .find .low) (p .j) noLevel (p .inv .1) (omega (arith, room v)) (p .inv .0), omega arith, omega arith)
-
-entry-less : tie.Need-entry-less Inv-load μ-load Inv-find μ-find Inv-down μ-down Inv-up μ-up Inv-entry μ-entry Inv-cut μ-cut
-entry-less c = omega arith
 
 entry-again : tie.Need-entry-again Inv-load μ-load Inv-find μ-find Inv-down μ-down Inv-up μ-up Inv-entry μ-entry Inv-cut μ-cut
 entry-again c =
@@ -421,9 +310,6 @@ entry-again c =
     (set-same levelPrice (s v .args .side) (A v) (N v) (p .low) (room v) (omega arith) (P v) (p .inv .0 .ahead) noLevel lt same high new (key-new v new is))
     (sym (ap (λ (x : Bool). E v .entry .replaced || x) (standing-at levelPrice (P v) (S v) (p .low) noLevel ls same) ∙ or-true (E v .entry .replaced)))
 
-entry-less-2 : tie.Need-entry-less-2 Inv-load μ-load Inv-find μ-find Inv-down μ-down Inv-up μ-up Inv-entry μ-entry Inv-cut μ-cut
-entry-less-2 c = omega arith
-
 entry-again-2 : tie.Need-entry-again-2 Inv-load μ-load Inv-find μ-find Inv-down μ-down Inv-up μ-up Inv-entry μ-entry Inv-cut μ-cut
 entry-again-2 c =
     let v = c .before .before .before .before .before .before .before .before .before .before .before .before in
@@ -438,35 +324,11 @@ entry-again-2 c =
     (ap (take (N v - 1)) (q .inv .0 ∙ ap (down (A v) (p .low)) j)
     ∙ remove-same levelPrice (s v .args .side) (A v) (N v) (p .low) (room v) (omega arith) (P v) (p .inv .0 .ahead) noLevel lt same high (N v - 1) (omega arith))
 
-enum-known-change-2 : tie.Need-enum-known-change-2 Inv-load μ-load Inv-find μ-find Inv-down μ-down Inv-up μ-up Inv-entry μ-entry Inv-cut μ-cut
-enum-known-change-2 c = search needs
-
 up-holds : tie.Need-up-holds Inv-load μ-load Inv-find μ-find Inv-down μ-down Inv-up μ-up Inv-entry μ-entry Inv-cut μ-cut
 up-holds c =
     let v = c .before .before .before .before .before .before in
     let p = c .before .before .before .before .before .find in
     (up-start (A v) (N v) (omega (arith, few v, long v)), omega (arith, p .inv .1, p .inv .0 .low-le), omega arith)
-
-sub-levels : tie.Need-sub-levels Inv-load μ-load Inv-find μ-find Inv-down μ-down Inv-up μ-up Inv-entry μ-entry Inv-cut μ-cut
-sub-levels c = omega arith
-
-mul-levels-5 : tie.Need-mul-levels-5 Inv-load μ-load Inv-find μ-find Inv-down μ-down Inv-up μ-up Inv-entry μ-entry Inv-cut μ-cut
-mul-levels-5 c = omega arith
-
-array-copy-out-levels-2 : tie.Need-array-copy-out-levels-2 Inv-load μ-load Inv-find μ-find Inv-down μ-down Inv-up μ-up Inv-entry μ-entry Inv-cut μ-cut
-array-copy-out-levels-2 c = omega arith
-
-mul-levels-6 : tie.Need-mul-levels-6 Inv-load μ-load Inv-find μ-find Inv-down μ-down Inv-up μ-up Inv-entry μ-entry Inv-cut μ-cut
-mul-levels-6 c = omega arith
-
-array-set-from-levels-4 : tie.Need-array-set-from-levels-4 Inv-load μ-load Inv-find μ-find Inv-down μ-down Inv-up μ-up Inv-entry μ-entry Inv-cut μ-cut
-array-set-from-levels-4 c = omega arith
-
-sub-j : tie.Need-sub-j Inv-load μ-load Inv-find μ-find Inv-down μ-down Inv-up μ-up Inv-entry μ-entry Inv-cut μ-cut
-sub-j c = omega arith
-
-up-less : tie.Need-up-less Inv-load μ-load Inv-find μ-find Inv-down μ-down Inv-up μ-up Inv-entry μ-entry Inv-cut μ-cut
-up-less c = omega arith
 
 up-again : tie.Need-up-again Inv-load μ-load Inv-find μ-find Inv-down μ-down Inv-up μ-up Inv-entry μ-entry Inv-cut μ-cut
 up-again c =
@@ -474,18 +336,6 @@ up-again c =
     let p = c .before .before .up in
     let t : c .before .before .before .before .before .before .before .before .find .low < p .j = c .before .up-test .taken in
     (up-turn (A v) (p .levels) (p .j) (N v) noLevel (omega arith) (p .inv .2) (omega (arith, few v, long v)) (p .inv .0), omega arith, omega arith)
-
-mul-levels-7 : tie.Need-mul-levels-7 Inv-load μ-load Inv-find μ-find Inv-down μ-down Inv-up μ-up Inv-entry μ-entry Inv-cut μ-cut
-mul-levels-7 c = omega arith
-
-array-set-from-levels-5 : tie.Need-array-set-from-levels-5 Inv-load μ-load Inv-find μ-find Inv-down μ-down Inv-up μ-up Inv-entry μ-entry Inv-cut μ-cut
-array-set-from-levels-5 c = omega arith
-
-add-count : tie.Need-add-count Inv-load μ-load Inv-find μ-find Inv-down μ-down Inv-up μ-up Inv-entry μ-entry Inv-cut μ-cut
-add-count c = omega arith
-
-entry-less-3 : tie.Need-entry-less-3 Inv-load μ-load Inv-find μ-find Inv-down μ-down Inv-up μ-up Inv-entry μ-entry Inv-cut μ-cut
-entry-less-3 c = omega arith
 
 entry-again-3 : tie.Need-entry-again-3 Inv-load μ-load Inv-find μ-find Inv-down μ-down Inv-up μ-up Inv-entry μ-entry Inv-cut μ-cut
 entry-again-3 c =
@@ -502,12 +352,6 @@ entry-again-3 c =
     (ap (λ (r : List Level). take (N v + 1) (set r (p .low) new)) (q .inv .0 ∙ ap (λ (i : ℕ). up (A v) i (N v)) j)
     ∙ set-new levelPrice (s v .args .side) (A v) (N v) (p .low) (room v) le (P v) (p .inv .0 .ahead) new (omega (arith, few v, long v)) (key-new v new is) high)
     (sym (ap (λ (x : Bool). E v .entry .replaced || x) (none-standing levelPrice (s v .args .side) (A v) (N v) (p .low) (room v) le (P v) (p .inv .0 .ahead) high) ∙ or-false (E v .entry .replaced)))
-
-enum-told-2 : tie.Need-enum-told-2 Inv-load μ-load Inv-find μ-find Inv-down μ-down Inv-up μ-up Inv-entry μ-entry Inv-cut μ-cut
-enum-told-2 c = search needs
-
-entry-less-4 : tie.Need-entry-less-4 Inv-load μ-load Inv-find μ-find Inv-down μ-down Inv-up μ-up Inv-entry μ-entry Inv-cut μ-cut
-entry-less-4 c = omega arith
 
 entry-again-4 : tie.Need-entry-again-4 Inv-load μ-load Inv-find μ-find Inv-down μ-down Inv-up μ-up Inv-entry μ-entry Inv-cut μ-cut
 entry-again-4 c =
@@ -532,9 +376,6 @@ put-level-requires c κs = (omega (arith, cut-eq (c .before .before .before .bef
 
 add-i-2 : tie.Need-add-i-2 Inv-load μ-load Inv-find μ-find Inv-down μ-down Inv-up μ-up Inv-entry μ-entry Inv-cut μ-cut
 add-i-2 c = omega (arith, cut-eq (c .before .before .before .before .before) .1, c .before .before .before .before .before .before .before .before .before .before .before .before .before .pre .2)
-
-cut-less : tie.Need-cut-less Inv-load μ-load Inv-find μ-find Inv-down μ-down Inv-up μ-up Inv-entry μ-entry Inv-cut μ-cut
-cut-less c = omega arith
 
 cut-again : tie.Need-cut-again Inv-load μ-load Inv-find μ-find Inv-down μ-down Inv-up μ-up Inv-entry μ-entry Inv-cut μ-cut
 cut-again c =
@@ -605,80 +446,80 @@ work-spec =
     μ-cut
     load-holds
     level-in-requires
-    mul-levels
-    array-set-from-levels
-    add-i
-    load-less
+    (λ c. omega arith)
+    (λ c. omega arith)
+    (λ c. omega arith)
+    (λ c. omega arith)
     load-again
     entry-holds
-    mul-entry-at
-    shared-slice-read-entry-at
-    mul-entry-at-2
-    shared-slice-read-entry-at-2
-    mul-entry-at-3
-    shared-slice-read-entry-at-3
-    entry-at-requires
-    add-k
-    price-named-requires
+    (λ c. omega arith)
+    (λ c. omega arith)
+    (λ c. omega arith)
+    (λ c. omega arith)
+    (λ c. omega arith)
+    (λ c. omega arith)
+    (λ c κs. search needs)
+    (λ c. omega arith)
+    (λ c κs. search needs)
     find-holds
-    sub-middle
-    add-middle
-    mul-level
-    array-copy-out-level
-    price-of-requires
+    (λ c. omega arith)
+    (λ c. omega arith)
+    (λ c. omega arith)
+    (λ c. omega arith)
+    (λ c κs. search needs)
     compare-requires
-    is-ahead-requires
-    add-low
-    find-less
+    (λ c κs. search needs)
+    (λ c. omega arith)
+    (λ c. omega arith)
     find-again
-    find-less-2
+    (λ c. omega arith)
     find-again-2
-    mul-level-2
-    array-copy-out-level-2
-    price-of-requires-2
+    (λ c. omega arith)
+    (λ c. omega arith)
+    (λ c κs. search needs)
     compare-requires-2
-    is-equal-requires
-    enum-known-change
+    (λ c κs. search needs)
+    (λ c. search needs)
     mul-levels-2
     array-set-from-levels-2
-    enum-told
-    sub-count
+    (λ c. search needs)
+    (λ c. omega arith)
     down-holds
-    add-levels
-    mul-levels-3
-    array-copy-out-levels
-    mul-levels-4
-    array-set-from-levels-3
-    add-j
-    down-less
+    (λ c. omega arith)
+    (λ c. omega arith)
+    (λ c. omega arith)
+    (λ c. omega arith)
+    (λ c. omega arith)
+    (λ c. omega arith)
+    (λ c. omega arith)
     down-again
-    entry-less
+    (λ c. omega arith)
     entry-again
-    entry-less-2
+    (λ c. omega arith)
     entry-again-2
-    enum-known-change-2
+    (λ c. search needs)
     up-holds
-    sub-levels
-    mul-levels-5
-    array-copy-out-levels-2
-    mul-levels-6
-    array-set-from-levels-4
-    sub-j
-    up-less
+    (λ c. omega arith)
+    (λ c. omega arith)
+    (λ c. omega arith)
+    (λ c. omega arith)
+    (λ c. omega arith)
+    (λ c. omega arith)
+    (λ c. omega arith)
     up-again
-    mul-levels-7
-    array-set-from-levels-5
-    add-count
-    entry-less-3
+    (λ c. omega arith)
+    (λ c. omega arith)
+    (λ c. omega arith)
+    (λ c. omega arith)
     entry-again-3
-    enum-told-2
-    entry-less-4
+    (λ c. search needs)
+    (λ c. omega arith)
     entry-again-4
     cut-holds
     mul-level-3
     array-copy-out-level-3
     put-level-requires
     add-i-2
-    cut-less
+    (λ c. omega arith)
     cut-again
     returns)

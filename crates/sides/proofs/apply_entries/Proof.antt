@@ -22,17 +22,11 @@ sub-load c = c .before .before .pre .1 .inside (c .if1 .left)
 part-load-start : tie.Need-part-load-start
 part-load-start c = c .before .before .pre .1 .inside (c .if1 .left)
 
-part-load-end : tie.Need-part-load-end
-part-load-end c = search needs
-
 load-requires : tie.Need-load-requires
 load-requires c κs =
     let a = c .before .before .before .before .before .before .args in
     let p = c .before .before .before .before .before .before .pre in
     rw (part-is (a .at) (now (a .s))) (p .1 .loadable (c .before .before .before .before .if1 .left), record { prices-long = refl; sizes-long = refl; packs-long = refl })
-
-array-share-prefix-prices : tie.Need-array-share-prefix-prices
-array-share-prefix-prices c = search needs
 
 slice-aggregate-apply : tie.Need-slice-aggregate-apply
 slice-aggregate-apply c =
@@ -41,18 +35,12 @@ slice-aggregate-apply c =
     let f = c .before .before .load .ensures .few in
     omega arith
 
-array-share-prefix-sizes : tie.Need-array-share-prefix-sizes
-array-share-prefix-sizes c = search needs
-
 slice-aggregate-apply-2 : tie.Need-slice-aggregate-apply-2
 slice-aggregate-apply-2 c =
     let r = c .before .before .before .load .ensures .room .sizes-long in
     let l = length-take (c .before .before .before .load .result) (c .before .before .before .load .last .1 .1 .1 .0) in
     let f = c .before .before .before .load .ensures .few in
     omega arith
-
-array-share-prefix-packs : tie.Need-array-share-prefix-packs
-array-share-prefix-packs c = search needs
 
 slice-aggregate-apply-3 : tie.Need-slice-aggregate-apply-3
 slice-aggregate-apply-3 c =
@@ -81,13 +69,13 @@ apply-entries-spec =
     returns
     sub-load
     part-load-start
-    part-load-end
+    (λ c. search needs)
     load-requires
-    array-share-prefix-prices
+    (λ c. search needs)
     slice-aggregate-apply
-    array-share-prefix-sizes
+    (λ c. search needs)
     slice-aggregate-apply-2
-    array-share-prefix-packs
+    (λ c. search needs)
     slice-aggregate-apply-3
     apply-requires
     returns-2)

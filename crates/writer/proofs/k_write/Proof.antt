@@ -29,12 +29,12 @@ returns c = let e = c .before .k-length .ensures in let h = c .if1 .taken in lai
 lay-k-requires : tie.Need-lay-k-requires
 lay-k-requires c κs = (sides (c .before .before .before .before .before) .0, sides (c .before .before .before .before .before) .1, enough (c .before))
 
-same-length : tie.Need-same-length
-same-length c = search needs
-
 returns-2 : tie.Need-returns-2
 unfolding kSnapshotText
 returns-2 c = put-laid (enough (c .before .before .before .before)) (c .before .before .lay-k .ensures)
 
 pub k-write-spec : {M : Type 1} → statement M
-k-write-spec = tie.close (tie.spec k-length-requires returns lay-k-requires same-length returns-2)
+k-write-spec =
+    tie.close
+    (tie.spec
+    k-length-requires returns lay-k-requires (λ c. search needs) returns-2)

@@ -76,26 +76,14 @@ after-name c = owed-rest (before-name (c .before .before .before .before)) (c .l
 
 -- ---- needs
 
-slice-aggregate-lay-listed : tie.Need-slice-aggregate-lay-listed
-slice-aggregate-lay-listed c = search needs
-
 lay-listed-requires : tie.Need-lay-listed-requires
 lay-listed-requires c κs = (c .before .before .before .before .pre .1, room-first (asksText (c .before .before .before .before)) (fromBids (c .before .before .before .before)) (left (c .before .before .before .before)))
-
-slice-aggregate-lay-listed-2 : tie.Need-slice-aggregate-lay-listed-2
-slice-aggregate-lay-listed-2 c = search needs
 
 lay-listed-requires-2 : tie.Need-lay-listed-requires-2
 lay-listed-requires-2 c κs = (start₁ (c .before .before .before .before) .pre .0, room-first (bidsText (start₁ (c .before .before .before .before))) (fromDepth (start₁ (c .before .before .before .before))) (after-asks (c .before .before .before .before)))
 
-slice-aggregate-lay-number : tie.Need-slice-aggregate-lay-number
-slice-aggregate-lay-number c = search needs
-
 lay-number-requires : tie.Need-lay-number-requires
 lay-number-requires c κs = room-first (depthText (start₂ (c .before .before .before .before))) (fromNames (start₂ (c .before .before .before .before))) (after-bids (c .before .before .before .before))
-
-slice-aggregate-lay : tie.Need-slice-aggregate-lay
-slice-aggregate-lay c = search needs
 
 lay-requires : tie.Need-lay-requires
 lay-requires c κs = room-first (ascii "\",\"") (fromName (start₃ (c .before .before .before .before))) (after-depth (c .before .before .before .before))
@@ -103,14 +91,8 @@ lay-requires c κs = room-first (ascii "\",\"") (fromName (start₃ (c .before .
 lay-requires-2 : tie.Need-lay-requires-2
 lay-requires-2 c κs = room-first ((start₄ (c .before .before .before)) .args .name .now) (ascii "\"]") (before-name (c .before .before .before))
 
-slice-aggregate-lay-2 : tie.Need-slice-aggregate-lay-2
-slice-aggregate-lay-2 c = search needs
-
 lay-requires-3 : tie.Need-lay-requires-3
 lay-requires-3 c κs = after-name (c .before .before .before .before) .room
-
-same-length : tie.Need-same-length
-same-length c = search needs
 
 returns : tie.Need-returns
 returns c = put-last (after-name (c .before .before .before .before .before .before .before)) refl (c .before .before .lay3 .ensures)
@@ -119,16 +101,16 @@ pub lay-k-spec : {M : Type 1} → statement M
 lay-k-spec =
     tie.close
     (tie.spec
-    slice-aggregate-lay-listed
+    (λ c. search needs)
     lay-listed-requires
-    slice-aggregate-lay-listed-2
+    (λ c. search needs)
     lay-listed-requires-2
-    slice-aggregate-lay-number
+    (λ c. search needs)
     lay-number-requires
-    slice-aggregate-lay
+    (λ c. search needs)
     lay-requires
     lay-requires-2
-    slice-aggregate-lay-2
+    (λ c. search needs)
     lay-requires-3
-    same-length
+    (λ c. search needs)
     returns)

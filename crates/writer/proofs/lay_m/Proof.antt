@@ -94,41 +94,23 @@ all-laid c = put-last (after-number (c .before .before .before .before .before))
 
 -- ---- needs
 
-slice-aggregate-lay : tie.Need-slice-aggregate-lay
-slice-aggregate-lay c = search needs
-
 lay-requires : tie.Need-lay-requires
 lay-requires c κs = room-first (opening (c .before .before .before .before)) (fromName (c .before .before .before .before)) (left (c .before .before .before .before))
 
 lay-requires-2 : tie.Need-lay-requires-2
 lay-requires-2 c κs = room-first ((start₁ (c .before .before .before)) .args .name .now) (fromBids (start₁ (c .before .before .before))) (before-name (c .before .before .before))
 
-slice-aggregate-lay-listed : tie.Need-slice-aggregate-lay-listed
-slice-aggregate-lay-listed c = search needs
-
 lay-listed-requires : tie.Need-lay-listed-requires
 lay-listed-requires c κs = (start₂ (c .before .before .before .before) .pre .0, room-first (bidsText (start₂ (c .before .before .before .before))) (fromAsks (start₂ (c .before .before .before .before))) (after-name (c .before .before .before .before)))
-
-slice-aggregate-lay-listed-2 : tie.Need-slice-aggregate-lay-listed-2
-slice-aggregate-lay-listed-2 c = search needs
 
 lay-listed-requires-2 : tie.Need-lay-listed-requires-2
 lay-listed-requires-2 c κs = (start₃ (c .before .before .before .before) .pre .1, room-first (asksText (start₃ (c .before .before .before .before))) (fromChecksum (start₃ (c .before .before .before .before))) (after-bids (c .before .before .before .before)))
 
-slice-aggregate-lay-number : tie.Need-slice-aggregate-lay-number
-slice-aggregate-lay-number c = search needs
-
 lay-number-requires : tie.Need-lay-number-requires
 lay-number-requires c κs = room-first (checksumText (start₄ (c .before .before .before .before))) (fromNumber (start₄ (c .before .before .before .before))) (after-asks (c .before .before .before .before))
 
-slice-aggregate-lay-number-2 : tie.Need-slice-aggregate-lay-number-2
-slice-aggregate-lay-number-2 c = search needs
-
 lay-number-requires-2 : tie.Need-lay-number-requires-2
 lay-number-requires-2 c κs = room-first (numberText (start₅ (c .before .before .before .before))) (ascii "}") (after-checksum (c .before .before .before .before))
-
-slice-aggregate-lay-2 : tie.Need-slice-aggregate-lay-2
-slice-aggregate-lay-2 c = search needs
 
 lay-requires-3 : tie.Need-lay-requires-3
 lay-requires-3 c κs = after-number (c .before .before .before .before) .room
@@ -143,18 +125,18 @@ pub lay-m-spec : {M : Type 1} → statement M
 lay-m-spec =
     tie.close
     (tie.spec
-    slice-aggregate-lay
+    (λ c. search needs)
     lay-requires
     lay-requires-2
-    slice-aggregate-lay-listed
+    (λ c. search needs)
     lay-listed-requires
-    slice-aggregate-lay-listed-2
+    (λ c. search needs)
     lay-listed-requires-2
-    slice-aggregate-lay-number
+    (λ c. search needs)
     lay-number-requires
-    slice-aggregate-lay-number-2
+    (λ c. search needs)
     lay-number-requires-2
-    slice-aggregate-lay-2
+    (λ c. search needs)
     lay-requires-3
     same-length
     returns)

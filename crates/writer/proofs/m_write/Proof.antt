@@ -29,12 +29,12 @@ returns c = let e = c .before .m-length .ensures in let h = c .if1 .taken in lai
 lay-m-requires : tie.Need-lay-m-requires
 lay-m-requires c κs = (sides (c .before .before .before .before .before) .0, sides (c .before .before .before .before .before) .1, enough (c .before))
 
-same-length : tie.Need-same-length
-same-length c = search needs
-
 returns-2 : tie.Need-returns-2
 unfolding mSnapshotText
 returns-2 c = put-laid (enough (c .before .before .before .before)) (c .before .before .lay-m .ensures)
 
 pub m-write-spec : {M : Type 1} → statement M
-m-write-spec = tie.close (tie.spec m-length-requires returns lay-m-requires same-length returns-2)
+m-write-spec =
+    tie.close
+    (tie.spec
+    m-length-requires returns lay-m-requires (λ c. search needs) returns-2)

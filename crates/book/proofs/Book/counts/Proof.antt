@@ -6,12 +6,6 @@ use borrow.Author.Needs.{needs}
 use Rattle.book.proofs.Book.counts.Statement.{statement}
 use Rattle.book.proofs.Book.counts.Tie as tie
 
-header-requires : tie.Need-header-requires
-header-requires c κs = search needs
-
-counts-requires : tie.Need-counts-requires
-counts-requires c κs = search needs
-
 returns : tie.Need-returns
 returns c =
     let a = c .before .before .args in
@@ -20,4 +14,4 @@ returns c =
     (c .counts .ensures .of (b .bids .words) (b .asks .words) (subst (λ (h : Header). Good (bookOf (b .bids .words) (b .asks .words) h)) (sym (c .before .header .ensures)) (c .before .before .pre)))
 
 pub counts-spec : {M : Type 1} → statement M
-counts-spec = tie.close (tie.spec header-requires counts-requires returns)
+counts-spec = tie.close (tie.spec (λ c κs. search needs) (λ c κs. search needs) returns)

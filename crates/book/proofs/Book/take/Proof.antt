@@ -11,22 +11,10 @@ use borrow.Author.Needs.{needs}
 use Rattle.book.proofs.Book.take.Statement.{statement}
 use Rattle.book.proofs.Book.take.Tie as tie
 
-header-requires : tie.Need-header-requires
-header-requires c κs = search needs
-
-array-share-prefix-none : tie.Need-array-share-prefix-none
-array-share-prefix-none c = search needs
-
-slice-aggregate-take : tie.Need-slice-aggregate-take
-slice-aggregate-take c = search needs
-
 take-requires : tie.Need-take-requires
 take-requires c κs =
     let s = c .before .before .before .before .before .before .before in
     (subst (λ (h : Header). Good (bookOf (s .args .self .bids .words) (s .args .self .asks .words) h)) (sym (c .before .before .before .header .ensures)) (s .pre), empty-table [])
-
-join-requires : tie.Need-join-requires
-join-requires c κs = search needs
 
 returns : tie.Need-returns
 returns c =
@@ -38,4 +26,7 @@ returns c =
     (c .before .before .take .ensures))
 
 pub take-spec : {M : Type 1} → statement M
-take-spec = tie.close (tie.spec header-requires array-share-prefix-none slice-aggregate-take take-requires join-requires returns)
+take-spec =
+    tie.close
+    (tie.spec
+    (λ c κs. search needs) (λ c. search needs) (λ c. search needs) take-requires (λ c κs. search needs) returns)

@@ -6,19 +6,10 @@ use borrow.Author.Needs.{needs}
 use Rattle.book.proofs.Book.updates.Statement.{statement}
 use Rattle.book.proofs.Book.updates.Tie as tie
 
-stands-requires : tie.Need-stands-requires
-stands-requires c κs = search needs
-
 returns : tie.Need-returns
 returns c =
     let a = c .before .before .before .args in
     updates-yes (a .self) (a .scope) (sym (c .before .stands .ensures) ∙ c .if1 .taken)
-
-refusal-requires : tie.Need-refusal-requires
-refusal-requires c κs = search needs
-
-no-value-requires : tie.Need-no-value-requires
-no-value-requires c κs = search needs
 
 returns-2 : tie.Need-returns-2
 returns-2 c =
@@ -27,4 +18,6 @@ returns-2 c =
 
 pub updates-spec : {M : Type 1} → statement M
 updates-spec =
-    tie.close (tie.spec stands-requires returns refusal-requires no-value-requires returns-2)
+    tie.close
+    (tie.spec
+    (λ c κs. search needs) returns (λ c κs. search needs) (λ c κs. search needs) returns-2)

@@ -6,18 +6,12 @@ use borrow.Author.Needs.{needs}
 use Rattle.book.proofs.Header.counts.Statement.{statement}
 use Rattle.book.proofs.Header.counts.Tie as tie
 
-stands-requires : tie.Need-stands-requires
-stands-requires c κs = search needs
-
 returns : tie.Need-returns
 returns c = record {
   of = λ bids asks g.
       let a = c .before .before .before .args in
       counts-yes (bookOf bids asks (a .self)) (a .scope) g (sym (c .before .stands .ensures) ∙ c .if1 .taken);
 }
-
-refusal-requires : tie.Need-refusal-requires
-refusal-requires c κs = search needs
 
 returns-2 : tie.Need-returns-2
 returns-2 c = record {
@@ -27,4 +21,7 @@ returns-2 c = record {
 }
 
 pub counts-spec : {M : Type 1} → statement M
-counts-spec = tie.close (tie.spec stands-requires returns refusal-requires returns-2)
+counts-spec =
+    tie.close
+    (tie.spec
+    (λ c κs. search needs) returns (λ c κs. search needs) returns-2)

@@ -7,9 +7,6 @@ use borrow.Author.Needs.{needs}
 use Rattle.book.proofs.taking.checksum_of.Statement.{statement}
 use Rattle.book.proofs.taking.checksum_of.Tie as tie
 
-enum-told : tie.Need-enum-told
-enum-told c = search needs
-
 k-checksum-requires : tie.Need-k-checksum-requires
 k-checksum-requires c κs =
     let a = c .before .before .before .args in
@@ -17,18 +14,12 @@ k-checksum-requires c κs =
     let q = k-sums (a .dialect) (keptIn (now (a .bids)) (a .bid-count)) (keptIn (now (a .asks)) (a .ask-count)) (c .enum-told .given .1) (p .0) (p .1) in
     (q .0, q .1, q .2, q .3, p .2)
 
-enum-told-2 : tie.Need-enum-told-2
-enum-told-2 c = search needs
-
 m-checksum-requires : tie.Need-m-checksum-requires
 m-checksum-requires c κs =
     let a = c .before .before .before .args in
     let p = c .before .before .before .pre in
     let q = m-sums (a .dialect) (keptIn (now (a .bids)) (a .bid-count)) (keptIn (now (a .asks)) (a .ask-count)) (c .enum-told2 .given .1) (p .0) (p .1) in
     (q .0, q .1, q .2, q .3, p .2)
-
-enum-told-3 : tie.Need-enum-told-3
-enum-told-3 c = search needs
 
 returns : tie.Need-returns
 unfolding checksumOf
@@ -46,11 +37,11 @@ pub checksum-of-spec : {M : Type 1} → statement M
 checksum-of-spec =
     tie.close
     (tie.spec
-    enum-told
+    (λ c. search needs)
     k-checksum-requires
-    enum-told-2
+    (λ c. search needs)
     m-checksum-requires
-    enum-told-3
+    (λ c. search needs)
     returns
     returns-2
     returns-3)

@@ -12,21 +12,12 @@ use Rattle.book.proofs.taking.enter.Tie as tie
 abbrev bookAt : tie.Start → Book
 bookAt s = bookOf (now (s .args .bids)) (now (s .args .asks)) (s .args .header)
 
-is-m-requires : tie.Need-is-m-requires
-is-m-requires c κs = search needs
-
-count-before-requires : tie.Need-count-before-requires
-count-before-requires c κs = search needs
-
 apply-entries-requires : tie.Need-apply-entries-requires
 apply-entries-requires c κs =
     let s = c .before .before .before .before .before in
     let m = c .before .before .is-m in
     let o = s .args .outline in
     asked-as (bookAt s) (now (s .args .s)) o (s .pre) (m .result) (m .ensures) Bids (bookAt s .bids) (c .before .count-before .result) (c .before .count-before .ensures) (o .«bids_at») (o .bids) (ready-bids (bookAt s) (now (s .args .s)) o (s .pre)) (s .pre .good .bids) (s .pre .good .few-bids)
-
-count-before-requires-2 : tie.Need-count-before-requires-2
-count-before-requires-2 c κs = search needs
 
 apply-entries-requires-2 : tie.Need-apply-entries-requires-2
 apply-entries-requires-2 c κs =
@@ -52,9 +43,9 @@ pub enter-spec : {M : Type 1} → statement M
 enter-spec =
     tie.close
     (tie.spec
-    is-m-requires
-    count-before-requires
+    (λ c κs. search needs)
+    (λ c κs. search needs)
     apply-entries-requires
-    count-before-requires-2
+    (λ c κs. search needs)
     apply-entries-requires-2
     returns)

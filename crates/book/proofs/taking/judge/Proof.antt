@@ -15,9 +15,6 @@ use borrow.Author.Needs.{needs}
 use Rattle.book.proofs.taking.judge.Statement.{statement}
 use Rattle.book.proofs.taking.judge.Tie as tie
 
-is-shut-requires : tie.Need-is-shut-requires
-is-shut-requires c κs = search needs
-
 returns : tie.Need-returns
 unfolding Judged
 returns c = record {
@@ -25,9 +22,6 @@ returns c = record {
       let a = c .before .before .before .before .args in
       shut-told (bookOf bids asks (a .header)) (now (a .s)) g (sym (c .before .is-shut .ensures) ∙ c .if1 .taken);
 }
-
-array-share-prefix-name : tie.Need-array-share-prefix-name
-array-share-prefix-name c = search needs
 
 slice-aggregate-read-open : tie.Need-slice-aggregate-read-open
 slice-aggregate-read-open c =
@@ -42,18 +36,6 @@ read-open-requires : tie.Need-read-open-requires
 unfolding configOf
 read-open-requires c κs =
     c .before .before .before .before .before .before .before .pre .config (sym (c .before .before .before .before .is-shut .ensures) ∙ c .before .before .before .if1 .left)
-
-enum-known-answer : tie.Need-enum-known-answer
-enum-known-answer c = search needs
-
-enum-known-outline : tie.Need-enum-known-outline
-enum-known-outline c = search needs
-
-is-m-requires : tie.Need-is-m-requires
-is-m-requires c κs = search needs
-
-judge-update-requires : tie.Need-judge-update-requires
-judge-update-requires c κs = search needs
 
 returns-2 : tie.Need-returns-2
 unfolding configOf shows Judged
@@ -82,14 +64,14 @@ pub judge-spec : {M : Type 1} → statement M
 judge-spec =
     tie.close
     (tie.spec
-    is-shut-requires
+    (λ c κs. search needs)
     returns
-    array-share-prefix-name
+    (λ c. search needs)
     slice-aggregate-read-open
     read-open-requires
-    enum-known-answer
-    enum-known-outline
-    is-m-requires
-    judge-update-requires
+    (λ c. search needs)
+    (λ c. search needs)
+    (λ c κs. search needs)
+    (λ c κs. search needs)
     returns-2
     returns-3)

@@ -21,29 +21,11 @@ judged c =
     let s = c .before .before .before .before .before in
     subst (Judged (bookAt c) (now (s .args .s))) (c .outline .given .1) (c .before .before .judge .ensures .of (now (s .args .bids)) (now (s .args .asks)) (s .pre .0))
 
-judge-requires : tie.Need-judge-requires
-judge-requires c κs = search needs
-
-enum-known-refusal : tie.Need-enum-known-refusal
-enum-known-refusal c = search needs
-
-refuse-requires : tie.Need-refuse-requires
-refuse-requires c κs = search needs
-
-enum-known-outline : tie.Need-enum-known-outline
-enum-known-outline c = search needs
-
 take-asks-requires : tie.Need-take-asks-requires
 take-asks-requires c κs = (judged (c .before .before .before .before .before), c .before .before .before .before .before .before .before .before .before .before .pre .1, c .before .before .if1 .taken)
 
-returns : tie.Need-returns
-returns c = search needs
-
 take-bids-requires : tie.Need-take-bids-requires
 take-bids-requires c κs = (judged (c .before .before .before .before .before .before .before), c .before .before .before .before .before .before .before .before .before .before .before .before .pre .1, c .before .before .if2 .taken)
-
-returns-2 : tie.Need-returns-2
-returns-2 c = search needs
 
 take-both-requires : tie.Need-take-both-requires
 take-both-requires c κs = (judged (c .before .before .before .before .before .before .before), c .before .before .before .before .before .before .before .before .before .before .before .before .pre .1)
@@ -57,21 +39,18 @@ returns-3 c =
     subst (λ (h : Header). Received (receive (shows b) (now (a .s))) (stepOf (now (a .bids)) (now (a .asks)) (record { header = h; answer = x }))) (sym (c .refuse .ensures))
     (subst (Judged b (now (a .s))) (c .before .before .refusal .given .1) (c .before .before .before .before .judge .ensures .of (now (a .bids)) (now (a .asks)) (c .before .before .before .before .before .before .before .pre .0)))
 
-returns-4 : tie.Need-returns-4
-returns-4 c = search needs
-
 pub receive-spec : {M : Type 1} → statement M
 receive-spec =
     tie.close
     (tie.spec
-    judge-requires
-    enum-known-refusal
-    refuse-requires
-    enum-known-outline
+    (λ c κs. search needs)
+    (λ c. search needs)
+    (λ c κs. search needs)
+    (λ c. search needs)
     take-asks-requires
-    returns
+    (λ c. search needs)
     take-bids-requires
-    returns-2
+    (λ c. search needs)
     take-both-requires
     returns-3
-    returns-4)
+    (λ c. search needs))

@@ -13,12 +13,6 @@ use Rattle.book.proofs.taking.take_bids.Tie as tie
 abbrev bookAt : tie.Start → Book
 bookAt s = bookOf (now (s .args .bids)) (now (s .args .asks)) (s .args .header)
 
-try-entries-requires : tie.Need-try-entries-requires
-try-entries-requires c κs = search needs
-
-is-taken-requires : tie.Need-is-taken-requires
-is-taken-requires c κs = search needs
-
 returns : tie.Need-returns
 returns c = c .before .before .try-entries .ensures .taken (sym (c .before .is-taken .ensures) ∙ c .if1 .taken)
 
@@ -30,4 +24,7 @@ returns-2 c =
     (t .ensures .refused (sym (c .before .is-taken .ensures) ∙ c .if1 .left))
 
 pub take-bids-spec : {M : Type 1} → statement M
-take-bids-spec = tie.close (tie.spec try-entries-requires is-taken-requires returns returns-2)
+take-bids-spec =
+    tie.close
+    (tie.spec
+    (λ c κs. search needs) (λ c κs. search needs) returns returns-2)

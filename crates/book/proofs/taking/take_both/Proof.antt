@@ -4,12 +4,6 @@ use borrow.Author.Needs.{needs}
 use Rattle.book.proofs.taking.take_both.Statement.{statement}
 use Rattle.book.proofs.taking.take_both.Tie as tie
 
-try-entries-requires : tie.Need-try-entries-requires
-try-entries-requires c κs = search needs
-
-is-taken-requires : tie.Need-is-taken-requires
-is-taken-requires c κs = search needs
-
 returns : tie.Need-returns
 returns c = c .before .before .try-entries .ensures .taken (sym (c .before .is-taken .ensures) ∙ c .if1 .taken)
 
@@ -17,4 +11,7 @@ returns-2 : tie.Need-returns-2
 returns-2 c = c .before .before .try-entries .ensures .refused (sym (c .before .is-taken .ensures) ∙ c .if1 .left)
 
 pub take-both-spec : {M : Type 1} → statement M
-take-both-spec = tie.close (tie.spec try-entries-requires is-taken-requires returns returns-2)
+take-both-spec =
+    tie.close
+    (tie.spec
+    (λ c κs. search needs) (λ c κs. search needs) returns returns-2)

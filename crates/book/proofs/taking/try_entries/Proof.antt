@@ -46,15 +46,6 @@ asksOf c = sideAfter (c .enter .last .1 .1 .1 .0) (c .enter .result .asks)
 enter-requires : tie.Need-enter-requires
 enter-requires c κs = passed (c .before .before .before .before .before)
 
-weigh-requires : tie.Need-weigh-requires
-weigh-requires c κs = search needs
-
-is-taken-requires : tie.Need-is-taken-requires
-is-taken-requires c κs = search needs
-
-renew-requires : tie.Need-renew-requires
-renew-requires c κs = search needs
-
 returns : tie.Need-returns
 unfolding keptStep
 returns c =
@@ -70,9 +61,6 @@ returns c =
       bids-stay = n .enter .ensures .bids-stay;
       asks-stay = n .enter .ensures .asks-stay;
     }
-
-refuse-requires : tie.Need-refuse-requires
-refuse-requires c κs = search needs
 
 returns-2 : tie.Need-returns-2
 unfolding refusedStep
@@ -95,9 +83,9 @@ try-entries-spec =
     tie.close
     (tie.spec
     enter-requires
-    weigh-requires
-    is-taken-requires
-    renew-requires
+    (λ c κs. search needs)
+    (λ c κs. search needs)
+    (λ c κs. search needs)
     returns
-    refuse-requires
+    (λ c κs. search needs)
     returns-2)

@@ -32,35 +32,17 @@ tested-over c =
     c .is-over .ensures
     ∙ ap₂ (λ (m over : Bool). not (c .before .before .before .before .before .before .before .before .before .args .outline .snapshot) && (m && over)) (c .before .is-m .ensures) (c .before .before .either2 .ensures)
 
-either-requires : tie.Need-either-requires
-either-requires c κs = search needs
-
-both-requires : tie.Need-both-requires
-both-requires c κs = search needs
-
 returns : tie.Need-returns
 returns c =
     let s = c .before .before .before .before in
     weighed-twice (s .args .outline) (s .args .dialect) (isMet s) (isOver s) (bidsOf s .levels) (asksOf s .levels)
     (sym (tested-twice (c .before)) ∙ c .if1 .taken)
 
-either-requires-2 : tie.Need-either-requires-2
-either-requires-2 c κs = search needs
-
-is-m-requires : tie.Need-is-m-requires
-is-m-requires c κs = search needs
-
-is-over-requires : tie.Need-is-over-requires
-is-over-requires c κs = search needs
-
 returns-2 : tie.Need-returns-2
 returns-2 c =
     let s = c .before .before .before .before .before .before .before .before .before .before in
     weighed-over (s .args .outline) (s .args .dialect) (isMet s) (isOver s) (bidsOf s .levels) (asksOf s .levels)
     (sym (tested-twice (c .before .before .before .before .before .before .before)) ∙ c .before .before .before .before .before .before .if1 .left) (sym (tested-over (c .before)) ∙ c .if2 .taken)
-
-checksum-of-requires : tie.Need-checksum-of-requires
-checksum-of-requires c κs = search needs
 
 returns-3 : tie.Need-returns-3
 returns-3 c =
@@ -84,14 +66,14 @@ pub weigh-spec : {M : Type 1} → statement M
 weigh-spec =
     tie.close
     (tie.spec
-    either-requires
-    both-requires
+    (λ c κs. search needs)
+    (λ c κs. search needs)
     returns
-    either-requires-2
-    is-m-requires
-    is-over-requires
+    (λ c κs. search needs)
+    (λ c κs. search needs)
+    (λ c κs. search needs)
     returns-2
-    checksum-of-requires
+    (λ c κs. search needs)
     returns-3
     returns-4
     returns-5)

@@ -12,12 +12,6 @@ use borrow.Author.Needs.{needs}
 use Rattle.book.proofs.writing.lay.Statement.{statement}
 use Rattle.book.proofs.writing.lay.Tie as tie
 
-enum-told : tie.Need-enum-told
-enum-told c = search needs
-
-array-share-prefix-name : tie.Need-array-share-prefix-name
-array-share-prefix-name c = search needs
-
 slice-aggregate-k-write : tie.Need-slice-aggregate-k-write
 slice-aggregate-k-write c =
     let a = c .before .before .before .before .before .before .before .before .args in
@@ -31,24 +25,12 @@ k-write-requires c κs =
     let s = g .short in
     (g .bids .good, g .asks .good, g .bids .sized, g .asks .sized, omega arith)
 
-enum-told-2 : tie.Need-enum-told-2
-enum-told-2 c = search needs
-
-array-share-prefix-none : tie.Need-array-share-prefix-none
-array-share-prefix-none c = search needs
-
-slice-aggregate-m-checksum : tie.Need-slice-aggregate-m-checksum
-slice-aggregate-m-checksum c = search needs
-
 m-checksum-requires : tie.Need-m-checksum-requires
 m-checksum-requires c κs =
     let a = c .before .before .before .before .before .before .before .before .before .before .before .before .args in
     let g = c .before .before .before .before .before .before .before .before .before .before .before .before .pre in
     let q = m-sums (a .book .settings .dialect) (a .book .bids) (a .book .asks) (c .before .before .before .before .before .enum-told2 .given .1) (g .bids) (g .asks) in
     (q .0, q .1, q .2, q .3, empty-table [])
-
-array-share-prefix-name-2 : tie.Need-array-share-prefix-name-2
-array-share-prefix-name-2 c = search needs
 
 slice-aggregate-m-write : tie.Need-slice-aggregate-m-write
 slice-aggregate-m-write c =
@@ -63,19 +45,10 @@ m-write-requires c κs =
     let s = g .short in
     (g .bids .good, g .asks .good, g .bids .sized, g .asks .sized, omega arith)
 
-enum-told-3 : tie.Need-enum-told-3
-enum-told-3 c = search needs
-
-same-length : tie.Need-same-length
-same-length c = search needs
-
 returns : tie.Need-returns
 returns c =
     let a = c .before .before .before .before .before .before .before .before .before .before .before .before .args in
     subst (λ (t : List ℕ). Laid (now (a .buffer)) 0 t (c .before .before .k-write .last .1 .1 .1 .1 .0) (c .before .before .k-write .result)) (k-text (a .book) (c .before .before .before .before .before .enum-told .given .1)) (c .before .before .k-write .ensures)
-
-same-length-2 : tie.Need-same-length-2
-same-length-2 c = search needs
 
 returns-2 : tie.Need-returns-2
 returns-2 c =
@@ -91,20 +64,20 @@ pub lay-spec : {M : Type 1} → statement M
 lay-spec =
     tie.close
     (tie.spec
-    enum-told
-    array-share-prefix-name
+    (λ c. search needs)
+    (λ c. search needs)
     slice-aggregate-k-write
     k-write-requires
-    enum-told-2
-    array-share-prefix-none
-    slice-aggregate-m-checksum
+    (λ c. search needs)
+    (λ c. search needs)
+    (λ c. search needs)
     m-checksum-requires
-    array-share-prefix-name-2
+    (λ c. search needs)
     slice-aggregate-m-write
     m-write-requires
-    enum-told-3
-    same-length
+    (λ c. search needs)
+    (λ c. search needs)
     returns
-    same-length-2
+    (λ c. search needs)
     returns-2
     returns-3)

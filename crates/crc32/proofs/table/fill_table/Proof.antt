@@ -18,24 +18,6 @@ abbrev μ-loop : tie.MeasureT-loop
 loop-holds : tie.Need-loop-holds Inv-loop μ-loop
 loop-holds c = (omega arith, refl, λ k l. omega arith)
 
-cast-shift : tie.Need-cast-shift Inv-loop μ-loop
-cast-shift c = search needs
-
-add-shift : tie.Need-add-shift Inv-loop μ-loop
-add-shift c = search needs
-
-shift-requires : tie.Need-shift-requires Inv-loop μ-loop
-shift-requires c κs = search needs
-
-mul-table : tie.Need-mul-table Inv-loop μ-loop
-mul-table c = search needs
-
-slice-write-table : tie.Need-slice-write-table Inv-loop μ-loop
-slice-write-table c = search needs
-
-add-i : tie.Need-add-i Inv-loop μ-loop
-add-i c = search needs
-
 loop-less : tie.Need-loop-less Inv-loop μ-loop
 loop-less c = simp length-set (omega arith)
 
@@ -45,9 +27,6 @@ loop-again c =
     let l : w .i < length (w .table) = omega arith in
     let n = length-set (w .table) (w .i) (c .shift .result) in
     (omega arith, n ∙ w .inv .1, filled-more (w .table) (w .i) (c .shift .result) l (c .shift .ensures) (w .inv .2))
-
-same-length : tie.Need-same-length Inv-loop μ-loop
-same-length c = search needs
 
 returns : tie.Need-returns Inv-loop μ-loop
 returns c =
@@ -61,13 +40,13 @@ fill-table-spec =
     Inv-loop
     μ-loop
     loop-holds
-    cast-shift
-    add-shift
-    shift-requires
-    mul-table
-    slice-write-table
-    add-i
+    (λ c. search needs)
+    (λ c. search needs)
+    (λ c κs. search needs)
+    (λ c. search needs)
+    (λ c. search needs)
+    (λ c. search needs)
     loop-less
     loop-again
-    same-length
+    (λ c. search needs)
     returns)

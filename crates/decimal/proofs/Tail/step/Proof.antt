@@ -9,41 +9,11 @@ use borrow.Author.Needs.{needs}
 use Rattle.decimal.proofs.Tail.step.Statement.{statement}
 use Rattle.decimal.proofs.Tail.step.Tie as tie
 
-enum-told : tie.Need-enum-told
-enum-told c = search needs
-
-whole-tail-requires : tie.Need-whole-tail-requires
-whole-tail-requires c κs = search needs
-
 returns : tie.Need-returns
 returns c = tail-point (c .before .before .before .before .before .args .self) (c .before .before .before .enum-told .given .1) (c .before .if1 .taken) ∙ ap (λ (l : List ℕ). l ++ (46 ∷ [])) (sym (c .whole-tail .ensures))
 
-last-digit-requires : tie.Need-last-digit-requires
-last-digit-requires c κs = search needs
-
-sub-t8 : tie.Need-sub-t8
-sub-t8 c = search needs
-
-enum-told-2 : tie.Need-enum-told-2
-enum-told-2 c = search needs
-
-last-digit-requires-2 : tie.Need-last-digit-requires-2
-last-digit-requires-2 c κs = search needs
-
-higher-requires : tie.Need-higher-requires
-higher-requires c κs = search needs
-
-enum-told-3 : tie.Need-enum-told-3
-enum-told-3 c = search needs
-
 returns-2 : tie.Need-returns-2
 returns-2 c = tail-none (c .before .before .before .before .args .self) (c .before .before .enum-told3 .given .1) (c .if2 .taken)
-
-last-digit-requires-3 : tie.Need-last-digit-requires-3
-last-digit-requires-3 c κs = search needs
-
-higher-requires-2 : tie.Need-higher-requires-2
-higher-requires-2 c κs = search needs
 
 returns-3 : tie.Need-returns-3
 unfolding remaining
@@ -59,18 +29,18 @@ pub step-spec : {M : Type 1} → statement M
 step-spec =
     tie.close
     (tie.spec
-    enum-told
-    whole-tail-requires
+    (λ c. search needs)
+    (λ c κs. search needs)
     returns
-    last-digit-requires
-    sub-t8
-    enum-told-2
-    last-digit-requires-2
-    higher-requires
-    enum-told-3
+    (λ c κs. search needs)
+    (λ c. search needs)
+    (λ c. search needs)
+    (λ c κs. search needs)
+    (λ c κs. search needs)
+    (λ c. search needs)
     returns-2
-    last-digit-requires-3
-    higher-requires-2
+    (λ c κs. search needs)
+    (λ c κs. search needs)
     returns-3
     returns-4
     returns-5)

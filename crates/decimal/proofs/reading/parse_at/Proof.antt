@@ -10,17 +10,8 @@ use borrow.Author.Needs.{needs}
 use Rattle.decimal.proofs.reading.parse_at.Statement.{statement}
 use Rattle.decimal.proofs.reading.parse_at.Tie as tie
 
-digits-at-requires : tie.Need-digits-at-requires
-digits-at-requires c κs = search needs
-
 returns : tie.Need-returns
 returns c = sym (front-empty (c .before .digits-at .ensures) (c .if1 .taken))
-
-byte-at-requires : tie.Need-byte-at-requires
-byte-at-requires c κs = search needs
-
-is-digit-requires : tie.Need-is-digit-requires
-is-digit-requires c κs = search needs
 
 returns-2 : tie.Need-returns-2
 unfolding byteAt
@@ -33,9 +24,6 @@ needless-zero-requires c κs = run-within (c .before .before .before .before .di
 returns-3 : tie.Need-returns-3
 unfolding byteAt
 returns-3 c = sym (prefix-refused (drop (c .before .before .before .before .before .before .before .before .args .at) (c .before .before .before .before .before .before .before .before .args .s .now)) (not-whole (c .before .before .before .before .before .before .digits-at .ensures) (c .before .before .before .before .before .if1 .left) (sym (ap isDigit (c .before .before .before .before .byte-at .ensures)) ∙ sym (c .before .before .before .is-digit .ensures) ∙ c .before .before .if2 .left) (sym (c .before .needless-zero .ensures) ∙ c .if3 .taken)))
-
-byte-at-requires-2 : tie.Need-byte-at-requires-2
-byte-at-requires-2 c κs = search needs
 
 returns-4 : tie.Need-returns-4
 unfolding number byteAt
@@ -53,18 +41,9 @@ returns-5 : tie.Need-returns-5
 unfolding byteAt
 returns-5 c = sym (fraction-empty (whole-part (c .before .before .before .before .before .before .before .before .before .before .digits-at .ensures) (c .before .before .before .before .before .before .before .before .before .if1 .left) (sym (ap isDigit (c .before .before .before .before .before .before .before .before .byte-at .ensures)) ∙ sym (c .before .before .before .before .before .before .before .is-digit .ensures) ∙ c .before .before .before .before .before .before .if2 .left) (sym (c .before .before .before .before .before .needless-zero .ensures) ∙ c .before .before .before .before .if3 .left)) (sym (c .before .before .before .byte-at2 .ensures) ∙ c .before .before .if4 .left) (c .before .digits-at2 .ensures) (c .if5 .taken))
 
-byte-at-requires-3 : tie.Need-byte-at-requires-3
-byte-at-requires-3 c κs = search needs
-
-is-digit-requires-2 : tie.Need-is-digit-requires-2
-is-digit-requires-2 c κs = search needs
-
 returns-6 : tie.Need-returns-6
 unfolding byteAt
 returns-6 c = sym (fraction-more (whole-part (c .before .before .before .before .before .before .before .before .before .before .before .before .before .digits-at .ensures) (c .before .before .before .before .before .before .before .before .before .before .before .before .if1 .left) (sym (ap isDigit (c .before .before .before .before .before .before .before .before .before .before .before .byte-at .ensures)) ∙ sym (c .before .before .before .before .before .before .before .before .before .before .is-digit .ensures) ∙ c .before .before .before .before .before .before .before .before .before .if2 .left) (sym (c .before .before .before .before .before .before .before .before .needless-zero .ensures) ∙ c .before .before .before .before .before .before .before .if3 .left)) (sym (c .before .before .before .before .before .before .byte-at2 .ensures) ∙ c .before .before .before .before .before .if4 .left) (c .before .before .before .before .digits-at2 .ensures) (sym (ap isDigit (c .before .before .byte-at3 .ensures)) ∙ sym (c .before .is-digit2 .ensures) ∙ c .if6 .taken))
-
-sub-t14 : tie.Need-sub-t14
-sub-t14 c = search needs
 
 returns-7 : tie.Need-returns-7
 unfolding number byteAt
@@ -74,20 +53,20 @@ pub parse-at-spec : {M : Type 1} → statement M
 parse-at-spec =
     tie.close
     (tie.spec
-    digits-at-requires
+    (λ c κs. search needs)
     returns
-    byte-at-requires
-    is-digit-requires
+    (λ c κs. search needs)
+    (λ c κs. search needs)
     returns-2
     needless-zero-requires
     returns-3
-    byte-at-requires-2
+    (λ c κs. search needs)
     returns-4
     add-start
     digits-at-requires-2
     returns-5
-    byte-at-requires-3
-    is-digit-requires-2
+    (λ c κs. search needs)
+    (λ c κs. search needs)
     returns-6
-    sub-t14
+    (λ c. search needs)
     returns-7)

@@ -7,9 +7,6 @@ use borrow.Author.Needs.{needs}
 use Rattle.decimal.proofs.writing.text_tail.Statement.{statement}
 use Rattle.decimal.proofs.writing.text_tail.Tie as tie
 
-whole-tail-requires : tie.Need-whole-tail-requires
-whole-tail-requires c κs = search needs
-
 returns : tie.Need-returns
 unfolding number
 returns c = c .whole-tail .ensures ∙ sym (text-whole (number (c .before .before .before .args .a)) (c .before .if1 .taken))
@@ -19,4 +16,4 @@ unfolding number remaining
 returns-2 c = sym (text-fraction (number (c .before .before .args .a)) (c .if1 .left))
 
 pub text-tail-spec : {M : Type 1} → statement M
-text-tail-spec = tie.close (tie.spec whole-tail-requires returns returns-2)
+text-tail-spec = tie.close (tie.spec (λ c κs. search needs) returns returns-2)

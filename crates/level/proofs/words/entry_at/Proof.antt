@@ -5,12 +5,6 @@ use borrow.Author.Needs.{needs}
 use Rattle.level.proofs.words.entry_at.Statement.{statement}
 use Rattle.level.proofs.words.entry_at.Tie as tie
 
-level-of-requires : tie.Need-level-of-requires
-level-of-requires c κs = search needs
-
-cast-t7 : tie.Need-cast-t7
-cast-t7 c = search needs
-
 returns : tie.Need-returns
 unfolding entryOf changeOf decimalPrice
 returns c =
@@ -24,4 +18,7 @@ returns-2 c =
     rw (ne-eqb (a .size) 0 (c .if1 .left), c .before .level-of .ensures)
 
 pub entry-at-spec : {M : Type 1} → statement M
-entry-at-spec = tie.close (tie.spec level-of-requires cast-t7 returns returns-2)
+entry-at-spec =
+    tie.close
+    (tie.spec
+    (λ c κs. search needs) (λ c. search needs) returns returns-2)

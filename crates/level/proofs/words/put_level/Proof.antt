@@ -12,42 +12,6 @@ use borrow.Author.Needs.{needs}
 use Rattle.level.proofs.words.put_level.Statement.{statement}
 use Rattle.level.proofs.words.put_level.Tie as tie
 
-pack-requires : tie.Need-pack-requires
-pack-requires c κs = search needs
-
-mul-words : tie.Need-mul-words
-mul-words c = search needs
-
-mul-words-2 : tie.Need-mul-words-2
-mul-words-2 c = search needs
-
-element-write-words : tie.Need-element-write-words
-element-write-words c = search needs
-
-mul-words-3 : tie.Need-mul-words-3
-mul-words-3 c = search needs
-
-add-words : tie.Need-add-words
-add-words c = search needs
-
-mul-words-4 : tie.Need-mul-words-4
-mul-words-4 c = search needs
-
-element-write-words-2 : tie.Need-element-write-words-2
-element-write-words-2 c = search needs
-
-mul-words-5 : tie.Need-mul-words-5
-mul-words-5 c = search needs
-
-add-words-2 : tie.Need-add-words-2
-add-words-2 c = search needs
-
-mul-words-6 : tie.Need-mul-words-6
-mul-words-6 c = search needs
-
-element-write-words-3 : tie.Need-element-write-words-3
-element-write-words-3 c = search needs
-
 returns : tie.Need-returns
 returns c =
     let a = c .before .args in
@@ -64,16 +28,16 @@ pub put-level-spec : {M : Type 1} → statement M
 put-level-spec =
     tie.close
     (tie.spec
-    pack-requires
-    mul-words
-    mul-words-2
-    element-write-words
-    mul-words-3
-    add-words
-    mul-words-4
-    element-write-words-2
-    mul-words-5
-    add-words-2
-    mul-words-6
-    element-write-words-3
+    (λ c κs. search needs)
+    (λ c. search needs)
+    (λ c. search needs)
+    (λ c. search needs)
+    (λ c. search needs)
+    (λ c. search needs)
+    (λ c. search needs)
+    (λ c. search needs)
+    (λ c. search needs)
+    (λ c. search needs)
+    (λ c. search needs)
+    (λ c. search needs)
     returns)

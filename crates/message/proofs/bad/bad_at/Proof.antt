@@ -17,19 +17,10 @@ sub-first-bad c = c .before .before .pre .inside (c .if1 .left)
 part-first-bad-start : tie.Need-part-first-bad-start
 part-first-bad-start c = c .before .before .pre .inside (c .if1 .left)
 
-part-first-bad-end : tie.Need-part-first-bad-end
-part-first-bad-end c = search needs
-
 first-bad-requires : tie.Need-first-bad-requires
 first-bad-requires c κs =
     let a = c .before .before .before .args in
     rw (part-is (a .at) (now (a .s))) (c .before .before .before .pre .loadable (c .before .if1 .left))
-
-add-t12 : tie.Need-add-t12
-add-t12 c = search needs
-
-add-t13 : tie.Need-add-t13
-add-t13 c = search needs
 
 returns-2 : tie.Need-returns-2
 returns-2 c =
@@ -48,9 +39,9 @@ bad-at-spec =
     returns
     sub-first-bad
     part-first-bad-start
-    part-first-bad-end
+    (λ c. search needs)
     first-bad-requires
-    add-t12
-    add-t13
+    (λ c. search needs)
+    (λ c. search needs)
     returns-2
     returns-3)

@@ -10,18 +10,6 @@ use borrow.Author.Needs.{needs}
 use Rattle.message.proofs.bad.bad_decimal.Statement.{statement}
 use Rattle.message.proofs.bad.bad_decimal.Tie as tie
 
-bad-place-requires : tie.Need-bad-place-requires
-bad-place-requires c κs = search needs
-
-sub-result : tie.Need-sub-result
-sub-result c = search needs
-
-part-result-start : tie.Need-part-result-start
-part-result-start c = search needs
-
-part-result-end : tie.Need-part-result-end
-part-result-end c = search needs
-
 returns : tie.Need-returns
 unfolding part partOf
 returns c =
@@ -31,4 +19,6 @@ returns c =
 
 pub bad-decimal-spec : {M : Type 1} → statement M
 bad-decimal-spec =
-    tie.close (tie.spec bad-place-requires sub-result part-result-start part-result-end returns)
+    tie.close
+    (tie.spec
+    (λ c κs. search needs) (λ c. search needs) (λ c. search needs) (λ c. search needs) returns)

@@ -7,15 +7,6 @@ use borrow.Author.Needs.{needs}
 use Rattle.message.proofs.bad.bad_in.Statement.{statement}
 use Rattle.message.proofs.bad.bad_in.Tie as tie
 
-bad-at-requires : tie.Need-bad-at-requires
-bad-at-requires c κs = search needs
-
-bad-at-requires-2 : tie.Need-bad-at-requires-2
-bad-at-requires-2 c κs = search needs
-
-earlier-requires : tie.Need-earlier-requires
-earlier-requires c κs = search needs
-
 returns : tie.Need-returns
 returns c =
     let a = c .before .before .before .before .args in
@@ -24,4 +15,7 @@ returns c =
     record { is = c .earlier .ensures ∙ ap₂ earlierPlace (b .ensures .is) (k .ensures .is); within = earlier-within (b .result) (k .result) (now (a .s)) (b .ensures .within) (k .ensures .within) (c .earlier .result) (c .earlier .ensures) }
 
 pub bad-in-spec : {M : Type 1} → statement M
-bad-in-spec = tie.close (tie.spec bad-at-requires bad-at-requires-2 earlier-requires returns)
+bad-in-spec =
+    tie.close
+    (tie.spec
+    (λ c κs. search needs) (λ c κs. search needs) (λ c κs. search needs) returns)

@@ -6,18 +6,6 @@ use borrow.Author.Needs.{needs}
 use Rattle.message.proofs.bad.bad_in_frame.Statement.{statement}
 use Rattle.message.proofs.bad.bad_in_frame.Tie as tie
 
-read-frame-requires : tie.Need-read-frame-requires
-read-frame-requires c κs = search needs
-
-enum-scan : tie.Need-enum-scan
-enum-scan c = search needs
-
-enum-known-outline : tie.Need-enum-known-outline
-enum-known-outline c = search needs
-
-is-m-requires : tie.Need-is-m-requires
-is-m-requires c κs = search needs
-
 bad-in-requires : tie.Need-bad-in-requires
 bad-in-requires c κs =
     let a = c .before .before .before .before .before .before .before .args in
@@ -26,7 +14,7 @@ bad-in-requires c κs =
 returns : tie.Need-returns
 returns c =
     let a = c .before .before .before .before .before .args in
-    frame-fails (record { dialect = a .dialect; depth = a .depth; name = now (a .name) }) (now (a .s)) (c .before .before .before .before .before .pre) (c .before .before .read-frame .result) (c .before .before .read-frame .ensures) (c .enum-scan .given .0 .0) (c .enum-scan .given .1)
+    frame-fails (record { dialect = a .dialect; depth = a .depth; name = now (a .name) }) (now (a .s)) (c .before .before .before .before .before .pre) (c .before .before .read-frame .result) (c .before .before .read-frame .ensures) (c .enum-told .given .0 .0) (c .enum-told .given .1)
 
 returns-2 : tie.Need-returns-2
 returns-2 c =
@@ -38,10 +26,10 @@ pub bad-in-frame-spec : {M : Type 1} → statement M
 bad-in-frame-spec =
     tie.close
     (tie.spec
-    read-frame-requires
-    enum-scan
-    enum-known-outline
-    is-m-requires
+    (λ c κs. search needs)
+    (λ c. search needs)
+    (λ c. search needs)
+    (λ c κs. search needs)
     bad-in-requires
     returns
     returns-2)

@@ -6,9 +6,6 @@ use borrow.Author.Needs.{needs}
 use Rattle.message.proofs.bad.bad_place.Statement.{statement}
 use Rattle.message.proofs.bad.bad_place.Tie as tie
 
-is-good-requires : tie.Need-is-good-requires
-is-good-requires c κs = search needs
-
 bad-in-frame-requires : tie.Need-bad-in-frame-requires
 bad-in-frame-requires c κs = sym (c .before .is-good .ensures) ∙ c .if1 .taken
 
@@ -24,4 +21,7 @@ returns-2 c =
     place-shut (record { dialect = a .dialect; depth = a .depth; name = now (a .name) }) (now (a .s)) (sym (c .before .is-good .ensures) ∙ c .if1 .left)
 
 pub bad-place-spec : {M : Type 1} → statement M
-bad-place-spec = tie.close (tie.spec is-good-requires bad-in-frame-requires returns returns-2)
+bad-place-spec =
+    tie.close
+    (tie.spec
+    (λ c κs. search needs) bad-in-frame-requires returns returns-2)

@@ -4,12 +4,9 @@ use borrow.Author.Needs.{needs}
 use Rattle.replay.proofs.asking.counts_replied.Statement.{statement}
 use Rattle.replay.proofs.asking.counts_replied.Tie as tie
 
-number-of-requires : tie.Need-number-of-requires
-number-of-requires c κs = search needs
-
 returns : tie.Need-returns
 unfolding countsReplied
 returns c = rw (c .number-of .ensures)
 
 pub counts-replied-spec : {M : Type 1} → statement M
-counts-replied-spec = tie.close (tie.spec number-of-requires returns)
+counts-replied-spec = tie.close (tie.spec (λ c κs. search needs) returns)

@@ -20,9 +20,6 @@ lay-word-requires-4 c κs = word-room (c .before .before .before .before .before
 lay-word-requires-5 : tie.Need-lay-word-requires-5
 lay-word-requires-5 c κs = word-room (c .before .before .before .before .before .before .before .before .before .before .before .before .before .before .before .before .before .before .args .reply .fourth) [] (word-laid (c .before .before .before .before .before .before .before .before .before .before .before .before .before .before .before .before .before .before .args .reply .third) (c .before .before .before .before .before .before .before .before .before .before .before .before .before .before .before .before .before .before .args .reply .fourth ∷ []) (word-laid (c .before .before .before .before .before .before .before .before .before .before .before .before .before .before .before .before .before .before .args .reply .second) (c .before .before .before .before .before .before .before .before .before .before .before .before .before .before .before .before .before .before .args .reply .third ∷ c .before .before .before .before .before .before .before .before .before .before .before .before .before .before .before .before .before .before .args .reply .fourth ∷ []) (word-laid (c .before .before .before .before .before .before .before .before .before .before .before .before .before .before .before .before .before .before .args .reply .first) (c .before .before .before .before .before .before .before .before .before .before .before .before .before .before .before .before .before .before .args .reply .second ∷ c .before .before .before .before .before .before .before .before .before .before .before .before .before .before .before .before .before .before .args .reply .third ∷ c .before .before .before .before .before .before .before .before .before .before .before .before .before .before .before .before .before .before .args .reply .fourth ∷ []) (word-laid (c .before .before .before .before .before .before .before .before .before .before .before .before .before .before .before .before .before .before .args .reply .answer) (c .before .before .before .before .before .before .before .before .before .before .before .before .before .before .before .before .before .before .args .reply .first ∷ c .before .before .before .before .before .before .before .before .before .before .before .before .before .before .before .before .before .before .args .reply .second ∷ c .before .before .before .before .before .before .before .before .before .before .before .before .before .before .before .before .before .before .args .reply .third ∷ c .before .before .before .before .before .before .before .before .before .before .before .before .before .before .before .before .before .before .args .reply .fourth ∷ []) (words-owed (c .before .before .before .before .before .before .before .before .before .before .before .before .before .before .before .before .before .before .args .part .now) (c .before .before .before .before .before .before .before .before .before .before .before .before .before .before .before .before .before .before .args .reply) (c .before .before .before .before .before .before .before .before .before .before .before .before .before .before .before .before .before .before .pre)) (c .before .before .before .before .before .before .before .before .before .before .before .before .before .before .before .lay-word .ensures)) (c .before .before .before .before .before .before .before .before .before .before .before .lay-word2 .ensures)) (c .before .before .before .before .before .before .before .lay-word3 .ensures)) (c .before .before .before .lay-word4 .ensures))
 
-same-length : tie.Need-same-length
-same-length c = search needs
-
 returns : tie.Need-returns
 returns c = words-laid (word-laid (c .before .before .before .before .before .before .before .before .before .before .before .before .before .before .before .before .before .before .before .before .before .args .reply .fourth) [] (word-laid (c .before .before .before .before .before .before .before .before .before .before .before .before .before .before .before .before .before .before .before .before .before .args .reply .third) (c .before .before .before .before .before .before .before .before .before .before .before .before .before .before .before .before .before .before .before .before .before .args .reply .fourth ∷ []) (word-laid (c .before .before .before .before .before .before .before .before .before .before .before .before .before .before .before .before .before .before .before .before .before .args .reply .second) (c .before .before .before .before .before .before .before .before .before .before .before .before .before .before .before .before .before .before .before .before .before .args .reply .third ∷ c .before .before .before .before .before .before .before .before .before .before .before .before .before .before .before .before .before .before .before .before .before .args .reply .fourth ∷ []) (word-laid (c .before .before .before .before .before .before .before .before .before .before .before .before .before .before .before .before .before .before .before .before .before .args .reply .first) (c .before .before .before .before .before .before .before .before .before .before .before .before .before .before .before .before .before .before .before .before .before .args .reply .second ∷ c .before .before .before .before .before .before .before .before .before .before .before .before .before .before .before .before .before .before .before .before .before .args .reply .third ∷ c .before .before .before .before .before .before .before .before .before .before .before .before .before .before .before .before .before .before .before .before .before .args .reply .fourth ∷ []) (word-laid (c .before .before .before .before .before .before .before .before .before .before .before .before .before .before .before .before .before .before .before .before .before .args .reply .answer) (c .before .before .before .before .before .before .before .before .before .before .before .before .before .before .before .before .before .before .before .before .before .args .reply .first ∷ c .before .before .before .before .before .before .before .before .before .before .before .before .before .before .before .before .before .before .before .before .before .args .reply .second ∷ c .before .before .before .before .before .before .before .before .before .before .before .before .before .before .before .before .before .before .before .before .before .args .reply .third ∷ c .before .before .before .before .before .before .before .before .before .before .before .before .before .before .before .before .before .before .before .before .before .args .reply .fourth ∷ []) (words-owed (c .before .before .before .before .before .before .before .before .before .before .before .before .before .before .before .before .before .before .before .before .before .args .part .now) (c .before .before .before .before .before .before .before .before .before .before .before .before .before .before .before .before .before .before .before .before .before .args .reply) (c .before .before .before .before .before .before .before .before .before .before .before .before .before .before .before .before .before .before .before .before .before .pre)) (c .before .before .before .before .before .before .before .before .before .before .before .before .before .before .before .before .before .before .lay-word .ensures)) (c .before .before .before .before .before .before .before .before .before .before .before .before .before .before .lay-word2 .ensures)) (c .before .before .before .before .before .before .before .before .before .before .lay-word3 .ensures)) (c .before .before .before .before .before .before .lay-word4 .ensures)) (c .before .before .lay-word5 .ensures))
 
@@ -35,5 +32,5 @@ lay-reply-spec =
     lay-word-requires-3
     lay-word-requires-4
     lay-word-requires-5
-    same-length
+    (λ c. search needs)
     returns)

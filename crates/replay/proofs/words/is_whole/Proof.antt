@@ -7,26 +7,14 @@ use Rattle.replay.proofs.words.is_whole.Tie as tie
 returns : tie.Need-returns
 returns c = not-header (c .before .before .args .s .now) (c .before .before .args .room) (c .if1 .taken)
 
-word-at-requires : tie.Need-word-at-requires
-word-at-requires c κs = search needs
-
 returns-2 : tie.Need-returns-2
 returns-2 c = not-opcode (c .before .before .before .before .args .s .now) (c .before .before .before .before .args .room) (c .before .before .if1 .left) (c .before .word-at .ensures) (c .if2 .taken)
-
-sub-if3 : tie.Need-sub-if3
-sub-if3 c = search needs
-
-word-at-requires-2 : tie.Need-word-at-requires-2
-word-at-requires-2 c κs = search needs
 
 returns-3 : tie.Need-returns-3
 returns-3 c = not-message (c .before .before .before .before .before .before .args .s .now) (c .before .before .before .before .before .before .args .room) (c .before .before .before .before .if1 .left) (c .before .before .before .word-at .ensures) (c .before .before .if2 .left) (c .before .word-at2 .ensures) (c .if3 .taken)
 
 returns-4 : tie.Need-returns-4
 returns-4 c = not-words (c .before .before .before .before .before .before .before .args .s .now) (c .before .before .before .before .before .before .before .args .room) (c .before .before .before .before .before .if1 .left) (c .before .before .before .before .word-at .ensures) (c .before .before .before .if2 .left) (c .before .before .word-at2 .ensures) (c .before .if3 .left) (c .if4 .taken)
-
-word-at-requires-3 : tie.Need-word-at-requires-3
-word-at-requires-3 c κs = search needs
 
 returns-5 : tie.Need-returns-5
 returns-5 c = whole-by (c .before .before .before .before .before .before .before .before .args .s .now) (c .before .before .before .before .before .before .before .before .args .room) (c .before .before .before .before .before .before .if1 .left) (c .before .before .before .before .before .word-at .ensures) (c .before .before .before .before .if2 .left) (c .before .before .before .word-at2 .ensures) (c .before .before .if3 .left) (c .before .if4 .left) (c .word-at3 .ensures)
@@ -36,11 +24,11 @@ is-whole-spec =
     tie.close
     (tie.spec
     returns
-    word-at-requires
+    (λ c κs. search needs)
     returns-2
-    sub-if3
-    word-at-requires-2
+    (λ c. search needs)
+    (λ c κs. search needs)
     returns-3
     returns-4
-    word-at-requires-3
+    (λ c κs. search needs)
     returns-5)

@@ -25,20 +25,11 @@ room-byte c =
 loop-holds : tie.Need-loop-holds Inv-loop μ-loop
 loop-holds c = (owed-all (let e = length-bytes 8 (c .args .n) in let p = c .pre in omega arith), omega arith, refl)
 
-cast-part : tie.Need-cast-part Inv-loop μ-loop
-cast-part c = omega arith
-
 slice-write-part : tie.Need-slice-write-part Inv-loop μ-loop
 slice-write-part c = room-byte c
 
 add-end : tie.Need-add-end Inv-loop μ-loop
 add-end c = let r = room-byte c in omega arith
-
-sub-i : tie.Need-sub-i Inv-loop μ-loop
-sub-i c = omega arith
-
-loop-less : tie.Need-loop-less Inv-loop μ-loop
-loop-less c = omega arith
 
 loop-again : tie.Need-loop-again Inv-loop μ-loop
 loop-again c = (
@@ -60,11 +51,11 @@ lay-word-spec =
     Inv-loop
     μ-loop
     loop-holds
-    cast-part
+    (λ c. omega arith)
     slice-write-part
     add-end
-    sub-i
-    loop-less
+    (λ c. omega arith)
+    (λ c. omega arith)
     loop-again
     same-length
     returns)

@@ -30,20 +30,11 @@ room-byte c = let r = c .before .before .loop .inv .0 .room in let l = ap length
 loop-holds : tie.Need-loop-holds Inv-loop μ-loop
 loop-holds c = (owed-all (c .pre), search needs, refl)
 
-shared-slice-read-buffer : tie.Need-shared-slice-read-buffer Inv-loop μ-loop
-shared-slice-read-buffer c = search needs
-
 slice-write-buffer : tie.Need-slice-write-buffer Inv-loop μ-loop
 slice-write-buffer c = room-byte c
 
-add-i : tie.Need-add-i Inv-loop μ-loop
-add-i c = omega arith
-
 add-end : tie.Need-add-end Inv-loop μ-loop
 add-end c = let r = room-byte c in omega arith
-
-loop-less : tie.Need-loop-less Inv-loop μ-loop
-loop-less c = omega arith
 
 loop-again : tie.Need-loop-again Inv-loop μ-loop
 loop-again c = (
@@ -65,11 +56,11 @@ lay-spec =
     Inv-loop
     μ-loop
     loop-holds
-    shared-slice-read-buffer
+    (λ c. search needs)
     slice-write-buffer
-    add-i
+    (λ c. omega arith)
     add-end
-    loop-less
+    (λ c. omega arith)
     loop-again
     same-length
     returns)

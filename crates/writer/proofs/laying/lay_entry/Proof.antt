@@ -64,50 +64,26 @@ left-end c = owed-rest-as (ap text (c .before .before .size-of .ensures)) (left-
 
 -- ---- needs
 
-slice-aggregate-lay : tie.Need-slice-aggregate-lay
-slice-aggregate-lay c = search needs
-
 lay-requires : tie.Need-lay-requires
 lay-requires c κs = room-first (ascii "[\"") (fromPrice (c .before .before .before)) (left (c .before .before .before))
-
-price-of-requires : tie.Need-price-of-requires
-price-of-requires c κs = search needs
 
 lay-decimal-requires : tie.Need-lay-decimal-requires
 lay-decimal-requires c κs = (rw (c .before .price-of .ensures) (start₁ (c .before .before .before .before) .pre .0 .price), room-first-as (priceText (start₁ (c .before .before .before .before))) (fromComma (start₁ (c .before .before .before .before))) (ap text (c .before .price-of .ensures)) (left-price (c .before .before .before .before)))
 
-slice-aggregate-lay-2 : tie.Need-slice-aggregate-lay-2
-slice-aggregate-lay-2 c = search needs
-
 lay-requires-2 : tie.Need-lay-requires-2
 lay-requires-2 c κs = room-first (ascii "\",\"") (fromSize (start₂ (c .before .before .before .before))) (left-comma (c .before .before .before .before))
-
-size-of-requires : tie.Need-size-of-requires
-size-of-requires c κs = search needs
 
 lay-decimal-requires-2 : tie.Need-lay-decimal-requires-2
 lay-decimal-requires-2 c κs = (rw (c .before .size-of .ensures) (start₃ (c .before .before .before .before) .pre .0 .size), room-first-as (sizeText (start₃ (c .before .before .before .before))) (end (start₃ (c .before .before .before .before))) (ap text (c .before .size-of .ensures)) (left-size (c .before .before .before .before)))
 
-slice-aggregate-lay-3 : tie.Need-slice-aggregate-lay-3
-slice-aggregate-lay-3 c = search needs
-
 lay-requires-3 : tie.Need-lay-requires-3
 lay-requires-3 c κs = room-all (left-end (c .before .before .before .before .before)) (stamped-closing (c .before .before .if1 .taken))
-
-same-length : tie.Need-same-length
-same-length c = search needs
 
 returns : tie.Need-returns
 returns c = put-last (left-end (c .before .before .before .before .before .before .before .before)) (stamped-closing (c .before .before .before .before .before .if1 .taken)) (c .before .before .lay3 .ensures)
 
-slice-aggregate-lay-4 : tie.Need-slice-aggregate-lay-4
-slice-aggregate-lay-4 c = search needs
-
 lay-requires-4 : tie.Need-lay-requires-4
 lay-requires-4 c κs = room-all (left-end (c .before .before .before .before .before)) (plain-closing (c .before .before .if1 .left))
-
-same-length-2 : tie.Need-same-length-2
-same-length-2 c = search needs
 
 returns-2 : tie.Need-returns-2
 returns-2 c = put-last (left-end (c .before .before .before .before .before .before .before .before)) (plain-closing (c .before .before .before .before .before .if1 .left)) (c .before .before .lay4 .ensures)
@@ -116,19 +92,19 @@ pub lay-entry-spec : {M : Type 1} → statement M
 lay-entry-spec =
     tie.close
     (tie.spec
-    slice-aggregate-lay
+    (λ c. search needs)
     lay-requires
-    price-of-requires
+    (λ c κs. search needs)
     lay-decimal-requires
-    slice-aggregate-lay-2
+    (λ c. search needs)
     lay-requires-2
-    size-of-requires
+    (λ c κs. search needs)
     lay-decimal-requires-2
-    slice-aggregate-lay-3
+    (λ c. search needs)
     lay-requires-3
-    same-length
+    (λ c. search needs)
     returns
-    slice-aggregate-lay-4
+    (λ c. search needs)
     lay-requires-4
-    same-length-2
+    (λ c. search needs)
     returns-2)

@@ -36,11 +36,11 @@ lay-requires c κs = room-first (text (c .before .before .before)) (rest (c .bef
 lay-side-requires : tie.Need-lay-side-requires
 lay-side-requires c κs = (start₁ (c .before .before .before) .pre .0, left-rest (c .before .before .before) .room)
 
-same-length : tie.Need-same-length
-same-length c = search needs
-
 returns : tie.Need-returns
 returns c = put-last (left-rest (c .before .before .before .before .before .before)) refl (c .before .before .lay-side .ensures)
 
 pub lay-listed-spec : {M : Type 1} → statement M
-lay-listed-spec = tie.close (tie.spec lay-requires lay-side-requires same-length returns)
+lay-listed-spec =
+    tie.close
+    (tie.spec
+    lay-requires lay-side-requires (λ c. search needs) returns)

@@ -32,20 +32,17 @@ left-rest c = owed-rest (left (start₁ c)) (c .lay .ensures)
 
 -- ---- needs
 
-slice-aggregate-lay : tie.Need-slice-aggregate-lay
-slice-aggregate-lay c = search needs
-
 lay-requires : tie.Need-lay-requires
 lay-requires c κs = room-first (text (c .before .before .before)) (rest (c .before .before .before)) (left (c .before .before .before))
 
 lay-entry-requires : tie.Need-lay-entry-requires
 lay-entry-requires c κs = (start₁ (c .before .before .before) .pre .0, left-rest (c .before .before .before) .room)
 
-same-length : tie.Need-same-length
-same-length c = search needs
-
 returns : tie.Need-returns
 returns c = put-last (left-rest (c .before .before .before .before .before .before)) refl (c .before .before .lay-entry .ensures)
 
 pub lay-next-spec : {M : Type 1} → statement M
-lay-next-spec = tie.close (tie.spec slice-aggregate-lay lay-requires lay-entry-requires same-length returns)
+lay-next-spec =
+    tie.close
+    (tie.spec
+    (λ c. search needs) lay-requires lay-entry-requires (λ c. search needs) returns)

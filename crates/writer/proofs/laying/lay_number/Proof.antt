@@ -36,11 +36,11 @@ lay-requires c κs = room-first (text (c .before .before .before)) (rest (c .bef
 lay-whole-requires : tie.Need-lay-whole-requires
 lay-whole-requires c κs = left-rest (c .before .before .before) .room
 
-same-length : tie.Need-same-length
-same-length c = search needs
-
 returns : tie.Need-returns
 returns c = put-last (left-rest (c .before .before .before .before .before .before)) refl (c .before .before .lay-whole .ensures)
 
 pub lay-number-spec : {M : Type 1} → statement M
-lay-number-spec = tie.close (tie.spec lay-requires lay-whole-requires same-length returns)
+lay-number-spec =
+    tie.close
+    (tie.spec
+    lay-requires lay-whole-requires (λ c. search needs) returns)

@@ -105,16 +105,10 @@ lay-next-requires c κs =
 add-i : tie.Need-add-i Inv-loop μ-loop
 add-i c = let t = turn (c .before .before .before .before) in let f = start (t .before) .pre .0 .few in omega (arith, t .loop-test .taken)
 
-loop-less : tie.Need-loop-less Inv-loop μ-loop
-loop-less c = search needs
-
 loop-again : tie.Need-loop-again Inv-loop μ-loop
 loop-again c =
     let r = c .before .before .before .before in
     (owed-rest-as (read-next r) (left-turn (turn r)) (c .before .before .lay-next .ensures), search needs, search needs)
-
-same-length : tie.Need-same-length Inv-loop μ-loop
-same-length c = search needs
 
 returns-2 : tie.Need-returns-2 Inv-loop μ-loop
 returns-2 c =
@@ -134,7 +128,7 @@ lay-side-spec =
     level-in-requires-2
     lay-next-requires
     add-i
-    loop-less
+    (λ c. search needs)
     loop-again
-    same-length
+    (λ c. search needs)
     returns-2)

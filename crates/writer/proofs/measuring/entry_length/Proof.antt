@@ -27,14 +27,8 @@ with-stamp c = ap length (stamped-closing (c .if1 .taken))
 without-stamp : (c : tie.Else1) → length (closing (c .before .before .before .before .before .args .stamped)) ≡ 2
 without-stamp c = ap length (plain-closing (c .if1 .left))
 
-price-of-requires : tie.Need-price-of-requires
-price-of-requires c κs = search needs
-
 text-length-requires : tie.Need-text-length-requires
 text-length-requires c κs = rw (c .price-of .ensures) (c .before .pre .price)
-
-size-of-requires : tie.Need-size-of-requires
-size-of-requires c κs = search needs
 
 text-length-requires-2 : tie.Need-text-length-requires-2
 text-length-requires-2 c κs = rw (c .size-of .ensures) (c .before .before .before .pre .size)
@@ -61,9 +55,9 @@ pub entry-length-spec : {M : Type 1} → statement M
 entry-length-spec =
     tie.close
     (tie.spec
-    price-of-requires
+    (λ c κs. search needs)
     text-length-requires
-    size-of-requires
+    (λ c κs. search needs)
     text-length-requires-2
     add-result
     add-result-2

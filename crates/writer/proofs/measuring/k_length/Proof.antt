@@ -23,21 +23,6 @@ summed c =
     let m = s .pre .2 in
     (omega arith, omega arith)
 
-side-length-requires : tie.Need-side-length-requires
-side-length-requires c κs = search needs
-
-side-length-requires-2 : tie.Need-side-length-requires-2
-side-length-requires-2 c κs = search needs
-
-add-sides : tie.Need-add-sides
-add-sides c = search needs
-
-add-result : tie.Need-add-result
-add-result c = search needs
-
-whole-length-requires : tie.Need-whole-length-requires
-whole-length-requires c κs = search needs
-
 add-result-2 : tie.Need-add-result-2
 add-result-2 c = let n = summed c in omega arith
 
@@ -51,11 +36,11 @@ pub k-length-spec : {M : Type 1} → statement M
 k-length-spec =
     tie.close
     (tie.spec
-    side-length-requires
-    side-length-requires-2
-    add-sides
-    add-result
-    whole-length-requires
+    (λ c κs. search needs)
+    (λ c κs. search needs)
+    (λ c. search needs)
+    (λ c. search needs)
+    (λ c κs. search needs)
     add-result-2
     add-result-3
     returns)

@@ -25,26 +25,8 @@ summed c =
     let m = s .pre .2 in
     (omega arith, omega arith)
 
-side-length-requires : tie.Need-side-length-requires
-side-length-requires c κs = search needs
-
-side-length-requires-2 : tie.Need-side-length-requires-2
-side-length-requires-2 c κs = search needs
-
-add-sides : tie.Need-add-sides
-add-sides c = search needs
-
-whole-length-requires : tie.Need-whole-length-requires
-whole-length-requires c κs = search needs
-
-whole-length-requires-2 : tie.Need-whole-length-requires-2
-whole-length-requires-2 c κs = search needs
-
 add-numbers : tie.Need-add-numbers
 add-numbers c = let n = summed c in omega arith
-
-add-result : tie.Need-add-result
-add-result c = search needs
 
 add-result-2 : tie.Need-add-result-2
 add-result-2 c = let n = summed c in omega arith
@@ -59,13 +41,13 @@ pub m-length-spec : {M : Type 1} → statement M
 m-length-spec =
     tie.close
     (tie.spec
-    side-length-requires
-    side-length-requires-2
-    add-sides
-    whole-length-requires
-    whole-length-requires-2
+    (λ c κs. search needs)
+    (λ c κs. search needs)
+    (λ c. search needs)
+    (λ c κs. search needs)
+    (λ c κs. search needs)
     add-numbers
-    add-result
+    (λ c. search needs)
     add-result-2
     add-result-3
     returns)

@@ -64,26 +64,17 @@ entry-length-requires c κs =
     let s = t .before .before in
     subst Writable (sym (c .level-in .ensures)) (writable-at (s .args .stamped) (s .args .t2) (s .pre) (t .before .loop .i) (t .loop-test .taken))
 
-add-n : tie.Need-add-n Inv-loop μ-loop
-add-n c = search needs
-
 add-n-2 : tie.Need-add-n-2 Inv-loop μ-loop
 add-n-2 c = let t = turned c in let f = turn (c .before) .before .before .pre .few in omega arith
 
 add-i : tie.Need-add-i Inv-loop μ-loop
 add-i c = let t = turned c in let f = turn (c .before) .before .before .pre .few in omega arith
 
-loop-less : tie.Need-loop-less Inv-loop μ-loop
-loop-less c = omega arith
-
 loop-again : tie.Need-loop-again Inv-loop μ-loop
 loop-again c = turned c
 
 returns : tie.Need-returns Inv-loop μ-loop
 returns c = let n = counted (c .before) in (omega arith, omega arith)
-
-sub-result : tie.Need-sub-result Inv-loop μ-loop
-sub-result c = search needs
 
 returns-2 : tie.Need-returns-2 Inv-loop μ-loop
 returns-2 c = let n = counted (c .before) in (omega arith, omega arith)
@@ -97,11 +88,11 @@ side-length-spec =
     loop-holds
     level-in-requires
     entry-length-requires
-    add-n
+    (λ c. search needs)
     add-n-2
     add-i
-    loop-less
+    (λ c. omega arith)
     loop-again
     returns
-    sub-result
+    (λ c. search needs)
     returns-2)

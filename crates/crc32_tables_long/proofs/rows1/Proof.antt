@@ -1,4 +1,4 @@
--- `crc32_tables::rows1` meets its contract: one computed test says that the table holds what it should, and each arm is its entry.
+-- `crc32_tables_long::rows1` meets its contract: one computed test says that the table holds what it should, and each arm is its entry.
 -- Written by tools/crc32_tables.py. Assumes nothing.
 use mathlib.Core.Path.{_≡_}
 use mathlib.Core.List.{List, [], _∷_}
@@ -7,8 +7,8 @@ use lib.ListN.{getD}
 use Rattle.crc32_spec.specs.Crc.{bits, bit}
 use Rattle.crc32_spec.specs.Rows.{entry-at}
 use Rattle.crc32_spec.proofs.Rows.{tested, alike, rows, powers, span, double, last}
-use Rattle.crc32_tables.proofs.rows1.Statement.{statement}
-use Rattle.crc32_tables.proofs.rows1.Tie as tie
+use Rattle.crc32_tables_long.proofs.rows1.Statement.{statement}
+use Rattle.crc32_tables_long.proofs.rows1.Tie as tie
 
 table : List ℕ
 table =

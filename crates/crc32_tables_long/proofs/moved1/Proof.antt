@@ -1,4 +1,4 @@
--- `crc32_tables::moved1` meets its contract: a turn looks four bits up, and what is looked up and what is left sum up to the same.
+-- `crc32_tables_long::moved1` meets its contract: a turn looks four bits up, and what is looked up and what is left sum up to the same.
 -- Written by tools/crc32_tables.py. Assumes nothing.
 use mathlib.Core.Path.{_≡_, _∙_}
 use Prim.Native.Nat.{_+_, _-_, _*_, _≤_}
@@ -7,8 +7,8 @@ use lib.Bits.{bitXor}
 use borrow.Author.Needs.{needs}
 use Rattle.crc32_spec.specs.Crc.{bits}
 use Rattle.crc32_spec.proofs.Rows.{left, all-left, looked-up, none-left}
-use Rattle.crc32_tables.proofs.moved1.Statement.{statement}
-use Rattle.crc32_tables.proofs.moved1.Tie as tie
+use Rattle.crc32_tables_long.proofs.moved1.Statement.{statement}
+use Rattle.crc32_tables_long.proofs.moved1.Tie as tie
 
 abbrev Inv-loop : tie.InvT-loop
 Inv-loop s n sum₀ j₀ sum j = (j ≤ 8) × (bitXor sum (left (28 + n) s j) ≡ bits (8 * (28 + n)) s)

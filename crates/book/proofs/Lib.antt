@@ -2,5 +2,6 @@
 pub mod Refusing
 pub mod Entering
 pub mod Settling
+pub mod Judging
 pub mod Asking
 pub mod Snapshots

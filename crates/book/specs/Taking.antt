@@ -85,16 +85,6 @@ unfoldable pub Judged : Book → List ℕ → Verdict → Type 0
 Judged b s (Fails a) = Received (receive (shows b) s) (refusedStep b a)
 Judged b s (Passes o) = Passed b s o × (judgedUpdate (b .lifecycle .state) (isM (b .settings .dialect)) (b .number) o ≡ Passes o)
 
--- What a message may be read with: of a book that is not shut the settings are good.
-pub record Ruled (h : Header) : Type 0 where
-  pub room : length (h .settings .name) ≡ 16
-  pub short : h .settings .length ≤ 16
-  pub config : isShut (statusOf (h .lifecycle .state)) ≡ false → good (configOf (h .settings)) ≡ true
-
--- What the same checks find of a header, whatever the words of the sides are.
-pub record JudgedWith (h : Header) (s : List ℕ) (v : Verdict) : Type 0 where
-  pub of : (bids asks : List ℕ) → Good (bookOf bids asks h) → Judged (bookOf bids asks h) s v
-
 -- A side before the entries: the book's own, and with no level before those of a snapshot.
 abbrev pub sideBefore : Outline → Levels → Levels
 sideBefore o kept = keptIn (kept .words) (cond (o .snapshot) 0 (kept .count))

@@ -13,7 +13,7 @@ ghost use Rattle.sides.specs.Worked.{Sound, sideAfter};
 ghost use Rattle.reference.specs.Reference.{isShut, checksumOf, receive, oneMore};
 ghost use Rattle.book.specs.Shown.{shows, bookOf, stepOf, Good, Received};
 ghost use Rattle.message.specs.declared.Verdict.the-variants.{Passes};
-ghost use Rattle.book.specs.Taking.{Passed, SidesAfter, Tried, Ruled, Judged, JudgedWith, weighedSides, takenHeader, refusedHeader};
+ghost use Rattle.book.specs.Taking.{Passed, SidesAfter, Tried, Judged, weighedSides, takenHeader, refusedHeader};
 use crate::Answered;
 use crate::Header;
 use answer::Answer;
@@ -23,8 +23,7 @@ use level::MAX_WORDS;
 use level::Side;
 use lifecycle::count_before;
 use lifecycle::is_over;
-use lifecycle::is_shut;
-use lifecycle::judge_update;
+use lifecycle::judge;
 use lifecycle::live;
 use lifecycle::refused;
 use lifecycle::updates_after;
@@ -49,7 +48,9 @@ pub fn receive(
     requires { ⌜ Good (bookOf (now bids) (now asks) header) × ShiftTable (now table) ⌝ }
     ensures { λ r. ⌜ Received (receive (shows (bookOf (now (bids .entry)) (now (asks .entry)) header)) (now (s .entry))) (stepOf (now (bids .exit)) (now (asks .exit)) r) ⌝ }
 {
-    match judge(header, s) {
+    let settings = header.settings;
+    let lifecycle = header.lifecycle;
+    match judge(settings, lifecycle, header.number, s) {
         Verdict::Fails(refusal) => Answered {
             header: refuse(header, refusal),
             answer: refusal,
@@ -238,27 +239,6 @@ fn refuse(header: Header, answer: Answer) -> Header
     let lifecycle = header.lifecycle;
     after.lifecycle = refused(lifecycle, answer);
     after
-}
-
-// Checks 1 to 8, 10 and 11.
-fn judge(header: Header, s: &[u8]) -> Verdict
-    requires { ⌜ Ruled header ⌝ }
-    ensures { λ r. ⌜ JudgedWith header (now (s .entry)) r ⌝ }
-{
-    let lifecycle = header.lifecycle;
-    let state = lifecycle.state;
-    if is_shut(state) {
-        return Verdict::Fails(Answer::Shut);
-    }
-    let settings = header.settings;
-    let dialect = settings.dialect;
-    let depth = settings.depth;
-    let name = settings.name;
-    let n = settings.length;
-    match message::read_open(dialect, depth, &name[..n], s) {
-        Verdict::Fails(answer) => Verdict::Fails(answer),
-        Verdict::Passes(outline) => judge_update(state, is_m(dialect), header.number, outline),
-    }
 }
 
 // Checks 9, 12 and 13, by what the entries made of the sides: whether some price was met twice, and whether levels are over the limit.

@@ -1,16 +1,23 @@
 -- Laws of how a book stands. Assumes nothing.
 use Prim.Native.Nat.{ℕ}
 use mathlib.Core.Path.{_≡_, refl, sym, ap, _∙_}
+use mathlib.Core.List.{List}
 use mathlib.Core.Bool.{Bool, true, false, true≢false, _&&_, cond}
 use lib.Dec.{leb}
 use Rattle.answer.specs.Answers.{leavesStatus}
 use Rattle.answer.specs.declared.Answer.{Answer}
 use Rattle.answer.specs.declared.Answer.the-variants.{NoSnapshot, OldNumber}
+use Rattle.answer.specs.declared.Answer.the-variants as answer·
+use Rattle.settings.specs.Settings.{isM}
+use Rattle.settings.specs.Kept.{configOf}
+use Rattle.settings.specs.declared.Settings.{Settings}
 use Rattle.layout.specs.declared.Outline.{Outline}
+use Rattle.message.specs.Meaning.{checked}
+use Rattle.message.specs.Verdict.{verdictOf}
 use Rattle.message.specs.declared.Verdict.{Verdict}
 use Rattle.message.specs.declared.Verdict.the-variants.{Fails, Passes}
-use Rattle.reference.specs.Reference.{isLive}
-use Rattle.lifecycle.specs.Lifecycle.{statusOf, refusedLifecycle, judgedUpdate}
+use Rattle.reference.specs.Reference.{isShut, isLive}
+use Rattle.lifecycle.specs.Lifecycle.{statusOf, refusedLifecycle, judgedUpdate, afterText, judged}
 use Rattle.lifecycle.specs.declared.State.{State}
 use Rattle.lifecycle.specs.declared.State.the-variants.{Waiting}
 use Rattle.lifecycle.specs.declared.Lifecycle.{Lifecycle}
@@ -59,3 +66,15 @@ module _ (state : State) (m : Bool) (n : ℕ) (o : Outline) where
 
     pub judged-new : isLive (statusOf state) ≡ true → (m && leb (o .number) n) ≡ false → Passes o ≡ judgedUpdate state m n o
     judged-new l e = sym (ap (λ (t : Bool). cond t (Fails OldNumber) (Passes o)) e) ∙ judged-live l
+
+-- ---- checks 1 to 8 before them
+
+module _ (settings : Settings) (x : Lifecycle) (n : ℕ) (s : List ℕ) where
+  pub judged-shut : isShut (statusOf (x .state)) ≡ true → Fails answer·.Shut ≡ judged settings x n s
+  unfolding judged
+  judged-shut u = sym (rw (u, judged))
+
+  pub judged-open : isShut (statusOf (x .state)) ≡ false → (v : Verdict) → verdictOf s (checked (configOf settings) s) ≡ v
+      → afterText (x .state) (isM (settings .dialect)) n v ≡ judged settings x n s
+  unfolding judged
+  judged-open u v h = sym (rw (u, judged, h))

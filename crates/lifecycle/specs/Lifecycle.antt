@@ -1,17 +1,25 @@
 -- How a book stands, in terms of the code. Assumes nothing: these are definitions.
-use Prim.Native.Nat.{ℕ}
+use Prim.Native.Nat.{ℕ, _≤_}
+use mathlib.Core.Path.{_≡_}
+use mathlib.Core.List.{List}
 use mathlib.Core.Bool.{Bool, true, false, _&&_, _||_, cond}
 use lib.Dec.{leb}
+use lib.ListN.{length}
 use Rattle.answer.specs.Answers.{leavesStatus}
 use Rattle.answer.specs.declared.Answer.{Answer}
 use Rattle.answer.specs.declared.Answer.the-variants.{NoSnapshot, OldNumber}
 use Rattle.answer.specs.declared.Answer.the-variants as answer·
+use Rattle.settings.specs.Settings.{isM, good}
+use Rattle.settings.specs.Kept.{configOf}
+use Rattle.settings.specs.declared.Settings.{Settings}
 use Rattle.settings.specs.declared.Dialect.{Dialect}
 use Rattle.settings.specs.declared.Dialect.the-variants.{K, M, Unknown}
 use Rattle.layout.specs.declared.Outline.{Outline}
+use Rattle.message.specs.Meaning.{checked}
+use Rattle.message.specs.Verdict.{verdictOf}
 use Rattle.message.specs.declared.Verdict.{Verdict}
 use Rattle.message.specs.declared.Verdict.the-variants.{Fails, Passes}
-use Rattle.reference.specs.Reference.{Status, shut, waiting, live, isLive}
+use Rattle.reference.specs.Reference.{Status, shut, waiting, live, isShut, isLive}
 use Rattle.reference.specs.declared.Scope.{Scope}
 use Rattle.reference.specs.declared.Scope.the-variants.{Current, LastGood}
 use Rattle.lifecycle.specs.declared.State.{State}
@@ -55,3 +63,19 @@ judgedUpdate state m number o =
     (cond (isLive (statusOf state))
     (cond (m && leb (o .number) number) (Fails OldNumber) (Passes o))
     (Fails NoSnapshot))
+
+-- What a message may be read with: of a book that is not shut the settings are good.
+pub record Ruled (settings : Settings) (now : Lifecycle) : Type 0 where
+  pub room : length (settings .name) ≡ 16
+  pub short : settings .length ≤ 16
+  pub config : isShut (statusOf (now .state)) ≡ false → good (configOf settings) ≡ true
+
+-- Checks 1 to 8, 10 and 11.
+unfoldable pub afterText : State → Bool → ℕ → Verdict → Verdict
+afterText state m number (Fails a) = Fails a
+afterText state m number (Passes o) = judgedUpdate state m number o
+
+unfoldable pub judged : Settings → Lifecycle → ℕ → List ℕ → Verdict
+judged settings now number s =
+    cond (isShut (statusOf (now .state))) (Fails answer·.Shut)
+    (afterText (now .state) (isM (settings .dialect)) number (verdictOf s (checked (configOf settings) s)))

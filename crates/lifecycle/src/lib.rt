@@ -6,13 +6,15 @@ use layout::Outline;
 use message::Verdict;
 use reference::Scope;
 use settings::Dialect;
+use settings::Settings;
+use settings::is_m;
 use text::both;
 use text::either;
 ghost use mathlib.Core.Path.{_≡_};
 ghost use mathlib.Core.Bool.{_&&_, _||_, not, cond};
 ghost use lib.Dec.{leb};
 ghost use Rattle.reference.specs.Reference.{isShut, oneMore};
-ghost use Rattle.lifecycle.specs.Lifecycle.{statusOf, firstState, answers, refusalOf, liveLifecycle, refusedLifecycle, judgedUpdate};
+ghost use Rattle.lifecycle.specs.Lifecycle.{statusOf, firstState, answers, refusalOf, liveLifecycle, refusedLifecycle, judgedUpdate, Ruled, judged};
 
 const MAX_UPDATES: u64 = 4294967295;
 
@@ -41,7 +43,7 @@ pub fn first_state(dialect: Dialect) -> State
     }
 }
 
-pub fn is_shut(state: State) -> bool
+fn is_shut(state: State) -> bool
     ensures { λ r. ⌜ r ≡ isShut (statusOf state) ⌝ }
 {
     match state {
@@ -82,8 +84,27 @@ pub fn refusal(lifecycle: Lifecycle) -> Answer
     }
 }
 
+// Checks 1 to 8, 10 and 11, of a book with these settings that stands so and has that sequence number.
+pub fn judge(settings: Settings, lifecycle: Lifecycle, number: u64, s: &[u8]) -> Verdict
+    requires { ⌜ Ruled settings lifecycle ⌝ }
+    ensures { λ r. ⌜ r ≡ judged settings lifecycle number (now (s .entry)) ⌝ }
+{
+    let state = lifecycle.state;
+    if is_shut(state) {
+        return Verdict::Fails(Answer::Shut);
+    }
+    let dialect = settings.dialect;
+    let depth = settings.depth;
+    let name = settings.name;
+    let n = settings.length;
+    match message::read_open(dialect, depth, &name[..n], s) {
+        Verdict::Fails(answer) => Verdict::Fails(answer),
+        Verdict::Passes(outline) => judge_update(state, is_m(dialect), number, outline),
+    }
+}
+
 // Checks 10 and 11, of a message that passes those of its text.
-pub fn judge_update(state: State, m: bool, number: u64, outline: Outline) -> Verdict
+fn judge_update(state: State, m: bool, number: u64, outline: Outline) -> Verdict
     ensures { λ r. ⌜ r ≡ judgedUpdate state m number outline ⌝ }
 {
     if outline.snapshot {

@@ -32,9 +32,9 @@ use Rattle.sides.specs.Worked.{Sound}
 use Rattle.answer.specs.Answers.{answerNumber as numberOf, isTaken}
 use Rattle.answer.specs.declared.Answer.{Answer}
 use Rattle.answer.specs.declared.Answer.the-variants.{Taken, Shut, NoSnapshot, NoLevel}
-use Rattle.reference.proofs.Questions.{if-refused}
+use Rattle.decimal.specs.Buffer.{overlaid}
 use Rattle.reference.specs.Reference as r·
-use Rattle.reference.specs.Reference.{Status, shut as shut′, waiting, live, isShut, Reference, opened, stands, asked, ifTaken, noLevel, sideOf, askedLevel, levelAsked, counts, level, amount, does, howMany, levelAt, whichNumber, howManyUpdates}
+use Rattle.reference.specs.Reference.{Status, shut as shut′, waiting, live, isShut, Reference, opened, stands, noLevel, sideOf, Question, howMany, levelAt, whichNumber, howManyUpdates, counts, level, amount, zeros, Response, respond, refusal, replied, question, does}
 use Rattle.settings.specs.Settings.{isM}
 use Rattle.book.specs.Shown.{shows, Good, Opened, AnswersCounts, AnswersLevel, AnswersAmount}
 use Rattle.book.specs.Asking.{levelIn}
@@ -43,25 +43,27 @@ use Rattle.reference.specs.declared.Scope.the-variants.{Current, LastGood}
 use Rattle.lifecycle.specs.declared.State.{State}
 use Rattle.book.specs.declared.Book.{Book}
 
--- ---- whether a question is answered
+-- ---- what a question is answered
 
-module _ (p : Reference) (scope : Scope) where
-  pub asked-yes : answers (p .status) (p .had-snapshot) scope ≡ true → asked scope p ≡ Taken
-  unfolding answers asked isShut stands r·.isLive
-  asked-yes h = go (p .status) refl scope refl h
+module _ (p : Reference) (r : Response) where
+  pub asked-yes : answers (p .status) (p .had-snapshot) (r .scope) ≡ true → refusal p r ≡ r .lacks
+  unfolding answers refusal isShut stands r·.isLive
+  asked-yes h = go (p .status) refl (r .scope) refl h
     where
-      go : (x : Status) → p .status ≡ x → (y : Scope) → scope ≡ y → answers x (p .had-snapshot) y ≡ true → cond (isShut (p .status)) Shut (cond (stands scope p) Taken NoSnapshot) ≡ Taken
+      go : (x : Status) → p .status ≡ x → (y : Scope) → r .scope ≡ y → answers x (p .had-snapshot) y ≡ true
+          → cond (isShut (p .status)) Shut (cond (stands (r .scope) p) (r .lacks) NoSnapshot) ≡ r .lacks
       go shut′ e y f g = absurd (true≢false (sym g))
       go waiting e Current f g = absurd (true≢false (sym g))
       go waiting e LastGood f g = rw (e, f, g)
       go live e Current f g = rw (e, f)
       go live e LastGood f g = rw (e, f, g)
 
-  pub asked-no : answers (p .status) (p .had-snapshot) scope ≡ false → asked scope p ≡ refusalOf (p .status)
-  unfolding answers asked isShut stands r·.isLive refusalOf
-  asked-no h = go (p .status) refl scope refl h
+  pub asked-no : answers (p .status) (p .had-snapshot) (r .scope) ≡ false → refusal p r ≡ refusalOf (p .status)
+  unfolding answers refusal isShut stands r·.isLive refusalOf
+  asked-no h = go (p .status) refl (r .scope) refl h
     where
-      go : (x : Status) → p .status ≡ x → (y : Scope) → scope ≡ y → answers x (p .had-snapshot) y ≡ false → cond (isShut (p .status)) Shut (cond (stands scope p) Taken NoSnapshot) ≡ refusalOf (p .status)
+      go : (x : Status) → p .status ≡ x → (y : Scope) → r .scope ≡ y → answers x (p .had-snapshot) y ≡ false
+          → cond (isShut (p .status)) Shut (cond (stands (r .scope) p) (r .lacks) NoSnapshot) ≡ refusalOf (p .status)
       go shut′ e y f g = rw e
       go waiting e Current f g = rw (e, f)
       go waiting e LastGood f g = rw (e, f, g)
@@ -74,14 +76,15 @@ refusal-refuses shut′ = refl
 refusal-refuses waiting = refl
 refusal-refuses live = refl
 
--- the answer of a question that is answered, and of one that is not
-pub if-yes : {A : Type 0} (a : Answer) (x z : A) → a ≡ Taken → ifTaken a x z ≡ x
-unfolding ifTaken isTaken numberOf
-if-yes a x z h = rw (h, ifTaken, isTaken, numberOf)
+-- the reply, where the answer is known
+module _ (p : Reference) (buffer : List ℕ) (r : Response) (a : Answer) (e : refusal p r ≡ a) where
+  pub reply-taken : a ≡ Taken → (replied p buffer r .value ≡ r .value) × (replied p buffer r .buffer ≡ overlaid buffer 0 (r .text))
+  unfolding replied isTaken numberOf
+  reply-taken h = let y : refusal p r ≡ Taken = e ∙ h in (rw (y, isTaken, numberOf), rw (y, isTaken, numberOf))
 
-pub if-no : {A : Type 0} (a : Answer) (t : Status) (x z : A) → a ≡ refusalOf t → ifTaken a x z ≡ z
-unfolding ifTaken
-if-no a t x z h = let e = refusal-refuses t in rw (h, ifTaken, e)
+  pub reply-refused : isTaken a ≡ false → (replied p buffer r .value ≡ zeros (r .value)) × (replied p buffer r .buffer ≡ buffer)
+  unfolding replied
+  reply-refused h = let y : isTaken (refusal p r) ≡ false = ap isTaken e ∙ h in (rw y, rw y)
 
 -- ---- how many
 
@@ -95,43 +98,76 @@ module _ (b : Book) (scope : Scope) where
   abbrev yes : Bool
   yes = answers (statusOf (b .lifecycle .state)) (b .lifecycle .«had_snapshot») scope
 
+  -- a question on that scope that lacks nothing, where it is answered and where it is not
+  module _ (r : Response) (on : r .scope ≡ scope) where
+    yes-taken : yes ≡ true → r .lacks ≡ Taken → (x : List ℕ) → (Taken ≡ refusal p r) × (replied p x r .value ≡ r .value)
+    unfolding shows
+    yes-taken h l x =
+        let a = asked-yes p r (ap (answers (p .status) (p .had-snapshot)) on ∙ h) ∙ l in
+        (sym a, reply-taken p x r Taken a refl .0)
+
+    pub no-refused : yes ≡ false → (a : Answer) → a ≡ refusalOf (statusOf (b .lifecycle .state)) → (x : List ℕ)
+        → (a ≡ refusal p r) × (replied p x r .value ≡ zeros (r .value)) × (replied p x r .buffer ≡ x)
+    unfolding shows
+    no-refused h a e x =
+        let n = asked-no p r (ap (answers (p .status) (p .had-snapshot)) on ∙ h) in
+        let z = reply-refused p x r (refusalOf (p .status)) n (refusal-refuses (p .status)) in
+        (e ∙ sym n, z .0, z .1)
+
   pub counts-yes : Good b → yes ≡ true → AnswersCounts b scope (record { book = b; answer = Taken; bids = b .bids .count; asks = b .asks .count })
-  unfolding does shows
+  unfolding does respond replied sideOf shows
   counts-yes g h =
-      let a = asked-yes p scope h in
       record {
         book = refl;
-        answer = λ x. sym a;
-        value = λ x. ap₂ counts (held-count (b .bids) Bids (g .bids .good)) (held-count (b .asks) Asks (g .asks .good)) ∙ sym (if-yes (asked scope p) _ _ a);
+        answer = λ x. yes-taken (respond p (length x) (howMany scope)) refl h refl x .0;
+        value = λ x. ap₂ counts (held-count (b .bids) Bids (g .bids .good)) (held-count (b .asks) Asks (g .asks .good)) ∙ sym (yes-taken (respond p (length x) (howMany scope)) refl h refl x .1);
       }
 
   pub counts-no : yes ≡ false → (a : Answer) → a ≡ refusalOf (statusOf (b .lifecycle .state)) → AnswersCounts b scope (record { book = b; answer = a; bids = 0; asks = 0 })
-  unfolding does shows
+  unfolding does respond replied zeros
   counts-no h a e =
-      let n = asked-no p scope h in
-      record { book = refl; answer = λ x. e ∙ sym n; value = λ x. sym (if-no (asked scope p) (statusOf (b .lifecycle .state)) _ _ n) }
+      record {
+        book = refl;
+        answer = λ x. no-refused (respond p (length x) (howMany scope)) refl h a e x .0;
+        value = λ x. sym (no-refused (respond p (length x) (howMany scope)) refl h a e x .1);
+      }
 
   -- ---- the sequence number and the count of updates
 
+  module _ (q : Question) (n : ℕ) (on : (x : List ℕ) → respond p (length x) q .scope ≡ scope) (value : (x : List ℕ) → respond p (length x) q .value ≡ amount n) where
+    amount-yes : yes ≡ true → ((x : List ℕ) → respond p (length x) q .lacks ≡ Taken) → AnswersAmount b q (record { book = b; answer = Taken; value = n })
+    unfolding does replied
+    amount-yes h l =
+        record {
+          book = refl;
+          answer = λ x. yes-taken (respond p (length x) q) (on x) h (l x) x .0;
+          value = λ x. sym (yes-taken (respond p (length x) q) (on x) h (l x) x .1 ∙ value x);
+        }
+
+    amount-no : yes ≡ false → (a : Answer) → a ≡ refusalOf (statusOf (b .lifecycle .state)) → AnswersAmount b q (record { book = b; answer = a; value = 0 })
+    unfolding does replied zeros
+    amount-no h a e =
+        record {
+          book = refl;
+          answer = λ x. no-refused (respond p (length x) q) (on x) h a e x .0;
+          value = λ x. sym (no-refused (respond p (length x) q) (on x) h a e x .1 ∙ ap zeros (value x));
+        }
+
   pub number-yes : yes ≡ true → AnswersAmount b (whichNumber scope) (record { book = b; answer = Taken; value = b .number })
-  unfolding does shows
-  number-yes h = let a = asked-yes p scope h in record { book = refl; answer = λ x. sym a; value = λ x. ap amount (sym (if-yes (asked scope p) _ _ a)) }
+  unfolding respond shows
+  number-yes h = amount-yes (whichNumber scope) (b .number) (λ x. refl) (λ x. refl) h (λ x. refl)
 
   pub number-no : yes ≡ false → (a : Answer) → a ≡ refusalOf (statusOf (b .lifecycle .state)) → AnswersAmount b (whichNumber scope) (record { book = b; answer = a; value = 0 })
-  unfolding does shows
-  number-no h a e =
-      let n = asked-no p scope h in
-      record { book = refl; answer = λ x. e ∙ sym n; value = λ x. ap amount (sym (if-no (asked scope p) (statusOf (b .lifecycle .state)) _ _ n)) }
+  unfolding respond shows
+  number-no = amount-no (whichNumber scope) (b .number) (λ x. refl) (λ x. refl)
 
   pub updates-yes : yes ≡ true → AnswersAmount b (howManyUpdates scope) (record { book = b; answer = Taken; value = b .updates })
-  unfolding does shows
-  updates-yes h = let a = asked-yes p scope h in record { book = refl; answer = λ x. sym a; value = λ x. ap amount (sym (if-yes (asked scope p) _ _ a)) }
+  unfolding respond shows
+  updates-yes h = amount-yes (howManyUpdates scope) (b .updates) (λ x. refl) (λ x. refl) h (λ x. refl)
 
   pub updates-no : yes ≡ false → (a : Answer) → a ≡ refusalOf (statusOf (b .lifecycle .state)) → AnswersAmount b (howManyUpdates scope) (record { book = b; answer = a; value = 0 })
-  unfolding does shows
-  updates-no h a e =
-      let n = asked-no p scope h in
-      record { book = refl; answer = λ x. e ∙ sym n; value = λ x. ap amount (sym (if-no (asked scope p) (statusOf (b .lifecycle .state)) _ _ n)) }
+  unfolding respond shows
+  updates-no = amount-no (howManyUpdates scope) (b .updates) (λ x. refl) (λ x. refl)
 
 -- ---- a level
 
@@ -159,6 +195,9 @@ module _ (b : Book) (scope : Scope) (side : Side) (i : ℕ) where
   abbrev open′ : Bool
   open′ = answers (statusOf (b .lifecycle .state)) (b .lifecycle .«had_snapshot») scope
 
+  abbrev asked : List ℕ → Response
+  asked x = respond q (length x) (levelAt scope side i)
+
   in-here : (s : Side) (l : Level) → levelIn b s i ≡ At l → (ltb i (length (sideOf s q)) ≡ true) × (getD (sideOf s q) i noLevel ≡ shown l)
   unfolding levelIn sideOf shows
   in-here Bids l h = here i (held (b .bids)) l h
@@ -170,43 +209,40 @@ module _ (b : Book) (scope : Scope) (side : Side) (i : ℕ) where
   in-none Asks h = none-here i (held (b .asks)) h
 
   -- the answer, by whether the level is there
-  answered : open′ ≡ true → (t : Bool) → ltb i (length (sideOf side q)) ≡ t → askedLevel scope side i q ≡ cond t Taken NoLevel
-  unfolding askedLevel shows
-  answered h t e = if-yes (asked scope q) _ _ (asked-yes q scope h) ∙ ap (λ (x : Bool). cond x Taken NoLevel) e
+  answered : open′ ≡ true → (t : Bool) → ltb i (length (sideOf side q)) ≡ t → (x : List ℕ) → refusal q (asked x) ≡ cond t Taken NoLevel
+  unfolding respond shows
+  answered h t e x = asked-yes q (asked x) h ∙ ap (λ (y : Bool). cond y Taken NoLevel) e
 
   pub level-here : open′ ≡ true → (l : Level) → levelIn b side i ≡ At l → (price size : Decimal) → number price ≡ levelPrice l → number size ≡ levelSize l
       → AnswersLevel b scope side i (record { book = b; answer = Taken; price = price; size = size })
-  unfolding does levelAsked shown shows
+  unfolding does respond replied shown
   level-here h l e price size x z =
       let w = in-here side l e in
-      let a = answered h true (w .0) in
       record {
         book = refl;
-        answer = λ y. sym a;
-        value = λ y. ap level (ap₂ (λ (u v : Number). record { price = u; size = v }) x z ∙ sym (if-yes (askedLevel scope side i q) _ _ a ∙ w .1));
+        answer = λ y. sym (answered h true (w .0) y);
+        value = λ y. ap level (ap₂ (λ (u v : Number). record { price = u; size = v }) x z ∙ sym (w .1)) ∙ sym (reply-taken q y (asked y) Taken (answered h true (w .0) y) refl .0);
       }
 
   pub level-none : open′ ≡ true → levelIn b side i ≡ Nothing
       → AnswersLevel b scope side i (record { book = b; answer = NoLevel; price = record { digits = 0; decimals = 0 }; size = record { digits = 0; decimals = 0 } })
-  unfolding does levelAsked number shows isTaken numberOf
+  unfolding does respond replied number zeros isTaken numberOf
   level-none h e =
-      let a = answered h false (in-none side e) in
+      let n = in-none side e in
       record {
         book = refl;
-        answer = λ y. sym a;
-        value = λ y. ap level (sym (if-refused (askedLevel scope side i q) _ _ (rw (a, isTaken, numberOf))));
+        answer = λ y. sym (answered h false n y);
+        value = λ y. sym (reply-refused q y (asked y) NoLevel (answered h false n y) refl .0);
       }
 
   pub level-no : open′ ≡ false → (a : Answer) → a ≡ refusalOf (statusOf (b .lifecycle .state))
       → AnswersLevel b scope side i (record { book = b; answer = a; price = record { digits = 0; decimals = 0 }; size = record { digits = 0; decimals = 0 } })
-  unfolding does askedLevel levelAsked number shows
+  unfolding does respond replied number zeros
   level-no h a e =
-      let n = asked-no q scope h in
-      let m : askedLevel scope side i q ≡ refusalOf (statusOf (b .lifecycle .state)) = if-no (asked scope q) (statusOf (b .lifecycle .state)) _ _ n ∙ n in
       record {
         book = refl;
-        answer = λ y. e ∙ sym m;
-        value = λ y. ap level (sym (if-no (askedLevel scope side i q) (statusOf (b .lifecycle .state)) _ _ m));
+        answer = λ y. no-refused b scope (asked y) refl h a e y .0;
+        value = λ y. sym (no-refused b scope (asked y) refl h a e y .1);
       }
 
 -- ---- opening

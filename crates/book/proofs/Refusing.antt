@@ -8,7 +8,7 @@ use native.Mathlib.Omega.{arith}
 use lib.Dec.{eqb, leb}
 use Rattle.lifecycle.specs.Lifecycle.{statusOf, refusedLifecycle, judgedUpdate}
 use Rattle.settings.specs.declared.Dialect.{Dialect}
-use Rattle.layout.specs.Layout.{Printed, printed, unprinted, Layout}
+use Rattle.layout.specs.Layout.{isSnapshot, Printed, printed, unprinted, Layout}
 use Rattle.layout.specs.Scan.{isPrinted, sumOf}
 use Rattle.answer.specs.Answers.{answerNumber, oneOf, isTaken, leavesStatus}
 use Rattle.message.specs.Meaning.{Checked, fails, passes, checked, Message, messageOf, decodedOf, decode}
@@ -20,8 +20,8 @@ use Rattle.message.specs.declared.Verdict.the-variants.{Fails, Passes}
 use Rattle.layout.specs.declared.Outline.{Outline}
 use Rattle.layout.specs.Scan.{outlineOf}
 use Rattle.decimal.specs.Digits.{reads}
-use Rattle.reference.specs.Reference.{waiting, isShut, isLive, Reference, checksumOf, namesPriceTwice, lacksSnapshot, isOld, hasTooMany, differs, hasWrongChecksum, verdict, After, taken, withStatus, refusedBy, answered, received, receive}
-use Rattle.settings.specs.Settings.{isM}
+use Rattle.reference.specs.Reference.{waiting, isShut, isLive, Reference, rules, checksumOf, namesPriceTwice, lacksSnapshot, isOld, hasTooMany, differs, hasWrongChecksum, verdict, After, taken, withStatus, refusedBy, answered, received, receive}
+use Rattle.settings.specs.Rules.{rulesOf}
 use Rattle.book.specs.Shown.{shows, Good, Received}
 use Rattle.book.specs.Taking.{refusedStep, weighed}
 use Rattle.lifecycle.specs.declared.State.{State}
@@ -132,12 +132,12 @@ module _ (p : Reference) (m : Message) where
 
 -- ---- a snapshot, and an update
 
-module _ (p : Reference) (m : Message) (h : m .snapshot ≡ true) where
+module _ (p : Reference) (m : Message) (h : isSnapshot (m .kind) ≡ true) where
   pub snapshot-not-old : isOld p m ≡ false
   unfolding isOld
-  snapshot-not-old = at (isM (p .config .dialect))
+  snapshot-not-old = at (rules p .numbered)
     where
-      at : (t : Bool) → (t && (not (m .snapshot) && leb (m .number) (p .number))) ≡ false
+      at : (t : Bool) → (t && (not (isSnapshot (m .kind)) && leb (m .number) (p .last .number))) ≡ false
       at true = rw h
       at false = refl
 
@@ -145,15 +145,15 @@ module _ (p : Reference) (m : Message) (h : m .snapshot ≡ true) where
   unfolding lacksSnapshot
   snapshot-lacks-none = rw (h, lacksSnapshot)
 
-pub update-names-once : (m : Message) → m .snapshot ≡ false → namesPriceTwice m ≡ false
+pub update-names-once : (m : Message) → isSnapshot (m .kind) ≡ false → namesPriceTwice m ≡ false
 unfolding namesPriceTwice
 update-names-once m h = rw (h, namesPriceTwice)
 
-pub update-lacks : (p : Reference) (m : Message) (t : Bool) → m .snapshot ≡ false → isLive (p .status) ≡ t → lacksSnapshot p m ≡ not t
+pub update-lacks : (p : Reference) (m : Message) (t : Bool) → isSnapshot (m .kind) ≡ false → isLive (p .status) ≡ t → lacksSnapshot p m ≡ not t
 unfolding lacksSnapshot
 update-lacks p m t h k = rw (h, k, lacksSnapshot)
 
-pub update-old : (p : Reference) (m : Message) → m .snapshot ≡ false → isOld p m ≡ (isM (p .config .dialect) && leb (m .number) (p .number))
+pub update-old : (p : Reference) (m : Message) → isSnapshot (m .kind) ≡ false → isOld p m ≡ (rules p .numbered && leb (m .number) (p .last .number))
 unfolding isOld
 update-old p m h = rw (h, isOld)
 
@@ -168,18 +168,18 @@ differs-is unprinted sum = refl
 
 module _ (o : Outline) (d : Dialect) (replaced over : Bool) (bids asks : Levels) where
   abbrev sum : ℕ
-  sum = checksumOf d (map shown (held bids)) (map shown (held asks))
+  sum = checksumOf (rulesOf d) (record { bids = map shown (held bids); asks = map shown (held asks) })
 
-  pub weighed-twice : (o .snapshot && replaced) ≡ true → PriceTwice ≡ weighed o d replaced over bids asks
+  pub weighed-twice : (isSnapshot (o .kind) && replaced) ≡ true → PriceTwice ≡ weighed o d replaced over bids asks
   unfolding weighed
   weighed-twice h = sym (rw (h, weighed))
 
-  module _ (a : (o .snapshot && replaced) ≡ false) where
-    pub weighed-over : (not (o .snapshot) && (isM d && over)) ≡ true → TooManyLevels ≡ weighed o d replaced over bids asks
+  module _ (a : (isSnapshot (o .kind) && replaced) ≡ false) where
+    pub weighed-over : (not (rulesOf d .cut) && over) ≡ true → TooManyLevels ≡ weighed o d replaced over bids asks
     unfolding weighed
     weighed-over h = sym (rw (a, h, weighed))
 
-    module _ (b : (not (o .snapshot) && (isM d && over)) ≡ false) where
+    module _ (b : (not (rulesOf d .cut) && over) ≡ false) where
       pub weighed-unprinted : o .printed ≡ false → Taken ≡ weighed o d replaced over bids asks
       unfolding weighed
       weighed-unprinted h = sym (rw (a, b, h, weighed))

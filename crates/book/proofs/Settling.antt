@@ -15,7 +15,9 @@ use Rattle.decimal.specs.Decimal.{Number, read, isZero}
 use Rattle.json.specs.Json.{Span}
 use Rattle.settings.specs.Settings.{Config, good, goodDepth, goodName}
 use Rattle.settings.specs.Kept.{configOf}
-use Rattle.settings.proofs.Depth.{good-depth}
+use Rattle.settings.specs.Rules.{rulesOf}
+use Rattle.settings.specs.declared.Rules.{Rules}
+use Rattle.settings.proofs.Depth.{good-depth, good-rules}
 use Rattle.settings.specs.declared.Dialect.{Dialect}
 use Rattle.settings.specs.declared.Dialect.the-variants.{K, M, Unknown}
 use Rattle.entries.specs.Places.{inner}
@@ -37,8 +39,9 @@ use Rattle.level.proofs.Lengths.{length-ranked, length-applyAll, afterMessage-w
 use Rattle.level.proofs.Meeting.{met-snapshot}
 use Rattle.sides.specs.Worked.{SideAfter, Sound, editsAt, Worked}
 use Rattle.entries.specs.Arrays.{Ready}
-use Rattle.layout.specs.Layout.{Layout}
+use Rattle.layout.specs.Layout.{isSnapshot, Layout}
 use Rattle.layout.specs.Scan.{isPrinted, sumOf, outlineOf}
+use Rattle.layout.specs.declared.Kind.{Kind}
 use Rattle.layout.specs.declared.Outline.{Outline}
 use Rattle.message.specs.Meaning.{LevelChange, Message, levelChangeAt, messageOf, bad, passes}
 use Rattle.answer.specs.Answers.{answerNumber, isTaken}
@@ -47,7 +50,7 @@ use Rattle.message.specs.declared.Verdict.{Verdict}
 use Rattle.message.specs.declared.Verdict.the-variants.{Fails, Passes}
 use Rattle.answer.specs.declared.Answer.the-variants.{Taken, PriceTwice, NoSnapshot, OldNumber, TooManyLevels, WrongChecksum}
 use Rattle.message.proofs.Where.{entryIn, LieIn, framed-lies}
-use Rattle.reference.specs.Reference.{isLive, Reference, editOf, cut, afterChanges, bidsAfter, asksAfter, pricesOf, checksumOf, namesPriceTwice, lacksSnapshot, isOld, hasTooMany, hasWrongChecksum, verdict, taken, refusedBy, answered, receive}
+use Rattle.reference.specs.Reference.{live, isLive, Sides, Reference, editOf, afterChanges, sidesAfter, pricesOf, checksumOf, namesPriceTwice, lacksSnapshot, isOld, hasTooMany, differs, hasWrongChecksum, verdict, oneMore, taken, refusedBy, answered, receive}
 use Rattle.settings.specs.Settings.{isM}
 use Rattle.book.specs.Shown.{shows, Good, Received}
 use Rattle.book.specs.Taking.{sideBefore, Passed, refusedStep, keptStep, Judged, weighed}
@@ -59,31 +62,40 @@ use Rattle.book.proofs.Refusing.{refused-told, told-as, hear-passes, ni
 use Rattle.message.proofs.Entering.{Readable, is-k, is-m, good-readable, or-none, also-framed, framed-few, listed-ready}
 use Rattle.book.proofs.Entering.{listed-edits}
 
--- ---- a side after entries, cut in K and not in M
+-- ---- a side after entries, cut or not
 
-module _ {d : Dialect} (r : Readable d) (depth : ℕ) (hundred : isM d ≡ true → depth ≡ 100) (side : Side) (es : List (Edit PriceLevel)) (base : List PriceLevel) where
+module _ (cuts : Bool) (depth levels : ℕ) (whole : cuts ≡ false → depth ≡ levels) (side : Side) (es : List (Edit PriceLevel)) (base : List PriceLevel) where
   abbrev worked : List PriceLevel
   worked = applyAll shownPrice es base
 
-  pub after-is : (isM d ≡ true → length worked ≤ 100) → afterMessage shownPrice side depth es base ≡ cut d depth (ranked shownPrice side worked)
-  unfolding cut afterMessage isM
-  after-is few = go r hundred few
-    where
-      go : {e : Dialect} → Readable e → (isM e ≡ true → depth ≡ 100) → (isM e ≡ true → length worked ≤ 100) → take depth (ranked shownPrice side worked) ≡ cut e depth (ranked shownPrice side worked)
-      go is-k x y = refl
-      go is-m x y = let a = x refl in let b = y refl in afterMessage-whole shownPrice side depth es base (omega arith)
+  abbrev left : List PriceLevel
+  left = cond cuts (take depth (ranked shownPrice side worked)) (ranked shownPrice side worked)
 
-  pub after-length : isM d ≡ true → length (cut d depth (ranked shownPrice side worked)) ≡ length worked
-  unfolding cut isM
-  after-length h = go r h
+  pub after-is : (cuts ≡ false → length worked ≤ levels) → afterMessage shownPrice side depth es base ≡ left
+  unfolding afterMessage
+  after-is few = at cuts whole few
     where
-      go : {e : Dialect} → Readable e → isM e ≡ true → length (cut e depth (ranked shownPrice side worked)) ≡ length worked
-      go is-k x = absurd (true≢false (sym x))
-      go is-m x = length-ranked shownPrice side worked
+      at : (t : Bool) → (t ≡ false → depth ≡ levels) → (t ≡ false → length worked ≤ levels)
+          → take depth (ranked shownPrice side worked) ≡ cond t (take depth (ranked shownPrice side worked)) (ranked shownPrice side worked)
+      at true w f = refl
+      at false w f = let a = w refl in let b = f refl in afterMessage-whole shownPrice side depth es base (omega arith)
+
+  -- more levels are left than may stand, exactly where none is cut and more stood
+  pub left-over : depth ≤ levels → ltb levels (length left) ≡ (not cuts && ltb levels (length worked))
+  left-over most = at cuts
+    where
+      at : (t : Bool) → ltb levels (length (cond t (take depth (ranked shownPrice side worked)) (ranked shownPrice side worked))) ≡ (not t && ltb levels (length worked))
+      at true = let n = length-take depth (ranked shownPrice side worked) in le-ltb levels (length (take depth (ranked shownPrice side worked))) (omega arith)
+      at false = ap (ltb levels) (length-ranked shownPrice side worked)
 
 after-few : (side : Side) (depth : ℕ) (es : List (Edit PriceLevel)) (base : List PriceLevel) → length (afterMessage shownPrice side depth es base) ≤ depth
 unfolding afterMessage
 after-few side depth es base = let n = length-take depth (ranked shownPrice side (applyAll shownPrice es base)) in omega arith
+
+-- both sides, where none is cut
+not-each : (t a b : Bool) → ((not t && a) || (not t && b)) ≡ (not t && (a || b))
+not-each true a b = refl
+not-each false a b = refl
 
 -- ---- the prices of a snapshot
 
@@ -127,16 +139,11 @@ or-second : (a : Bool) → (a || true) ≡ true
 or-second true = refl
 or-second false = refl
 
--- the levels of two sides are too many, in M, where their counts are
-pub over-is : (t : Bool) (x y u v : ℕ) → (t ≡ true → x ≡ u) → (t ≡ true → y ≡ v) → (t && (ltb 100 x || ltb 100 y)) ≡ (t && (ltb 100 u || ltb 100 v))
-over-is true x y u v f g = rw (f refl, g refl)
-over-is false x y u v f g = refl
-
 -- an update that passes checks 10 and 11 comes to a live book, and is not old
-update-passed : (state : State) (m : Bool) (n : ℕ) (o : Outline) → o .snapshot ≡ false → judgedUpdate state m n o ≡ Passes o
+update-passed : (state : State) (m : Bool) (n : ℕ) (o : Outline) → isSnapshot (o .kind) ≡ false → judgedUpdate state m n o ≡ Passes o
     → (isLive (statusOf state) ≡ true) × ((m && leb (o .number) n) ≡ false)
 unfolding judgedUpdate
-update-passed state m n o h j = at (o .snapshot) (isLive (statusOf state)) (m && leb (o .number) n) h j
+update-passed state m n o h j = at (isSnapshot (o .kind)) (isLive (statusOf state)) (m && leb (o .number) n) h j
   where
     at : (t x y : Bool) → t ≡ false → cond t (Passes o) (cond x (cond y (Fails OldNumber) (Passes o)) (Fails NoSnapshot)) ≡ Passes o → (x ≡ true) × (y ≡ false)
     at true x y g e = absurd (true≢false g)
@@ -173,9 +180,13 @@ module _ (b : Book) (s : List ℕ) (o : Outline) (k : Passed b s o) where
   unfolding configOf
   depth-most = good-depth terms good-terms .0
 
-  hundred : isM d ≡ true → b .settings .depth ≡ 100
+  abbrev r : Rules
+  r = rulesOf d
+
+  -- a side that is not cut has room for as many as may stand, and no side has more
+  fits : (b .settings .depth ≤ r .levels) × (r .cut ≡ false → b .settings .depth ≡ r .levels)
   unfolding configOf
-  hundred = good-depth terms good-terms .1
+  fits = good-rules terms good-terms
 
   lie : LieIn (entryIn d) s l
   unfolding configOf
@@ -201,9 +212,12 @@ module _ (b : Book) (s : List ℕ) (o : Outline) (k : Passed b s o) where
   unfolding outlineOf messageOf
   asks-edits = ap (λ (x : Outline). editsAt (isM d) s (x .«asks_at») (x .asks)) (k .outlined) ∙ listed-edits readable s (l .asks) (lie .asks)
 
-  o-snapshot : m .snapshot ≡ o .snapshot
+  o-kind : m .kind ≡ o .kind
   unfolding outlineOf messageOf
-  o-snapshot = sym (ap (λ (x : Outline). x .snapshot) (k .outlined))
+  o-kind = sym (ap (λ (x : Outline). x .kind) (k .outlined))
+
+  o-snapshot : isSnapshot (m .kind) ≡ isSnapshot (o .kind)
+  o-snapshot = ap isSnapshot o-kind
 
   o-number : m .number ≡ o .number
   unfolding outlineOf messageOf
@@ -229,30 +243,38 @@ module _ (b : Book) (s : List ℕ) (o : Outline) (k : Passed b s o) where
   finished bids asks a = cond (isTaken a) (keptStep b o bids asks) (refusedStep b a)
 
   module _ (bids asks : Levels) where
+    abbrev both-sides : Sides
+    both-sides = record { bids = map shown (held bids); asks = map shown (held asks) }
+
     pub record Settles : Type 0 where
       pub bids-sound : Sound (isM d) Bids bids
       pub asks-sound : Sound (isM d) Asks asks
       pub bids-few : length (held bids) ≤ b .settings .depth
       pub asks-few : length (held asks) ≤ b .settings .depth
-      pub bids-are : map shown (held bids) ≡ bidsAfter p m
-      pub asks-are : map shown (held asks) ≡ asksAfter p m
+      pub sides-are : both-sides ≡ sidesAfter p m
       pub not-twice : namesPriceTwice m ≡ false
       pub not-lacking : lacksSnapshot p m ≡ false
       pub not-old : isOld p m ≡ false
       pub not-many : hasTooMany p m ≡ false
 
     abbrev wrong : Bool
-    wrong = o .printed && not (eqb (o .checksum) (checksumOf d (map shown (held bids)) (map shown (held asks))))
+    wrong = o .printed && not (eqb (o .checksum) (checksumOf r both-sides))
 
     pub settled-told : Settles → Received (receive p s) (finished bids asks (cond wrong WrongChecksum Taken))
     unfolding hasWrongChecksum shows configOf keptStep liveLifecycle taken statusOf isTaken answerNumber
     settled-told z = at (hasWrongChecksum p m) refl
       where
-        test : (o .printed && not (eqb (o .checksum) (checksumOf d (map shown (held bids)) (map shown (held asks))))) ≡ hasWrongChecksum p m
-        test =
-            o-checksum (checksumOf d (map shown (held bids)) (map shown (held asks)))
-            ∙ sym (differs-is (m .checksum) (checksumOf d (map shown (held bids)) (map shown (held asks))))
-            ∙ rw (z .bids-are, z .asks-are)
+        test : (o .printed && not (eqb (o .checksum) (checksumOf r both-sides))) ≡ hasWrongChecksum p m
+        test = o-checksum (checksumOf r both-sides) ∙ sym (differs-is (m .checksum) (checksumOf r both-sides)) ∙ ap (λ (x : Sides). differs (m .checksum) (checksumOf r x)) (z .sides-are)
+
+        after : Sides → Kind → ℕ → Reference
+        after x kind n =
+            record {
+              config = terms;
+              status = live;
+              last = record { sides = x; number = n; updates = cond (isSnapshot kind) 0 (oneMore (b .updates)) };
+              had-snapshot = isSnapshot kind || b .lifecycle .«had_snapshot»;
+            }
 
         fresh : Received (record { book = taken p m; answer = Taken }) (keptStep b o bids asks)
         fresh =
@@ -267,7 +289,7 @@ module _ (b : Book) (s : List ℕ) (o : Outline) (k : Passed b s o) where
                 few-asks = z .asks-few;
                 small = o-small;
               };
-              same = rw (z .bids-are, z .asks-are, o-snapshot, o-number);
+              same = ap (λ (x : Sides). after x (o .kind) (o .number)) (z .sides-are) ∙ ap₂ (λ (x : Kind) (n : ℕ). after (sidesAfter p m) x n) (sym o-kind) (sym o-number);
               answer = refl;
             }
 
@@ -275,201 +297,55 @@ module _ (b : Book) (s : List ℕ) (o : Outline) (k : Passed b s o) where
         at true e = rw (test ∙ e) (refuse-as WrongChecksum (thirteen p m (z .not-twice) (z .not-lacking) (z .not-old) (z .not-many) e))
         at false e = rw (test ∙ e) (told-as (keptStep b o bids asks) (heard-is ∙ none-fits p m (z .not-twice) (z .not-lacking) (z .not-old) (z .not-many) e) fresh)
 
-  -- ---- what entries make of the two sides
-
-  none-held : (none : Levels) → held none ≡ [] → map shown (held none) ≡ []
-  none-held none e = ap (map shown) e
-
-  -- a side with the message's entries applied to it is the side after the message
-  module _ (side : Side) (qs : List LevelChange) (kept : Levels) (base : List PriceLevel) (at count : ℕ) (a : SideAfter)
-      (stood : map shown (held kept) ≡ base) (edits : editsAt (isM d) s at count ≡ map editOf qs)
-      (w : Worked (isM d) side (b .settings .depth) (editsAt (isM d) s at count) kept a) where
-    levels-are : map shown (held (a .levels)) ≡ afterMessage shownPrice side (b .settings .depth) (map editOf qs) base
-    levels-are = w .levels ∙ ap₂ (λ (x : List (Edit PriceLevel)) (y : List PriceLevel). afterMessage shownPrice side (b .settings .depth) x y) edits stood
-
-    count-is : a .count ≡ length (applyAll shownPrice (map editOf qs) base)
-    count-is = w .count ∙ ap₂ (λ (x : List (Edit PriceLevel)) (y : List PriceLevel). length (applyAll shownPrice x y)) edits stood
-
-    met-is : a .replaced ≡ replaced shownPrice (map editOf qs) base
-    met-is = w .replaced ∙ ap₂ (λ (x : List (Edit PriceLevel)) (y : List PriceLevel). replaced shownPrice x y) edits stood
-
-    levels-few : length (held (a .levels)) ≤ b .settings .depth
-    levels-few =
-        let x = length-map (held (a .levels)) shown in
-        let y = ap length levels-are in
-        let z = after-few side (b .settings .depth) (map editOf qs) base in
-        omega arith
-
-    after-same : (isM d ≡ true → a .count ≤ 100) → map shown (held (a .levels)) ≡ afterChanges terms side qs base
-    unfolding afterChanges configOf
-    after-same f = levels-are ∙ after-is readable (b .settings .depth) hundred side (map editOf qs) base (λ e. let x = f e in let y = count-is in omega arith)
-
-    length-is : isM d ≡ true → length (afterChanges terms side qs base) ≡ a .count
-    unfolding afterChanges configOf
-    length-is e = after-length readable (b .settings .depth) hundred side (map editOf qs) base e ∙ sym count-is
-
-  -- ---- a snapshot, whose entries are applied to an empty side
-  module _ (h : o .snapshot ≡ true) (none none′ : Levels) (e : held none ≡ []) (e′ : held none′ ≡ []) (bids asks : SideAfter)
-      (wb : Worked (isM d) Bids (b .settings .depth) (editsAt (isM d) s (o .«bids_at») (o .bids)) none bids)
-      (wa : Worked (isM d) Asks (b .settings .depth) (editsAt (isM d) s (o .«asks_at») (o .asks)) none′ asks) where
-    is-snapshot : m .snapshot ≡ true
-    is-snapshot = o-snapshot ∙ h
-
-    good-texts : (badTexts true s (l .bids .rows) ≡ []) × (badTexts true s (l .asks .rows) ≡ [])
-    unfolding bad messageOf
-    good-texts =
-        let n = also-framed terms s l (k .checked-as) .1 in
-        let q : l .snapshot ≡ true = is-snapshot in
-        let n′ : badTexts true s (l .bids .rows) ++ badTexts true s (l .asks .rows) ≡ [] = subst (λ (x : Bool). badTexts x s (l .bids .rows) ++ badTexts x s (l .asks .rows) ≡ []) q n in
-        append-none (badTexts true s (l .bids .rows)) (badTexts true s (l .asks .rows)) n′
-
-    bids-met : bids .replaced ≡ namesTwice (pricesOf (m .bids))
-    unfolding messageOf
-    bids-met =
-        let z = zero-none s (l .bids .rows) (good-texts .0) in
-        met-is Bids (m .bids) none [] (o .«bids_at») (o .bids) bids (none-held none e) bids-edits wb
-        ∙ met-snapshot shownPrice (map editOf (m .bids)) (sets-all s (l .bids .rows) (z .0) (z .1)) ∙ ap namesTwice (names-are (m .bids))
-
-    asks-met : asks .replaced ≡ namesTwice (pricesOf (m .asks))
-    unfolding messageOf
-    asks-met =
-        let z = zero-none s (l .asks .rows) (good-texts .1) in
-        met-is Asks (m .asks) none′ [] (o .«asks_at») (o .asks) asks (none-held none′ e′) asks-edits wa
-        ∙ met-snapshot shownPrice (map editOf (m .asks)) (sets-all s (l .asks .rows) (z .0) (z .1)) ∙ ap namesTwice (names-are (m .asks))
-
-    twice-is : namesPriceTwice m ≡ (bids .replaced || asks .replaced)
-    unfolding namesPriceTwice
-    twice-is = rw (is-snapshot, namesPriceTwice, bids-met, asks-met)
-
-    pub snapshot-twice : (bids .replaced || asks .replaced) ≡ true → Received (receive p s) (refusedStep b PriceTwice)
-    snapshot-twice x = refuse-as PriceTwice (nine p m (twice-is ∙ x))
-
-    few-bids : bids .count ≤ 100
-    unfolding messageOf
-    few-bids =
-        let c = count-is Bids (m .bids) none [] (o .«bids_at») (o .bids) bids (none-held none e) bids-edits wb in
-        let n = length-applyAll shownPrice (map editOf (m .bids)) [] in
-        let x = length-map (m .bids) editOf in
-        let y = length-map (l .bids .rows) (levelChangeAt s) in
-        let f = few .0 in
-        omega arith
-
-    few-asks : asks .count ≤ 100
-    unfolding messageOf
-    few-asks =
-        let c = count-is Asks (m .asks) none′ [] (o .«asks_at») (o .asks) asks (none-held none′ e′) asks-edits wa in
-        let n = length-applyAll shownPrice (map editOf (m .asks)) [] in
-        let x = length-map (m .asks) editOf in
-        let y = length-map (l .asks .rows) (levelChangeAt s) in
-        let f = few .1 in
-        omega arith
-
-    pub snapshot-settles : (bids .replaced || asks .replaced) ≡ false → Settles (bids .levels) (asks .levels)
-    unfolding bidsAfter asksAfter hasTooMany shows configOf
-    snapshot-settles x =
-        record {
-          bids-sound = wb .sound;
-          asks-sound = wa .sound;
-          bids-few = levels-few Bids (m .bids) none [] (o .«bids_at») (o .bids) bids (none-held none e) bids-edits wb;
-          asks-few = levels-few Asks (m .asks) none′ [] (o .«asks_at») (o .asks) asks (none-held none′ e′) asks-edits wa;
-          bids-are = rw is-snapshot (after-same Bids (m .bids) none [] (o .«bids_at») (o .bids) bids (none-held none e) bids-edits wb (λ q. few-bids));
-          asks-are = rw is-snapshot (after-same Asks (m .asks) none′ [] (o .«asks_at») (o .asks) asks (none-held none′ e′) asks-edits wa (λ q. few-asks));
-          not-twice = twice-is ∙ x;
-          not-lacking = snapshot-lacks-none p m is-snapshot;
-          not-old = snapshot-not-old p m is-snapshot;
-          not-many = rw is-snapshot
-              (over-is (isM d) _ _ (bids .count) (asks .count)
-              (length-is Bids (m .bids) none [] (o .«bids_at») (o .bids) bids (none-held none e) bids-edits wb)
-              (length-is Asks (m .asks) none′ [] (o .«asks_at») (o .asks) asks (none-held none′ e′) asks-edits wa)
-              ∙ none-over (isM d));
-        }
-      where
-        none-over : (t : Bool) → (t && (ltb 100 (bids .count) || ltb 100 (asks .count))) ≡ false
-        none-over true = let u = le-ltb 100 (bids .count) few-bids in let v = le-ltb 100 (asks .count) few-asks in rw (u, v)
-        none-over false = refl
-
-  -- ---- an update
-
-  module _ (h : o .snapshot ≡ false) where
-    is-update : m .snapshot ≡ false
-    is-update = o-snapshot ∙ h
-
-    pub update-waits : isLive (p .status) ≡ false → Received (receive p s) (refusedStep b NoSnapshot)
-    update-waits x = refuse-as NoSnapshot (ten p m (update-names-once m is-update) (update-lacks p m false is-update x))
-
-    module _ (live : isLive (p .status) ≡ true) where
-      lacks-none : lacksSnapshot p m ≡ false
-      lacks-none = update-lacks p m true is-update live
-
-      old-is : isOld p m ≡ (isM d && leb (o .number) (b .number))
-      unfolding shows configOf
-      old-is = update-old p m is-update ∙ ap (λ (x : ℕ). isM d && leb x (b .number)) o-number
-
-      pub update-is-old : (isM d && leb (o .number) (b .number)) ≡ true → Received (receive p s) (refusedStep b OldNumber)
-      update-is-old x = refuse-as OldNumber (eleven p m (update-names-once m is-update) lacks-none (old-is ∙ x))
-
-      module _ (new : (isM d && leb (o .number) (b .number)) ≡ false) (bids asks : SideAfter)
-          (wb : Worked (isM d) Bids (b .settings .depth) (editsAt (isM d) s (o .«bids_at») (o .bids)) (b .bids) bids)
-          (wa : Worked (isM d) Asks (b .settings .depth) (editsAt (isM d) s (o .«asks_at») (o .asks)) (b .asks) asks) where
-        many-is : hasTooMany p m ≡ (isM d && (ltb 100 (bids .count) || ltb 100 (asks .count)))
-        unfolding bidsAfter asksAfter hasTooMany shows configOf
-        many-is =
-            rw is-update
-            (over-is (isM d) _ _ (bids .count) (asks .count)
-            (length-is Bids (m .bids) (b .bids) (map shown (held (b .bids))) (o .«bids_at») (o .bids) bids refl bids-edits wb)
-            (length-is Asks (m .asks) (b .asks) (map shown (held (b .asks))) (o .«asks_at») (o .asks) asks refl asks-edits wa))
-
-        pub update-is-over : (isM d && (ltb 100 (bids .count) || ltb 100 (asks .count))) ≡ true → Received (receive p s) (refusedStep b TooManyLevels)
-        update-is-over x = refuse-as TooManyLevels (twelve p m (update-names-once m is-update) lacks-none (old-is ∙ new) (many-is ∙ x))
-
-        pub update-settles : (isM d && (ltb 100 (bids .count) || ltb 100 (asks .count))) ≡ false → Settles (bids .levels) (asks .levels)
-        unfolding bidsAfter asksAfter shows configOf
-        update-settles x =
-            record {
-              bids-sound = wb .sound;
-              asks-sound = wa .sound;
-              bids-few = levels-few Bids (m .bids) (b .bids) (map shown (held (b .bids))) (o .«bids_at») (o .bids) bids refl bids-edits wb;
-              asks-few = levels-few Asks (m .asks) (b .asks) (map shown (held (b .asks))) (o .«asks_at») (o .asks) asks refl asks-edits wa;
-              bids-are = rw is-update (after-same Bids (m .bids) (b .bids) (map shown (held (b .bids))) (o .«bids_at») (o .bids) bids refl bids-edits wb (λ e. within (isM d) e x .0));
-              asks-are = rw is-update (after-same Asks (m .asks) (b .asks) (map shown (held (b .asks))) (o .«asks_at») (o .asks) asks refl asks-edits wa (λ e. within (isM d) e x .1));
-              not-twice = update-names-once m is-update;
-              not-lacking = lacks-none;
-              not-old = old-is ∙ new;
-              not-many = many-is ∙ x;
-            }
-          where
-            within : (t : Bool) → t ≡ true → (t && (ltb 100 (bids .count) || ltb 100 (asks .count))) ≡ false → (bids .count ≤ 100) × (asks .count ≤ 100)
-            within true e f =
-                let g = or-none (ltb 100 (bids .count)) (ltb 100 (asks .count)) f in
-                (ltb-false 100 (bids .count) (g .0), ltb-false 100 (asks .count) (g .1))
-            within false e f = absurd (true≢false (sym e))
-
   -- ---- checks 10 and 11
 
-  pub judged-told : (v : Verdict) → v ≡ judgedUpdate (b .lifecycle .state) (isM d) (b .number) o → Judged b s v
+  update-waits : isSnapshot (o .kind) ≡ false → isLive (p .status) ≡ false → Received (receive p s) (refusedStep b NoSnapshot)
+  update-waits h x = refuse-as NoSnapshot (ten p m (update-names-once m (o-snapshot ∙ h)) (update-lacks p m false (o-snapshot ∙ h) x))
+
+  old-is : isSnapshot (o .kind) ≡ false → isOld p m ≡ (r .numbered && leb (o .number) (b .number))
+  unfolding shows configOf
+  old-is h = update-old p m (o-snapshot ∙ h) ∙ ap (λ (x : ℕ). r .numbered && leb x (b .number)) o-number
+
+  update-is-old : isSnapshot (o .kind) ≡ false → isLive (p .status) ≡ true → (r .numbered && leb (o .number) (b .number)) ≡ true → Received (receive p s) (refusedStep b OldNumber)
+  update-is-old h y x = refuse-as OldNumber (eleven p m (update-names-once m (o-snapshot ∙ h)) (update-lacks p m true (o-snapshot ∙ h) y) (old-is h ∙ x))
+
+  pub judged-told : (v : Verdict) → v ≡ judgedUpdate (b .lifecycle .state) (r .numbered) (b .number) o → Judged b s v
   unfolding judgedUpdate Judged shows statusOf
-  judged-told v e = subst (Judged b s) (sym e) (at (o .snapshot) refl (isLive (statusOf (b .lifecycle .state))) refl (isM d && leb (o .number) (b .number)) refl)
+  judged-told v e = subst (Judged b s) (sym e) (at (isSnapshot (o .kind)) refl (isLive (statusOf (b .lifecycle .state))) refl (r .numbered && leb (o .number) (b .number)) refl)
     where
-      at : (t : Bool) → o .snapshot ≡ t → (x : Bool) → isLive (statusOf (b .lifecycle .state)) ≡ x → (y : Bool) → (isM d && leb (o .number) (b .number)) ≡ y
+      at : (t : Bool) → isSnapshot (o .kind) ≡ t → (x : Bool) → isLive (statusOf (b .lifecycle .state)) ≡ x → (y : Bool) → (r .numbered && leb (o .number) (b .number)) ≡ y
           → Judged b s (cond t (Passes o) (cond x (cond y (Fails OldNumber) (Passes o)) (Fails NoSnapshot)))
-      at true h x f y g = (k, sym (judged-snapshot (b .lifecycle .state) (isM d) (b .number) o h))
+      at true h x f y g = (k, sym (judged-snapshot (b .lifecycle .state) (r .numbered) (b .number) o h))
       at false h true f true g = update-is-old h f g
-      at false h true f false g = (k, sym (judged-new (b .lifecycle .state) (isM d) (b .number) o h f g))
+      at false h true f false g = (k, sym (judged-new (b .lifecycle .state) (r .numbered) (b .number) o h f g))
       at false h false f y g = update-waits h f
+
+  -- a message that passes them
+  module _ (judged : judgedUpdate (b .lifecycle .state) (r .numbered) (b .number) o ≡ Passes o) where
+    passed-both : (lacksSnapshot p m ≡ false) × (isOld p m ≡ false)
+    unfolding shows
+    passed-both = at (isSnapshot (o .kind)) refl
+      where
+        at : (t : Bool) → isSnapshot (o .kind) ≡ t → (lacksSnapshot p m ≡ false) × (isOld p m ≡ false)
+        at true h = (snapshot-lacks-none p m (o-snapshot ∙ h), snapshot-not-old p m (o-snapshot ∙ h))
+        at false h =
+            let w = update-passed (b .lifecycle .state) (r .numbered) (b .number) o h judged in
+            (update-lacks p m true (o-snapshot ∙ h) (w .0), old-is h ∙ w .1)
 
   -- ---- the sides that entries are applied to
 
-  before-none : (kept : Levels) → o .snapshot ≡ true → held (sideBefore o kept) ≡ []
+  before-shown : (kept : Levels) → map shown (held (sideBefore o kept)) ≡ cond (isSnapshot (m .kind)) [] (map shown (held kept))
   unfolding held
-  before-none kept h = rw h
-
-  before-same : (kept : Levels) → o .snapshot ≡ false → sideBefore o kept ≡ kept
-  before-same kept h = rw h
+  before-shown kept = rw o-snapshot (at (isSnapshot (o .kind)))
+    where
+      at : (t : Bool) → map shown (held (keptIn (kept .words) (cond t 0 (kept .count)))) ≡ cond t [] (map shown (held kept))
+      at true = refl
+      at false = refl
 
   pub before-asked : (side : Side) (kept : Levels) → Sound (isM d) side kept → length (held kept) ≤ b .settings .depth
       → Sound (isM d) side (sideBefore o kept) × (length (held (sideBefore o kept)) ≤ b .settings .depth)
   unfolding held All Sorted
-  before-asked side kept z n = at (o .snapshot)
+  before-asked side kept z n = at (isSnapshot (o .kind))
     where
       at : (t : Bool) → Sound (isM d) side (keptIn (kept .words) (cond t 0 (kept .count))) × (length (held (keptIn (kept .words) (cond t 0 (kept .count)))) ≤ b .settings .depth)
       at true = (record { good = record { few = omega arith; room = z .good .room; sorted = tt; within = tt }; carried = tt; sized = tt }, omega arith)
@@ -477,7 +353,7 @@ module _ (b : Book) (s : List ℕ) (o : Outline) (k : Passed b s o) where
 
   -- ---- what `apply_entries` requires and gives, t being whether the dialect is M, and n the count of a side before the entries
 
-  module _ (t : Bool) (is : t ≡ isM d) (side : Side) (kept : Levels) (n : ℕ) (counts : n ≡ cond (o .snapshot) 0 (kept .count)) (at count : ℕ) where
+  module _ (t : Bool) (is : t ≡ isM d) (side : Side) (kept : Levels) (n : ℕ) (counts : n ≡ cond (isSnapshot (o .kind)) 0 (kept .count)) (at count : ℕ) where
     pub asked-as : Ready (isM d) s at count → Sound (isM d) side kept → length (held kept) ≤ b .settings .depth
         → Sound t side (keptIn (kept .words) n) × Ready t s at count × (b .settings .depth ≤ 100) × (length (held (keptIn (kept .words) n)) ≤ b .settings .depth)
     asked-as r z f = let y = before-asked side kept z f in rw (is, counts) (y .0, r, depth-most, y .1)
@@ -486,48 +362,109 @@ module _ (b : Book) (s : List ℕ) (o : Outline) (k : Passed b s o) where
         → Worked (isM d) side (b .settings .depth) (editsAt (isM d) s at count) (sideBefore o kept) a
     worked-as a w = rw (is, counts) at w
 
+  -- ---- a side with the message's entries applied to it is the side after the message
+
+  module _ (side : Side) (qs : List LevelChange) (kept : Levels) (at count : ℕ) (a : SideAfter) (edits : editsAt (isM d) s at count ≡ map editOf qs)
+      (w : Worked (isM d) side (b .settings .depth) (editsAt (isM d) s at count) (sideBefore o kept) a) where
+    abbrev base : List PriceLevel
+    base = cond (isSnapshot (m .kind)) [] (map shown (held kept))
+
+    levels-are : map shown (held (a .levels)) ≡ afterMessage shownPrice side (b .settings .depth) (map editOf qs) base
+    levels-are = w .levels ∙ ap₂ (λ (x : List (Edit PriceLevel)) (y : List PriceLevel). afterMessage shownPrice side (b .settings .depth) x y) edits (before-shown kept)
+
+    count-is : a .count ≡ length (applyAll shownPrice (map editOf qs) base)
+    count-is = w .count ∙ ap₂ (λ (x : List (Edit PriceLevel)) (y : List PriceLevel). length (applyAll shownPrice x y)) edits (before-shown kept)
+
+    met-is : a .replaced ≡ replaced shownPrice (map editOf qs) base
+    met-is = w .replaced ∙ ap₂ (λ (x : List (Edit PriceLevel)) (y : List PriceLevel). replaced shownPrice x y) edits (before-shown kept)
+
+    levels-few : length (held (a .levels)) ≤ b .settings .depth
+    levels-few =
+        let x = length-map (held (a .levels)) shown in
+        let y = ap length levels-are in
+        let z = after-few side (b .settings .depth) (map editOf qs) base in
+        omega arith
+
+    after-same : (r .cut ≡ false → a .count ≤ r .levels) → map shown (held (a .levels)) ≡ afterChanges terms side qs base
+    unfolding afterChanges configOf
+    after-same f = levels-are ∙ after-is (r .cut) (b .settings .depth) (r .levels) (fits .1) side (map editOf qs) base (λ e. let x = f e in let y = count-is in omega arith)
+
+    over-is : ltb (r .levels) (length (afterChanges terms side qs base)) ≡ (not (r .cut) && ltb (r .levels) (a .count))
+    unfolding afterChanges configOf
+    over-is = left-over (r .cut) (b .settings .depth) (r .levels) (fits .1) side (map editOf qs) base (fits .0) ∙ ap (λ (x : ℕ). not (r .cut) && ltb (r .levels) x) (sym count-is)
+
+    -- in a snapshot some entry met a level exactly if its prices name one twice
+    met-twice : (rows : List Row) → map (levelChangeAt s) rows ≡ qs → isSnapshot (m .kind) ≡ true → badTexts true s rows ≡ [] → a .replaced ≡ namesTwice (pricesOf qs)
+    met-twice rows e h n =
+        let z = zero-none s rows n in
+        let f : All IsSet (map editOf qs) = subst (λ (x : List LevelChange). All IsSet (map editOf x)) e (sets-all s rows (z .0) (z .1)) in
+        met-is ∙ ap (λ (x : Bool). replaced shownPrice (map editOf qs) (cond x [] (map shown (held kept)))) h ∙ met-snapshot shownPrice (map editOf qs) f ∙ ap namesTwice (names-are qs)
+
   -- ---- the whole of checks 9, 12 and 13
 
-  module _ (judged : judgedUpdate (b .lifecycle .state) (isM d) (b .number) o ≡ Passes o) (bids asks : SideAfter)
+  module _ (judged : judgedUpdate (b .lifecycle .state) (r .numbered) (b .number) o ≡ Passes o) (bids asks : SideAfter)
       (wb : Worked (isM d) Bids (b .settings .depth) (editsAt (isM d) s (o .«bids_at») (o .bids)) (sideBefore o (b .bids)) bids)
       (wa : Worked (isM d) Asks (b .settings .depth) (editsAt (isM d) s (o .«asks_at») (o .asks)) (sideBefore o (b .asks)) asks) where
+    abbrev over : Bool
+    over = ltb (r .levels) (bids .count) || ltb (r .levels) (asks .count)
+
     abbrev found : Answer
-    found = weighed o d (bids .replaced || asks .replaced) (ltb 100 (bids .count) || ltb 100 (asks .count)) (bids .levels) (asks .levels)
+    found = weighed o d (bids .replaced || asks .replaced) over (bids .levels) (asks .levels)
 
-    found-as : (a : Answer) → found ≡ a → Received (receive p s) (finished (bids .levels) (asks .levels) a) → Received (receive p s) (finished (bids .levels) (asks .levels) found)
-    found-as a e x = subst (λ (y : Answer). Received (receive p s) (finished (bids .levels) (asks .levels) y)) (sym e) x
+    -- check 9
+    twice-is : namesPriceTwice m ≡ (isSnapshot (o .kind) && (bids .replaced || asks .replaced))
+    unfolding namesPriceTwice messageOf bad
+    twice-is = at (isSnapshot (o .kind)) refl
+      where
+        at : (t : Bool) → isSnapshot (o .kind) ≡ t → (isSnapshot (m .kind) && (namesTwice (pricesOf (m .bids)) || namesTwice (pricesOf (m .asks)))) ≡ (t && (bids .replaced || asks .replaced))
+        at true h =
+            let q : isSnapshot (m .kind) ≡ true = o-snapshot ∙ h in
+            let n = also-framed terms s l (k .checked-as) .1 in
+            let g = append-none (badTexts true s (l .bids .rows)) (badTexts true s (l .asks .rows)) (subst (λ (x : Bool). badTexts x s (l .bids .rows) ++ badTexts x s (l .asks .rows) ≡ []) q n) in
+            let x = met-twice Bids (m .bids) (b .bids) (o .«bids_at») (o .bids) bids bids-edits wb (l .bids .rows) refl q (g .0) in
+            let y = met-twice Asks (m .asks) (b .asks) (o .«asks_at») (o .asks) asks asks-edits wa (l .asks .rows) refl q (g .1) in
+            rw (q, x, y)
+        at false h = let q : isSnapshot (m .kind) ≡ false = o-snapshot ∙ h in rw q
 
-    as-snapshot : o .snapshot ≡ true → Received (receive p s) (finished (bids .levels) (asks .levels) found)
+    -- check 12
+    many-is : hasTooMany p m ≡ (not (r .cut) && over)
+    unfolding hasTooMany sidesAfter shows configOf
+    many-is =
+        ap₂ (λ (x y : Bool). x || y) (over-is Bids (m .bids) (b .bids) (o .«bids_at») (o .bids) bids bids-edits wb) (over-is Asks (m .asks) (b .asks) (o .«asks_at») (o .asks) asks asks-edits wa)
+        ∙ not-each (r .cut) (ltb (r .levels) (bids .count)) (ltb (r .levels) (asks .count))
+
+    settles : (isSnapshot (o .kind) && (bids .replaced || asks .replaced)) ≡ false → (not (r .cut) && over) ≡ false → Settles (bids .levels) (asks .levels)
+    unfolding sidesAfter shows configOf
+    settles x y =
+        record {
+          bids-sound = wb .sound;
+          asks-sound = wa .sound;
+          bids-few = levels-few Bids (m .bids) (b .bids) (o .«bids_at») (o .bids) bids bids-edits wb;
+          asks-few = levels-few Asks (m .asks) (b .asks) (o .«asks_at») (o .asks) asks asks-edits wa;
+          sides-are = ap₂ (λ (u v : List PriceLevel). record { bids = u; asks = v })
+              (after-same Bids (m .bids) (b .bids) (o .«bids_at») (o .bids) bids bids-edits wb (λ e. within (r .cut) e y .0))
+              (after-same Asks (m .asks) (b .asks) (o .«asks_at») (o .asks) asks asks-edits wa (λ e. within (r .cut) e y .1));
+          not-twice = twice-is ∙ x;
+          not-lacking = passed-both judged .0;
+          not-old = passed-both judged .1;
+          not-many = many-is ∙ y;
+        }
+      where
+        within : (t : Bool) → t ≡ false → (not t && over) ≡ false → (bids .count ≤ r .levels) × (asks .count ≤ r .levels)
+        within true e f = absurd (true≢false e)
+        within false e f =
+            let g = or-none (ltb (r .levels) (bids .count)) (ltb (r .levels) (asks .count)) f in
+            (ltb-false (r .levels) (bids .count) (g .0), ltb-false (r .levels) (asks .count) (g .1))
+
+    weighed-told : Received (receive p s) (finished (bids .levels) (asks .levels) found)
     unfolding weighed isTaken answerNumber
-    as-snapshot h = at (bids .replaced || asks .replaced) refl
+    weighed-told = at (isSnapshot (o .kind) && (bids .replaced || asks .replaced)) refl (not (r .cut) && over) refl
       where
-        at : (t : Bool) → (bids .replaced || asks .replaced) ≡ t → Received (receive p s) (finished (bids .levels) (asks .levels) found)
-        at true e = found-as PriceTwice (rw (h, e)) (snapshot-twice h (sideBefore o (b .bids)) (sideBefore o (b .asks)) (before-none (b .bids) h) (before-none (b .asks) h) bids asks wb wa e)
-        at false e = found-as (cond (wrong (bids .levels) (asks .levels)) WrongChecksum Taken) (rw (h, e)) (settled-told (bids .levels) (asks .levels) (snapshot-settles h (sideBefore o (b .bids)) (sideBefore o (b .asks)) (before-none (b .bids) h) (before-none (b .asks) h) bids asks wb wa e))
-
-    as-update : o .snapshot ≡ false → Received (receive p s) (finished (bids .levels) (asks .levels) found)
-    unfolding weighed isTaken answerNumber shows
-    as-update h = at (isM d && (ltb 100 (bids .count) || ltb 100 (asks .count))) refl
-      where
-        passed : (isLive (p .status) ≡ true) × ((isM d && leb (o .number) (b .number)) ≡ false)
-        passed = update-passed (b .lifecycle .state) (isM d) (b .number) o h judged
-
-        wb′ : Worked (isM d) Bids (b .settings .depth) (editsAt (isM d) s (o .«bids_at») (o .bids)) (b .bids) bids
-        wb′ = subst (λ (x : Levels). Worked (isM d) Bids (b .settings .depth) (editsAt (isM d) s (o .«bids_at») (o .bids)) x bids) (before-same (b .bids) h) wb
-
-        wa′ : Worked (isM d) Asks (b .settings .depth) (editsAt (isM d) s (o .«asks_at») (o .asks)) (b .asks) asks
-        wa′ = subst (λ (x : Levels). Worked (isM d) Asks (b .settings .depth) (editsAt (isM d) s (o .«asks_at») (o .asks)) x asks) (before-same (b .asks) h) wa
-
-        at : (t : Bool) → (isM d && (ltb 100 (bids .count) || ltb 100 (asks .count))) ≡ t → Received (receive p s) (finished (bids .levels) (asks .levels) found)
-        at true e = found-as TooManyLevels (rw (h, e)) (update-is-over h (passed .0) (passed .1) bids asks wb′ wa′ e)
-        at false e = found-as (cond (wrong (bids .levels) (asks .levels)) WrongChecksum Taken) (rw (h, e)) (settled-told (bids .levels) (asks .levels) (update-settles h (passed .0) (passed .1) bids asks wb′ wa′ e))
-
-    pub weighed-told : Received (receive p s) (finished (bids .levels) (asks .levels) found)
-    weighed-told = at (o .snapshot) refl
-      where
-        at : (t : Bool) → o .snapshot ≡ t → Received (receive p s) (finished (bids .levels) (asks .levels) found)
-        at true h = as-snapshot h
-        at false h = as-update h
+        at : (x : Bool) → (isSnapshot (o .kind) && (bids .replaced || asks .replaced)) ≡ x → (y : Bool) → (not (r .cut) && over) ≡ y
+            → Received (receive p s) (finished (bids .levels) (asks .levels) (cond x PriceTwice (cond y TooManyLevels (cond (wrong (bids .levels) (asks .levels)) WrongChecksum Taken))))
+        at true e y f = refuse-as PriceTwice (nine p m (twice-is ∙ e))
+        at false e true f = refuse-as TooManyLevels (twelve p m (twice-is ∙ e) (passed-both judged .0) (passed-both judged .1) (many-is ∙ f))
+        at false e false f = settled-told (bids .levels) (asks .levels) (settles e f)
 
     -- the same for an answer that the code found
     module _ (a : Answer) (e : a ≡ found) where

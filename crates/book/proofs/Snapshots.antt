@@ -19,15 +19,16 @@ use Rattle.settings.specs.declared.Dialect.the-variants.{K, M, Unknown}
 use Rattle.level.specs.Words.{shown}
 use Rattle.level.specs.Kept.{held}
 use Rattle.checksum.specs.Text.{mChecksum}
+use Rattle.reference.proofs.Sums.{sum-m}
 use Rattle.answer.specs.Answers.{answerNumber as numberOf, isTaken}
 use Rattle.answer.specs.declared.Answer.{Answer}
 use Rattle.answer.specs.declared.Answer.the-variants.{Taken, NoRoom}
 use Rattle.writer.specs.Snapshot.{kSnapshot, mSnapshot}
-use Rattle.reference.specs.Reference.{Status, Reference, ifTaken, asked, askedWriting, textIn, snapshotText, amount, does, write}
+use Rattle.reference.specs.Reference.{Status, Reference, textIn, snapshotText, write, amount, zeros, Response, respond, refusal, replied, question, does}
 use Rattle.book.specs.Shown.{shows, Good, Wrote}
 use Rattle.reference.specs.declared.Scope.the-variants.{Current}
 use Rattle.book.specs.declared.Book.{Book}
-use Rattle.book.proofs.Asking.{asked-yes, asked-no, if-yes, if-no}
+use Rattle.book.proofs.Asking.{asked-yes, reply-taken, reply-refused, no-refused}
 
 -- ---- the text by the dialect
 
@@ -49,7 +50,7 @@ module _ (b : Book) where
   pub m-text : b .settings .dialect ≡ M → (sum : ℕ) → sum ≡ mChecksum (map shown (held (b .bids))) (map shown (held (b .asks)))
       → mSnapshot name (map shown (held (b .bids))) (map shown (held (b .asks))) sum (b .number) ≡ snapshotText (shows b)
   unfolding textIn shows configOf
-  m-text e sum q = ap (λ (x : ℕ). mSnapshot name (map shown (held (b .bids))) (map shown (held (b .asks))) x (b .number)) q ∙ sym (text-is M e)
+  m-text e sum q = ap (λ (x : ℕ). mSnapshot name (map shown (held (b .bids))) (map shown (held (b .asks))) x (b .number)) (q ∙ sum-m (shows b .last .sides)) ∙ sym (text-is M e)
 
   -- a book of no dialect has no text
   pub no-text : b .settings .dialect ≡ Unknown → (buffer : List ℕ) → Laid buffer 0 (snapshotText (shows b)) buffer (To 0)
@@ -68,36 +69,31 @@ module _ (b : Book) (before after : List ℕ) where
   abbrev yes : Bool
   yes = answers (statusOf (b .lifecycle .state)) (b .lifecycle .«had_snapshot») Current
 
-  if-not : {A : Type 0} (a : Answer) (x z : A) → a ≡ NoRoom → ifTaken a x z ≡ z
-  unfolding ifTaken isTaken numberOf
-  if-not a x z h = rw (h, ifTaken, isTaken, numberOf)
+  abbrev asked : Response
+  asked = respond p (length before) write
 
   module _ (h : yes ≡ true) (w : Written) (l : Laid before 0 text after w) where
-    asked-is : (t : Bool) → ltb (length before) (length text) ≡ t → askedWriting p before ≡ cond t NoRoom Taken
-    unfolding askedWriting shows
-    asked-is t e = if-yes (asked Current p) _ _ (asked-yes p Current h) ∙ rw e
+    asked-is : (t : Bool) → ltb (length before) (length text) ≡ t → refusal p asked ≡ cond t NoRoom Taken
+    unfolding respond shows
+    asked-is t e = asked-yes p asked h ∙ ap (λ (x : Bool). cond x NoRoom Taken) e
 
     pub wrote-to : (n : ℕ) → w ≡ To n → Wrote b before after (record { book = b; answer = Taken; value = n })
-    unfolding does fits
+    unfolding does respond replied fits
     wrote-to n e = go (leb (0 + length text) (length before)) refl (l .bytes) (sym e ∙ l .end)
       where
         go : (t : Bool) → leb (0 + length text) (length before) ≡ t → after ≡ elim t [ true ↦ overlaid before 0 text | false ↦ before ] → To n ≡ elim t [ true ↦ To (0 + length text) | false ↦ Full ]
             → Wrote b before after (record { book = b; answer = Taken; value = n })
         go true q x y =
             let f : 0 + length text ≤ length before = leb-true (0 + length text) (length before) q in
-            let a : askedWriting p before ≡ Taken = asked-is false (le-ltb (length before) (length text) (omega arith)) in
+            let a : refusal p asked ≡ Taken = asked-is false (le-ltb (length before) (length text) (omega arith)) in
+            let z = reply-taken p before asked Taken a refl in
             let m : n ≡ 0 + length text = cc in
             let k : n ≡ length text = omega arith in
-            record {
-              book = refl;
-              answer = sym a;
-              value = ap amount (k ∙ sym (if-yes (askedWriting p before) _ _ a));
-              buffer = x ∙ sym (if-yes (askedWriting p before) _ _ a);
-            }
+            record { book = refl; answer = sym a; value = ap amount k ∙ sym (z .0); buffer = x ∙ sym (z .1) }
         go false q x y = let z : _≡_ {A = ℕ} 0 1 = cc in absurd (omega arith)
 
     pub wrote-full : w ≡ Full → Wrote b before after (record { book = b; answer = NoRoom; value = 0 })
-    unfolding does fits
+    unfolding does respond replied zeros fits isTaken numberOf
     wrote-full e = go (leb (0 + length text) (length before)) refl (l .bytes) (sym e ∙ l .end)
       where
         go : (t : Bool) → leb (0 + length text) (length before) ≡ t → after ≡ elim t [ true ↦ overlaid before 0 text | false ↦ before ] → Full ≡ elim t [ true ↦ To (0 + length text) | false ↦ Full ]
@@ -105,22 +101,12 @@ module _ (b : Book) (before after : List ℕ) where
         go true q x y = let z : _≡_ {A = ℕ} 0 1 = cc in absurd (omega arith)
         go false q x y =
             let f = leb-false (0 + length text) (length before) q in
-            let a : askedWriting p before ≡ NoRoom = asked-is true (lt-ltb (length before) (length text) (omega arith)) in
-            record {
-              book = refl;
-              answer = sym a;
-              value = ap amount (sym (if-not (askedWriting p before) _ _ a));
-              buffer = x ∙ sym (if-not (askedWriting p before) _ _ a);
-            }
+            let a : refusal p asked ≡ NoRoom = asked-is true (lt-ltb (length before) (length text) (omega arith)) in
+            let z = reply-refused p before asked NoRoom a refl in
+            record { book = refl; answer = sym a; value = sym (z .0); buffer = x ∙ sym (z .1) }
 
   pub wrote-not : yes ≡ false → (a : Answer) → a ≡ refusalOf (statusOf (b .lifecycle .state)) → after ≡ before → Wrote b before after (record { book = b; answer = a; value = 0 })
-  unfolding does askedWriting shows
+  unfolding does respond replied zeros
   wrote-not h a e x =
-      let n = asked-no p Current h in
-      let m : askedWriting p before ≡ refusalOf (statusOf (b .lifecycle .state)) = if-no (asked Current p) (statusOf (b .lifecycle .state)) _ _ n ∙ n in
-      record {
-        book = refl;
-        answer = e ∙ sym m;
-        value = ap amount (sym (if-no (askedWriting p before) (statusOf (b .lifecycle .state)) _ _ m));
-        buffer = x ∙ sym (if-no (askedWriting p before) (statusOf (b .lifecycle .state)) _ _ m);
-      }
+      let z = no-refused b Current asked refl h a e before in
+      record { book = refl; answer = z .0; value = sym (z .1); buffer = x ∙ sym (z .2) }

@@ -14,7 +14,7 @@ use Rattle.level.specs.declared.Side.{Side}
 use Rattle.level.specs.declared.Side.the-variants.{Bids, Asks}
 use Rattle.sides.specs.Worked.{Sound}
 use Rattle.lifecycle.specs.Lifecycle.{statusOf}
-use Rattle.reference.specs.Reference.{isShut, Reference, opened, After, receive, Reply, Ask, message, howMany, levelAt, whichNumber, howManyUpdates, write, counts, level, amount, does}
+use Rattle.reference.specs.Reference.{isShut, Reference, opened, After, receive, Question, howMany, levelAt, write, counts, level, amount, question, does}
 use Rattle.settings.specs.Settings.{isM}
 use Rattle.reference.specs.declared.Scope.{Scope}
 use Rattle.book.specs.declared.Book.{Book}
@@ -31,10 +31,7 @@ shows b =
     record {
       config = configOf (b .settings);
       status = statusOf (b .lifecycle .state);
-      bids = map shown (held (b .bids));
-      asks = map shown (held (b .asks));
-      number = b .number;
-      updates = b .updates;
+      last = record { sides = record { bids = map shown (held (b .bids)); asks = map shown (held (b .asks)) }; number = b .number; updates = b .updates };
       had-snapshot = b .lifecycle .«had_snapshot»;
     }
 
@@ -93,8 +90,8 @@ pub record Received (a : After) (r : Step) : Type 0 where
 
 pub record AnswersCounts (b : Book) (scope : Scope) (r : CountsReply) : Type 0 where
   pub book : r .book ≡ b
-  pub answer : (buffer : List ℕ) → r .answer ≡ does (shows b) (howMany scope) buffer .answer
-  pub value : (buffer : List ℕ) → counts (r .bids) (r .asks) ≡ does (shows b) (howMany scope) buffer .value
+  pub answer : (buffer : List ℕ) → r .answer ≡ does (shows b) (question (howMany scope)) buffer .answer
+  pub value : (buffer : List ℕ) → counts (r .bids) (r .asks) ≡ does (shows b) (question (howMany scope)) buffer .value
 
 -- The same of a header, whatever the words of the sides are.
 pub record CountsAnswered (h : Header) (scope : Scope) (r : Counts) : Type 0 where
@@ -102,17 +99,17 @@ pub record CountsAnswered (h : Header) (scope : Scope) (r : Counts) : Type 0 whe
 
 pub record AnswersLevel (b : Book) (scope : Scope) (side : Side) (i : ℕ) (r : LevelReply) : Type 0 where
   pub book : r .book ≡ b
-  pub answer : (buffer : List ℕ) → r .answer ≡ does (shows b) (levelAt scope side i) buffer .answer
-  pub value : (buffer : List ℕ) → level (record { price = number (r .price); size = number (r .size) }) ≡ does (shows b) (levelAt scope side i) buffer .value
+  pub answer : (buffer : List ℕ) → r .answer ≡ does (shows b) (question (levelAt scope side i)) buffer .answer
+  pub value : (buffer : List ℕ) → level (record { price = number (r .price); size = number (r .size) }) ≡ does (shows b) (question (levelAt scope side i)) buffer .value
 
-pub record AnswersAmount (b : Book) (ask : Ask) (r : NumberReply) : Type 0 where
+pub record AnswersAmount (b : Book) (q : Question) (r : NumberReply) : Type 0 where
   pub book : r .book ≡ b
-  pub answer : (buffer : List ℕ) → r .answer ≡ does (shows b) ask buffer .answer
-  pub value : (buffer : List ℕ) → amount (r .value) ≡ does (shows b) ask buffer .value
+  pub answer : (buffer : List ℕ) → r .answer ≡ does (shows b) (question q) buffer .answer
+  pub value : (buffer : List ℕ) → amount (r .value) ≡ does (shows b) (question q) buffer .value
 
 -- The writer: the buffer afterwards too.
 pub record Wrote (b : Book) (before after : List ℕ) (r : NumberReply) : Type 0 where
   pub book : r .book ≡ b
-  pub answer : r .answer ≡ does (shows b) write before .answer
-  pub value : amount (r .value) ≡ does (shows b) write before .value
-  pub buffer : after ≡ does (shows b) write before .buffer
+  pub answer : r .answer ≡ does (shows b) (question write) before .answer
+  pub value : amount (r .value) ≡ does (shows b) (question write) before .value
+  pub buffer : after ≡ does (shows b) (question write) before .buffer

@@ -3,12 +3,13 @@ use Prim.Native.Nat.{ℕ, _≤_}
 use mathlib.Core.Path.{_≡_}
 use mathlib.Core.Bool.{Bool, true, false, _&&_, _||_, not, cond}
 use mathlib.Core.List.{List, map}
-use lib.Dec.{eqb, leb, ltb}
+use lib.Dec.{eqb, ltb}
 use lib.ListN.{length}
 use Rattle.lifecycle.specs.Lifecycle.{statusOf, liveLifecycle, refusedLifecycle, judgedUpdate}
-use Rattle.answer.specs.Answers.{isTaken, leavesStatus}
+use Rattle.answer.specs.Answers.{isTaken}
 use Rattle.decimal.specs.Digits.{reads}
-use Rattle.settings.specs.Settings.{isM, good}
+use Rattle.settings.specs.Settings.{isM}
+use Rattle.settings.specs.Rules.{rulesOf}
 use Rattle.settings.specs.Kept.{configOf}
 use Rattle.settings.specs.declared.Dialect.{Dialect}
 use Rattle.level.specs.Words.{shown}
@@ -16,21 +17,18 @@ use Rattle.level.specs.Kept.{keptIn, held}
 use Rattle.level.specs.declared.Side.the-variants.{Bids, Asks}
 use Rattle.sides.specs.Worked.{SideAfter, editsAt, Worked}
 use Rattle.level.specs.declared.Levels.{Levels}
-use Rattle.layout.specs.Layout.{Layout}
+use Rattle.layout.specs.Layout.{isSnapshot, Layout}
 use Rattle.layout.specs.Scan.{outlineOf}
 use Rattle.layout.specs.declared.Outline.{Outline}
 use Rattle.message.specs.Meaning.{passes, checked}
 use Rattle.answer.specs.declared.Answer.{Answer}
-use Rattle.answer.specs.declared.Answer.the-variants.{Taken, PriceTwice, NoSnapshot, OldNumber, TooManyLevels, WrongChecksum}
+use Rattle.answer.specs.declared.Answer.the-variants.{Taken, PriceTwice, TooManyLevels, WrongChecksum}
 use Rattle.message.specs.declared.Verdict.{Verdict}
 use Rattle.message.specs.declared.Verdict.the-variants.{Fails, Passes}
-use Rattle.reference.specs.Reference.{maxLevels, isShut, isLive, checksumOf, oneMore, receive}
+use Rattle.reference.specs.Reference.{isShut, checksumOf, oneMore, receive}
 use Rattle.book.specs.Shown.{shows, bookOf, stepOf, Good, Received}
-use Rattle.lifecycle.specs.declared.State.{State}
-use Rattle.lifecycle.specs.declared.State.the-variants.{Waiting, Live}
 use Rattle.book.specs.declared.Book.{Book}
 use Rattle.book.specs.declared.Header.{Header}
-use Rattle.lifecycle.specs.declared.Lifecycle.{Lifecycle}
 use Rattle.book.specs.declared.Answered.{Answered}
 use Rattle.book.specs.declared.Step.{Step}
 
@@ -64,7 +62,7 @@ refusedStep b a =
 unfoldable pub keptStep : Book → Outline → Levels → Levels → Step
 keptStep b o bids asks =
     record {
-      book = record { bids = bids; asks = asks; settings = b .settings; number = o .number; updates = cond (o .snapshot) 0 (oneMore (b .updates)); lifecycle = liveLifecycle (b .lifecycle) (o .snapshot) };
+      book = record { bids = bids; asks = asks; settings = b .settings; number = o .number; updates = cond (isSnapshot (o .kind)) 0 (oneMore (b .updates)); lifecycle = liveLifecycle (b .lifecycle) (o .kind) };
       answer = Taken;
     }
 
@@ -76,18 +74,18 @@ takenHeader h o bids asks =
       asks = asks;
       settings = h .settings;
       number = o .number;
-      updates = cond (o .snapshot) 0 (oneMore (h .updates));
-      lifecycle = liveLifecycle (h .lifecycle) (o .snapshot);
+      updates = cond (isSnapshot (o .kind)) 0 (oneMore (h .updates));
+      lifecycle = liveLifecycle (h .lifecycle) (o .kind);
     }
 
 -- What checks 1 to 8, 10 and 11 find.
 unfoldable pub Judged : Book → List ℕ → Verdict → Type 0
 Judged b s (Fails a) = Received (receive (shows b) s) (refusedStep b a)
-Judged b s (Passes o) = Passed b s o × (judgedUpdate (b .lifecycle .state) (isM (b .settings .dialect)) (b .number) o ≡ Passes o)
+Judged b s (Passes o) = Passed b s o × (judgedUpdate (b .lifecycle .state) (rulesOf (b .settings .dialect) .numbered) (b .number) o ≡ Passes o)
 
 -- A side before the entries: the book's own, and with no level before those of a snapshot.
 abbrev pub sideBefore : Outline → Levels → Levels
-sideBefore o kept = keptIn (kept .words) (cond (o .snapshot) 0 (kept .count))
+sideBefore o kept = keptIn (kept .words) (cond (isSnapshot (o .kind)) 0 (kept .count))
 
 -- What the entries of a message make of the sides of a book.
 pub record SidesAfter (b : Book) (s : List ℕ) (o : Outline) (bids asks : SideAfter) : Type 0 where
@@ -99,14 +97,14 @@ pub record SidesAfter (b : Book) (s : List ℕ) (o : Outline) (bids asks : SideA
 -- Checks 9, 12 and 13.
 unfoldable pub weighed : Outline → Dialect → Bool → Bool → Levels → Levels → Answer
 weighed o d replaced over bids asks =
-    cond (o .snapshot && replaced) PriceTwice
-    (cond (not (o .snapshot) && (isM d && over)) TooManyLevels
-    (cond (o .printed && not (eqb (o .checksum) (checksumOf d (map shown (held bids)) (map shown (held asks))))) WrongChecksum Taken))
+    cond (isSnapshot (o .kind) && replaced) PriceTwice
+    (cond (not (rulesOf d .cut) && over) TooManyLevels
+    (cond (o .printed && not (eqb (o .checksum) (checksumOf (rulesOf d) (record { bids = map shown (held bids); asks = map shown (held asks) })))) WrongChecksum Taken))
 
 -- .. of what the entries made of the sides.
 abbrev pub weighedSides : Outline → Dialect → SideAfter → SideAfter → Answer
 weighedSides o d bids asks =
-    weighed o d (bids .replaced || asks .replaced) (ltb maxLevels (bids .count) || ltb maxLevels (asks .count)) (bids .levels) (asks .levels)
+    weighed o d (bids .replaced || asks .replaced) (ltb (rulesOf d .levels) (bids .count) || ltb (rulesOf d .levels) (asks .count)) (bids .levels) (asks .levels)
 
 -- A message that passes the checks of its text is tried: where it is taken, the words are those of the book after it; where it is refused, those of the
 -- book before it are to be put back. A side without entries keeps its words.

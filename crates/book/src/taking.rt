@@ -9,6 +9,7 @@ ghost use Rattle.level.specs.Words.{shown};
 ghost use Rattle.level.specs.Kept.{keptIn, held};
 ghost use Rattle.level.specs.declared.Side.the-variants.{Bids, Asks};
 ghost use Rattle.settings.specs.Settings.{isM};
+ghost use Rattle.settings.specs.Rules.{rulesOf};
 ghost use Rattle.sides.specs.Worked.{Sound, sideAfter};
 ghost use Rattle.reference.specs.Reference.{isShut, checksumOf, receive, oneMore};
 ghost use Rattle.book.specs.Shown.{shows, bookOf, stepOf, Good, Received};
@@ -19,6 +20,7 @@ use crate::Header;
 use answer::Answer;
 use answer::is_taken;
 use layout::Outline;
+use layout::is_snapshot;
 use level::MAX_WORDS;
 use level::Side;
 use lifecycle::count_before;
@@ -30,12 +32,11 @@ use lifecycle::updates_after;
 use message::Verdict;
 use settings::Dialect;
 use settings::is_m;
+use settings::rules_of;
 use side::Applied;
 use sides::apply_entries;
 use text::both;
 use text::either;
-
-const MAX_LEVELS: usize = 100;
 
 // The book after a message, in the words of its sides that are lent. A refusal gives the words back as they were.
 pub fn receive(
@@ -187,7 +188,8 @@ fn enter(
     let depth = settings.depth;
     let dialect = settings.dialect;
     let m = is_m(dialect);
-    let bids_before = count_before(outline.snapshot, header.bids);
+    let kind = outline.kind;
+    let bids_before = count_before(kind, header.bids);
     let bid_side = apply_entries(
         bids,
         bids_before,
@@ -198,7 +200,7 @@ fn enter(
         outline.bids_at,
         outline.bids,
     );
-    let asks_before = count_before(outline.snapshot, header.asks);
+    let asks_before = count_before(kind, header.asks);
     let ask_side = apply_entries(
         asks,
         asks_before,
@@ -221,13 +223,14 @@ fn renew(header: Header, outline: Outline, bids: usize, asks: usize) -> Header
 {
     let settings = header.settings;
     let lifecycle = header.lifecycle;
+    let kind = outline.kind;
     Header {
         bids,
         asks,
         settings,
         number: outline.number,
-        updates: updates_after(outline.snapshot, header.updates),
-        lifecycle: live(lifecycle, outline.snapshot),
+        updates: updates_after(kind, header.updates),
+        lifecycle: live(lifecycle, kind),
     }
 }
 
@@ -254,14 +257,16 @@ fn weigh<'a>(
     requires { ⌜ Sound (isM dialect) Bids (keptIn (now bids) («bid_side» .left)) × Sound (isM dialect) Asks (keptIn (now asks) («ask_side» .left)) × ShiftTable (now table) ⌝ }
     ensures { λ r. ⌜ r ≡ weighedSides outline dialect (sideAfter (now (bids .entry)) «bid_side») (sideAfter (now (asks .entry)) «ask_side») ⌝ }
 {
+    let kind = outline.kind;
     if both(
-        outline.snapshot,
+        is_snapshot(kind),
         either(bid_side.replaced, ask_side.replaced),
     ) {
         return Answer::PriceTwice;
     }
-    let over = either(MAX_LEVELS < bid_side.count, MAX_LEVELS < ask_side.count);
-    if is_over(outline.snapshot, is_m(dialect), over) {
+    let rules = rules_of(dialect);
+    let over = either(rules.levels < bid_side.count, rules.levels < ask_side.count);
+    if is_over(rules.cut, over) {
         return Answer::TooManyLevels;
     }
     if outline.printed {
@@ -283,7 +288,7 @@ fn checksum_of<'a>(
     table: &'a [u32],
 ) -> u32
     requires { ⌜ Sound (isM dialect) Bids (keptIn (now bids) «bid_count») × Sound (isM dialect) Asks (keptIn (now asks) «ask_count») × ShiftTable (now table) ⌝ }
-    ensures { λ r. ⌜ r ≡ checksumOf dialect (map shown (held (keptIn (now (bids .entry)) «bid_count»))) (map shown (held (keptIn (now (asks .entry)) «ask_count»))) ⌝ }
+    ensures { λ r. ⌜ r ≡ checksumOf (rulesOf dialect) (record { bids = map shown (held (keptIn (now (bids .entry)) «bid_count»)); asks = map shown (held (keptIn (now (asks .entry)) «ask_count»)) }) ⌝ }
 {
     match dialect {
         Dialect::K => checksum::k_checksum(bids, bid_count, asks, ask_count, table),

@@ -9,7 +9,7 @@ use Rattle.decimal.specs.Decimal.{number as numberOf}
 use Rattle.answer.specs.declared.Answer.{Answer}
 use Rattle.settings.specs.declared.Dialect.{Dialect}
 use Rattle.level.specs.declared.Side.{Side}
-use Rattle.reference.specs.Reference.{opened, Value, nothing, counts, level, amount, Reply, message, howMany, levelAt, whichNumber, howManyUpdates, write, Call, repliesTo}
+use Rattle.reference.specs.Reference.{opened, Value, nothing, counts, level, amount, Reply, message, question, howMany, levelAt, whichNumber, howManyUpdates, write, Call, repliesTo}
 use Rattle.reference.specs.Claims.{call}
 use Rattle.reference.specs.declared.Scope.{Scope}
 use Rattle.book.specs.declared.Book.{Book}
@@ -43,20 +43,20 @@ pub data Made : Book → List Call → List Seen → Book → Type 0 where
       → Made b (call (message (now s)) buffer ∷ cs) (record { answer = r .answer; value = nothing; buffer = buffer } ∷ rs) e
   a-count : {b e : Book} {scope : Scope} {buffer : List ℕ} {r : CountsReply} {cs : List Call} {rs : List Seen} (κs : Lfts 0)
       → (counters.Asked κs (b, (scope, tt)) → counters.Learnt κs (b, (scope, tt)) r (b, (scope, tt))) → Made (r .book) cs rs e
-      → Made b (call (howMany scope) buffer ∷ cs) (record { answer = r .answer; value = counts (r .bids) (r .asks); buffer = buffer } ∷ rs) e
+      → Made b (call (question (howMany scope)) buffer ∷ cs) (record { answer = r .answer; value = counts (r .bids) (r .asks); buffer = buffer } ∷ rs) e
   a-level : {b e : Book} {scope : Scope} {side : Side} {i : ℕ} {buffer : List ℕ} {r : LevelReply} {cs : List Call} {rs : List Seen} (κs : Lfts 0)
       → (levels.Asked κs (b, (scope, (side, (i, tt)))) → levels.Learnt κs (b, (scope, (side, (i, tt)))) r (b, (scope, (side, (i, tt))))) → Made (r .book) cs rs e
-      → Made b (call (levelAt scope side i) buffer ∷ cs)
+      → Made b (call (question (levelAt scope side i)) buffer ∷ cs)
       (record { answer = r .answer; value = level (record { price = numberOf (r .price); size = numberOf (r .size) }); buffer = buffer } ∷ rs) e
   a-number : {b e : Book} {scope : Scope} {buffer : List ℕ} {r : NumberReply} {cs : List Call} {rs : List Seen} (κs : Lfts 0)
       → (numbers.Asked κs (b, (scope, tt)) → numbers.Learnt κs (b, (scope, tt)) r (b, (scope, tt))) → Made (r .book) cs rs e
-      → Made b (call (whichNumber scope) buffer ∷ cs) (record { answer = r .answer; value = amount (r .value); buffer = buffer } ∷ rs) e
+      → Made b (call (question (whichNumber scope)) buffer ∷ cs) (record { answer = r .answer; value = amount (r .value); buffer = buffer } ∷ rs) e
   an-updates : {b e : Book} {scope : Scope} {buffer : List ℕ} {r : NumberReply} {cs : List Call} {rs : List Seen} (κs : Lfts 0)
       → (updates.Asked κs (b, (scope, tt)) → updates.Learnt κs (b, (scope, tt)) r (b, (scope, tt))) → Made (r .book) cs rs e
-      → Made b (call (howManyUpdates scope) buffer ∷ cs) (record { answer = r .answer; value = amount (r .value); buffer = buffer } ∷ rs) e
+      → Made b (call (question (howManyUpdates scope)) buffer ∷ cs) (record { answer = r .answer; value = amount (r .value); buffer = buffer } ∷ rs) e
   a-write : {b e : Book} {r : NumberReply} {cs : List Call} {rs : List Seen} (κs : Lfts 1) (u w : RefT (List ℕ))
       → (writes.Asked κs (b, (u, tt)) → writes.Learnt κs (b, (u, tt)) r (b, (w, tt))) → Made (r .book) cs rs e
-      → Made b (call write (now u) ∷ cs) (record { answer = r .answer; value = amount (r .value); buffer = now w } ∷ rs) e
+      → Made b (call (question write) (now u) ∷ cs) (record { answer = r .answer; value = amount (r .value); buffer = now w } ∷ rs) e
 
 -- Every answer, level with its text, length, number and count, and every byte of every buffer is the reference book's. What the book is between two calls
 -- is what questions put there would be answered.

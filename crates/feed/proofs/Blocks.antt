@@ -1,5 +1,5 @@
 -- A message of which one byte more is carried than a message may have is answered as the whole of it. Assumes nothing.
-use Prim.Native.Nat.{ℕ, _+_, _<_}
+use Prim.Native.Nat.{ℕ, _+_, _<_, _≤_}
 use mathlib.Core.Path.{_≡_, refl, sym, ap, _∙_}
 use mathlib.Core.Bool.{Bool, true, false, cond}
 use mathlib.Core.List.{List, [], _∷_, _++_, map}
@@ -10,7 +10,10 @@ use lib.ListN.{length, take}
 use lib.Seq.{take-all, length-take-le}
 use Rattle.settings.specs.Settings.{Config}
 use Rattle.answer.specs.declared.Answer.the-variants.{TooLong, Shut}
-use Rattle.message.specs.Meaning.{maxMessage, framed, alsoDecimals, checked, Decoded, refuses, decodedOf, decode}
+use Rattle.settings.specs.Rules.{rulesOf}
+use Rattle.settings.specs.declared.Dialect.{Dialect}
+use Rattle.settings.specs.declared.Dialect.the-variants.{K, M, Unknown}
+use Rattle.message.specs.Meaning.{framed, alsoDecimals, checked, Decoded, refuses, decodedOf, decode}
 use Rattle.reference.specs.Reference.{Reference, opened, isShut, After, receive, received}
 use Rattle.text.specs.Text.{joined}
 use Rattle.lines.specs.Lines.{linesOf, inBlocks}
@@ -19,9 +22,16 @@ use Rattle.line_text.specs.Opening.{lineOne}
 use Rattle.feed.specs.Feed.{replyTo, replies, session, output, carried}
 use Rattle.feed.proofs.LongLine.{carried-opened}
 
-too-long : (t : Config) (s : List ℕ) → maxMessage < length s → decode t s ≡ refuses TooLong
+-- no dialect has longer messages
+longest-most : (d : Dialect) → rulesOf d .longest ≤ 32768
+unfolding rulesOf
+longest-most K = omega arith
+longest-most M = omega arith
+longest-most Unknown = omega arith
+
+too-long : (t : Config) (s : List ℕ) → 32768 < length s → decode t s ≡ refuses TooLong
 unfolding decode decodedOf checked alsoDecimals framed
-too-long t s h = rw (lt-ltb maxMessage (length s) h, framed)
+too-long t s h = let m = longest-most (t .dialect) in rw (lt-ltb (rulesOf (t .dialect) .longest) (length s) (omega arith), framed)
 
 pub carried-said : (t : Config) (s : List ℕ) → decode t (take carried s) ≡ decode t s
 carried-said t s = at (leb (length s) carried) refl

@@ -12,7 +12,7 @@ use Rattle.answer.specs.Answers.{answerNumber, isTaken}
 use Rattle.answer.specs.declared.Answer.{Answer}
 use Rattle.answer.specs.declared.Answer.the-variants.{Taken, NoSnapshot}
 use Rattle.answer.specs.declared.Answer.the-variants as answer·
-use Rattle.reference.specs.Reference.{Status, shut, waiting, live, isShut, isLive, Reference, receive, Value, counts, stands, asked, ifTaken, howMany, does}
+use Rattle.reference.specs.Reference.{Status, shut, waiting, live, isShut, isLive, Reference, receive, howMany, Value, counts, zeros, stands, sideOf, respond, refusal, replied, question, does}
 use Rattle.book.specs.Shown.{shows, Received, AnswersCounts}
 use Rattle.reference.specs.declared.Scope.the-variants.{Current}
 use Rattle.book.specs.declared.Step.{Step}
@@ -24,14 +24,14 @@ askedOf : Status → Answer
 askedOf status = cond (isShut status) answer·.Shut (cond (isLive status) Taken NoSnapshot)
 
 counted : Status → ℕ → ℕ → Value
-counted status m n = ifTaken (askedOf status) (counts m n) (counts 0 0)
+counted status m n = cond (isTaken (askedOf status)) (counts m n) (counts 0 0)
 
-same-answer : (p : Reference) → does p (howMany Current) [] .answer ≡ askedOf (p .status)
-unfolding does asked stands askedOf
+same-answer : (p : Reference) → does p (question (howMany Current)) [] .answer ≡ askedOf (p .status)
+unfolding does respond refusal replied stands askedOf
 same-answer p = refl
 
-same-value : (p : Reference) → does p (howMany Current) [] .value ≡ counted (p .status) (length (p .bids)) (length (p .asks))
-unfolding does asked stands askedOf counted
+same-value : (p : Reference) → does p (question (howMany Current)) [] .value ≡ counted (p .status) (length (p .last .sides .bids)) (length (p .last .sides .asks))
+unfolding does respond refusal replied zeros sideOf stands askedOf counted
 same-value p = refl
 
 module _ (answer : Answer) (m n : ℕ) where
@@ -40,7 +40,7 @@ module _ (answer : Answer) (m n : ℕ) where
   dashes bids asks = refl
 
   by-status : (status : Status) (bids asks : ℕ) → counts bids asks ≡ counted status m n → replyText answer (eqb (answerNumber (askedOf status)) 0) bids asks ≡ replyText answer (isLive status) m n
-  unfolding askedOf counted isShut isLive answerNumber ifTaken isTaken
+  unfolding askedOf counted isShut isLive answerNumber isTaken
   by-status shut bids asks v = dashes bids asks
   by-status waiting bids asks v = dashes bids asks
   by-status live bids asks v =
@@ -54,11 +54,11 @@ pub reply-is : (p : Reference) (line : List ℕ) {step : Step} {r : CountsReply}
 reply-is p line {step} {r} told levels e =
     let q : Reference = shows (step .book) in
     ap (λ (k : ℕ). replyText (step .answer) (eqb k 0) (r .bids) (r .asks)) (e ∙ ap answerNumber (levels .answer [] ∙ same-answer q))
-    ∙ by-status (step .answer) (length (q .bids)) (length (q .asks)) (q .status) (r .bids) (r .asks) (levels .value [] ∙ same-value q)
+    ∙ by-status (step .answer) (length (q .last .sides .bids)) (length (q .last .sides .asks)) (q .status) (r .bids) (r .asks) (levels .value [] ∙ same-value q)
     ∙ ap₂ reply (told .answer) (told .same)
   where
     reply : Answer → Reference → List ℕ
-    reply a q = replyText a (isLive (q .status)) (length (q .bids)) (length (q .asks))
+    reply a q = replyText a (isLive (q .status)) (length (q .last .sides .bids)) (length (q .last .sides .asks))
 
 -- ---- line 1: what follows the depth is the name
 

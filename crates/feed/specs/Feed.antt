@@ -17,7 +17,7 @@ use Rattle.feed.specs.declared.Processed.{Processed}
 -- ---- the whole text
 
 abbrev pub replyTo : After → List ℕ
-replyTo a = replyText (a .answer) (isLive (a .book .status)) (length (a .book .bids)) (length (a .book .asks))
+replyTo a = replyText (a .answer) (isLive (a .book .status)) (length (a .book .last .sides .bids)) (length (a .book .last .sides .asks))
 
 unfoldable pub replies : Reference → List (List ℕ) → List ℕ
 replies p [] = []

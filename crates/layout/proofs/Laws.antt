@@ -11,9 +11,10 @@ use Rattle.entries.specs.Places.{andThen}
 use Rattle.entries.specs.Rows.{Row, entriesAt}
 use Rattle.entries.specs.Summary.{noEntries, summaryOf}
 use Rattle.entries.specs.declared.Entries.{Entries}
-use Rattle.layout.specs.Layout.{Printed, printed, unprinted, Listed, Layout, listedAt, laid}
+use Rattle.layout.specs.Layout.{isSnapshot, Printed, printed, unprinted, Listed, Layout, listedAt, laid}
 use Rattle.layout.specs.Scan.{flagsOf, isListed, isBroken, hasZero, notEntryArray, entryArrayOf, entryArrayFrom, noOutline, outlineOf, isPrinted, sumOf, anyBad, isBad, outlineFrom}
 use Rattle.layout.specs.declared.EntryArray.{EntryArray}
+use Rattle.layout.specs.declared.Kind.{Kind}
 use Rattle.layout.specs.declared.Outline.{Outline}
 
 module _ (at : ℕ) (e : Entries) where
@@ -55,24 +56,24 @@ listing-of entry s a e = go (entriesAt entry s a)
     go refused = refl
 
 -- Whether a side breaks a rule of decimals.
-module _ (snapshot : Bool) (l : EntryArray) where
-  pub bad-broken : isBroken (l .flags) ≡ true → true ≡ isBad snapshot l
+module _ (kind : Kind) (l : EntryArray) where
+  pub bad-broken : isBroken (l .flags) ≡ true → true ≡ isBad kind l
   unfolding isBad
   bad-broken h = sym (rw (h, isBad))
 
-  pub bad-snapshot : isBroken (l .flags) ≡ false → snapshot ≡ true → hasZero (l .flags) ≡ isBad snapshot l
+  pub bad-snapshot : isBroken (l .flags) ≡ false → isSnapshot kind ≡ true → hasZero (l .flags) ≡ isBad kind l
   unfolding isBad
   bad-snapshot h g = sym (rw (h, g, isBad))
 
-  pub bad-update : isBroken (l .flags) ≡ false → snapshot ≡ false → false ≡ isBad snapshot l
+  pub bad-update : isBroken (l .flags) ≡ false → isSnapshot kind ≡ false → false ≡ isBad kind l
   unfolding isBad
   bad-update h g = sym (rw (h, g, isBad))
 
-module _ (snapshot : Bool) (b a : EntryArray) (sent : Bool) (sum number : ℕ) where
-  pub outline-fair : isListed (b .flags) ≡ true → isListed (a .flags) ≡ true → (x y z : Bool) → x ≡ isBad snapshot b → y ≡ isBad snapshot a → z ≡ (x || y)
+module _ (kind : Kind) (b a : EntryArray) (sent : Bool) (sum number : ℕ) where
+  pub outline-fair : isListed (b .flags) ≡ true → isListed (a .flags) ≡ true → (x y z : Bool) → x ≡ isBad kind b → y ≡ isBad kind a → z ≡ (x || y)
       → record {
         «well_formed» = true;
-        snapshot = snapshot;
+        kind = kind;
         «bids_at» = b .at;
         bids = b .count;
         «asks_at» = a .at;
@@ -82,22 +83,22 @@ module _ (snapshot : Bool) (b a : EntryArray) (sent : Bool) (sum number : ℕ) w
         checksum = sum;
         number = number;
       }
-      ≡ outlineFrom snapshot b a sent sum number
+      ≡ outlineFrom kind b a sent sum number
   unfolding outlineFrom isBad
   outline-fair h g x y z p q r = sym (rw (h, g, outlineFrom, r, p, q))
 
-  pub outline-bids : isListed (b .flags) ≡ false → noOutline ≡ outlineFrom snapshot b a sent sum number
+  pub outline-bids : isListed (b .flags) ≡ false → noOutline ≡ outlineFrom kind b a sent sum number
   unfolding outlineFrom
   outline-bids h = sym (rw (h, outlineFrom))
 
-  pub outline-asks : isListed (b .flags) ≡ true → isListed (a .flags) ≡ false → noOutline ≡ outlineFrom snapshot b a sent sum number
+  pub outline-asks : isListed (b .flags) ≡ true → isListed (a .flags) ≡ false → noOutline ≡ outlineFrom kind b a sent sum number
   unfolding outlineFrom
   outline-asks h g = sym (rw (h, g, outlineFrom))
 
 -- The outline of a layout is made of the listings of its sides.
-pub outline-of : (s : List ℕ) (snapshot : Bool) (p : Printed) (n : ℕ) (b a : Reading Listed)
-    → outlineFrom snapshot (entryArrayOf s b) (entryArrayOf s a) (isPrinted p) (sumOf p) n ≡ outlineOf s (laid snapshot p n b a)
+pub outline-of : (s : List ℕ) (kind : Kind) (p : Printed) (n : ℕ) (b a : Reading Listed)
+    → outlineFrom kind (entryArrayOf s b) (entryArrayOf s a) (isPrinted p) (sumOf p) n ≡ outlineOf s (laid kind p n b a)
 unfolding outlineFrom entryArrayOf laid andThen outlineOf isBad anyBad
-outline-of s snapshot p n (reads b) (reads a) = simp (listed-flags, broken-flags, zero-flags)
-outline-of s snapshot p n (reads b) refused = simp listed-flags
-outline-of s snapshot p n refused a = refl
+outline-of s kind p n (reads b) (reads a) = simp (listed-flags, broken-flags, zero-flags)
+outline-of s kind p n (reads b) refused = simp listed-flags
+outline-of s kind p n refused a = refl

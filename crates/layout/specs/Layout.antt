@@ -1,11 +1,17 @@
 -- What is read of a message, in either dialect. Assumes nothing: these are definitions.
 use Prim.Native.Nat.{ℕ}
-use mathlib.Core.Bool.{Bool}
+use mathlib.Core.Bool.{Bool, true, false}
 use mathlib.Core.List.{List, [], _∷_}
 use Rattle.decimal.specs.Digits.{Reading, reads, refused}
 use Rattle.json.specs.Json.{Span}
 use Rattle.entries.specs.Places.{andThen}
 use Rattle.entries.specs.Rows.{Row, entriesAt}
+use Rattle.layout.specs.declared.Kind.{Kind}
+use Rattle.layout.specs.declared.Kind.the-variants.{Snapshot, Update}
+
+unfoldable pub isSnapshot : Kind → Bool
+isSnapshot Snapshot = true
+isSnapshot Update = false
 
 -- How a message prints a checksum, if it does.
 pub data Printed : Type 0 where
@@ -17,9 +23,9 @@ pub record Listed : Type 0 where
   pub at : ℕ
   pub rows : List Row
 
--- What the layout of a message gives: a snapshot or an update, the entries of each side, the checksum, the sequence number.
+-- What the layout of a message gives: its kind, the entries of each side, the checksum, the sequence number.
 pub record Layout : Type 0 where
-  pub snapshot : Bool
+  pub kind : Kind
   pub bids : Listed
   pub asks : Listed
   pub checksum : Printed
@@ -39,6 +45,6 @@ unlisted = record { at = 0; rows = [] }
 unfoldable pub listedAt : (List ℕ → Span → Reading Row) → List ℕ → Span → Reading Listed
 listedAt entry s a = andThen (entriesAt entry s a) (λ rows. reads (record { at = a .from; rows = rows }))
 
-unfoldable pub laid : Bool → Printed → ℕ → Reading Listed → Reading Listed → Reading Layout
-laid snapshot sum number bids asks =
-    andThen bids (λ b. andThen asks (λ a. reads (record { snapshot = snapshot; bids = b; asks = a; checksum = sum; number = number })))
+unfoldable pub laid : Kind → Printed → ℕ → Reading Listed → Reading Listed → Reading Layout
+laid kind sum number bids asks =
+    andThen bids (λ b. andThen asks (λ a. reads (record { kind = kind; bids = b; asks = a; checksum = sum; number = number })))

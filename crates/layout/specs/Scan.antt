@@ -8,11 +8,13 @@ use Rattle.decimal.specs.Digits.{Reading, reads, refused}
 use Rattle.json_tokens.specs.Tokens.{At, Broken}
 use Rattle.json.specs.Json.{Span, value, maxDepth}
 use Rattle.entries.specs.Summary.{anyBroken, anyZero}
-use Rattle.layout.specs.Layout.{Printed, printed, unprinted, Listed, Layout, Envelope}
+use Rattle.layout.specs.Layout.{isSnapshot, Printed, printed, unprinted, Listed, Layout, Envelope}
 use Rattle.entries.specs.declared.Entries.{Entries}
 use Rattle.layout.specs.declared.EntryArray.{EntryArray}
 use Rattle.layout.specs.declared.Outline.{Outline}
 use Rattle.layout.specs.declared.Scan.{Scan}
+use Rattle.layout.specs.declared.Kind.{Kind}
+use Rattle.layout.specs.declared.Kind.the-variants.{Update}
 
 -- ---- the entries of a side
 
@@ -59,23 +61,23 @@ sumOf (printed n) = n
 sumOf unprinted = 0
 
 -- Some text breaks check 8.
-unfoldable pub anyBad : Bool → List ℕ → Listed → Bool
-anyBad snapshot s l = anyBroken s (l .rows) || (snapshot && anyZero s (l .rows))
+unfoldable pub anyBad : Kind → List ℕ → Listed → Bool
+anyBad kind s l = anyBroken s (l .rows) || (isSnapshot kind && anyZero s (l .rows))
 
 -- A layout that is broken.
 abbrev pub noOutline : Outline
-noOutline = record { «well_formed» = false; snapshot = false; «bids_at» = 0; bids = 0; «asks_at» = 0; asks = 0; bad = false; printed = false; checksum = 0; number = 0 }
+noOutline = record { «well_formed» = false; kind = Update; «bids_at» = 0; bids = 0; «asks_at» = 0; asks = 0; bad = false; printed = false; checksum = 0; number = 0 }
 
 unfoldable pub outlineOf : List ℕ → Reading Layout → Outline
 outlineOf s (reads l) =
     record {
       «well_formed» = true;
-      snapshot = l .snapshot;
+      kind = l .kind;
       «bids_at» = l .bids .at;
       bids = length (l .bids .rows);
       «asks_at» = l .asks .at;
       asks = length (l .asks .rows);
-      bad = anyBad (l .snapshot) s (l .bids) || anyBad (l .snapshot) s (l .asks);
+      bad = anyBad (l .kind) s (l .bids) || anyBad (l .kind) s (l .asks);
       printed = isPrinted (l .checksum);
       checksum = sumOf (l .checksum);
       number = l .number;
@@ -83,20 +85,20 @@ outlineOf s (reads l) =
 outlineOf s refused = noOutline
 
 -- The same, made of what is told of the sides.
-unfoldable pub isBad : Bool → EntryArray → Bool
-isBad snapshot l = isBroken (l .flags) || (snapshot && hasZero (l .flags))
+unfoldable pub isBad : Kind → EntryArray → Bool
+isBad kind l = isBroken (l .flags) || (isSnapshot kind && hasZero (l .flags))
 
-unfoldable pub outlineFrom : Bool → EntryArray → EntryArray → Bool → ℕ → ℕ → Outline
-outlineFrom snapshot bids asks sent sum number =
+unfoldable pub outlineFrom : Kind → EntryArray → EntryArray → Bool → ℕ → ℕ → Outline
+outlineFrom kind bids asks sent sum number =
     cond (isListed (bids .flags) && isListed (asks .flags))
     (record {
       «well_formed» = true;
-      snapshot = snapshot;
+      kind = kind;
       «bids_at» = bids .at;
       bids = bids .count;
       «asks_at» = asks .at;
       asks = asks .count;
-      bad = isBad snapshot bids || isBad snapshot asks;
+      bad = isBad kind bids || isBad kind asks;
       printed = sent;
       checksum = sum;
       number = number;

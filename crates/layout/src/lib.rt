@@ -5,6 +5,7 @@ use json::MAX_DEPTH;
 use text::either;
 ghost use mathlib.Core.Path.{_≡_};
 ghost use Rattle.layout.specs.MemberSpans.{fewMore, noMemberSpan, withMemberSpan, noEntryMember};
+ghost use Rattle.layout.specs.Layout.{isSnapshot};
 ghost use Rattle.layout.specs.Scan.{notEntryArray, absentEntryArray, entryArrayFrom, flagsOf, isListed, isBroken, hasZero, isBad, outlineFrom, noOutline, notFramed};
 
 // How deep arrays and objects may nest in an item of the message (an element in K, a member in M), and in an item of that, as a
@@ -12,6 +13,14 @@ ghost use Rattle.layout.specs.Scan.{notEntryArray, absentEntryArray, ent
 pub const ITEM_DEPTH: usize = MAX_DEPTH - 1;
 
 pub const SIDE_DEPTH: usize = ITEM_DEPTH - 1;
+
+// What kind of message it is.
+pub enum Kind {
+    // Replaces the book.
+    Snapshot,
+    // Changes single levels.
+    Update,
+}
 
 // The entries of one side.
 pub struct EntryArray {
@@ -35,7 +44,7 @@ pub struct Outline {
     pub checksum: u32,
     // Whether the layout is right. If not, the rest says nothing.
     pub well_formed: bool,
-    pub snapshot: bool,
+    pub kind: Kind,
     // Whether some price or size breaks a rule of decimals.
     pub bad: bool,
     // Whether the message carries a checksum.
@@ -105,27 +114,37 @@ pub fn absent_entry_array() -> EntryArray
     }
 }
 
+// Whether a message of that kind is a snapshot.
+pub fn is_snapshot(kind: Kind) -> bool
+    ensures { λ r. ⌜ r ≡ isSnapshot kind ⌝ }
+{
+    match kind {
+        Kind::Snapshot => true,
+        Kind::Update => false,
+    }
+}
+
 // The layout of a message of these entries, if they are entries.
 pub fn outline_of(
-    snapshot: bool,
+    kind: Kind,
     bids: EntryArray,
     asks: EntryArray,
     printed: bool,
     checksum: u32,
     number: u64,
 ) -> Outline
-    ensures { λ r. ⌜ r ≡ outlineFrom snapshot bids asks printed checksum number ⌝ }
+    ensures { λ r. ⌜ r ≡ outlineFrom kind bids asks printed checksum number ⌝ }
 {
     if is_listed(bids.flags) {
         if is_listed(asks.flags) {
             return Outline {
                 well_formed: true,
-                snapshot,
+                kind,
                 bids_at: bids.at,
                 bids: bids.count,
                 asks_at: asks.at,
                 asks: asks.count,
-                bad: either(is_bad(snapshot, bids), is_bad(snapshot, asks)),
+                bad: either(is_bad(kind, bids), is_bad(kind, asks)),
                 printed,
                 checksum,
                 number,
@@ -136,13 +155,13 @@ pub fn outline_of(
     no_outline()
 }
 
-fn is_bad(snapshot: bool, side: EntryArray) -> bool
-    ensures { λ r. ⌜ r ≡ isBad snapshot side ⌝ }
+fn is_bad(kind: Kind, side: EntryArray) -> bool
+    ensures { λ r. ⌜ r ≡ isBad kind side ⌝ }
 {
     if is_broken(side.flags) {
         return true;
     }
-    if snapshot {
+    if is_snapshot(kind) {
         has_zero(side.flags)
     } else {
         false
@@ -183,7 +202,7 @@ pub fn no_outline() -> Outline
 {
     Outline {
         well_formed: false,
-        snapshot: false,
+        kind: Kind::Update,
         bids_at: 0,
         bids: 0,
         asks_at: 0,

@@ -8,7 +8,8 @@ use Rattle.answer.specs.Answers.{leavesStatus}
 use Rattle.answer.specs.declared.Answer.{Answer}
 use Rattle.answer.specs.declared.Answer.the-variants.{NoSnapshot, OldNumber}
 use Rattle.answer.specs.declared.Answer.the-variants as answer·
-use Rattle.settings.specs.Settings.{isM}
+use Rattle.settings.specs.Rules.{rulesOf}
+use Rattle.layout.specs.Layout.{isSnapshot}
 use Rattle.settings.specs.Kept.{configOf}
 use Rattle.settings.specs.declared.Settings.{Settings}
 use Rattle.layout.specs.declared.Outline.{Outline}
@@ -34,18 +35,18 @@ refused-waits x a h = sym (rw (h, refusedLifecycle))
 -- ---- checks 10 and 11 in numbers, one test at a time
 
 module _ (state : State) (m : Bool) (n : ℕ) (o : Outline) where
-  pub judged-snapshot : o .snapshot ≡ true → Passes o ≡ judgedUpdate state m n o
+  pub judged-snapshot : isSnapshot (o .kind) ≡ true → Passes o ≡ judgedUpdate state m n o
   unfolding judgedUpdate
-  judged-snapshot h = sym (pick (o .snapshot) h)
+  judged-snapshot h = sym (pick (isSnapshot (o .kind)) h)
     where
       pick : (t : Bool) → t ≡ true → cond t (Passes o) (cond (isLive (statusOf state)) (cond (m && leb (o .number) n) (Fails OldNumber) (Passes o)) (Fails NoSnapshot)) ≡ Passes o
       pick true e = refl
       pick false e = absurd (true≢false (sym e))
 
-  module _ (h : o .snapshot ≡ false) where
+  module _ (h : isSnapshot (o .kind) ≡ false) where
     pub judged-idle : isLive (statusOf state) ≡ false → Fails NoSnapshot ≡ judgedUpdate state m n o
     unfolding judgedUpdate
-    judged-idle l = sym (pick (o .snapshot) (isLive (statusOf state)) h l)
+    judged-idle l = sym (pick (isSnapshot (o .kind)) (isLive (statusOf state)) h l)
       where
         pick : (t x : Bool) → t ≡ false → x ≡ false → cond t (Passes o) (cond x (cond (m && leb (o .number) n) (Fails OldNumber) (Passes o)) (Fails NoSnapshot)) ≡ Fails NoSnapshot
         pick true x e f = absurd (true≢false e)
@@ -54,7 +55,7 @@ module _ (state : State) (m : Bool) (n : ℕ) (o : Outline) where
 
     pub judged-live : isLive (statusOf state) ≡ true → cond (m && leb (o .number) n) (Fails OldNumber) (Passes o) ≡ judgedUpdate state m n o
     unfolding judgedUpdate
-    judged-live l = sym (pick (o .snapshot) (isLive (statusOf state)) h l)
+    judged-live l = sym (pick (isSnapshot (o .kind)) (isLive (statusOf state)) h l)
       where
         pick : (t x : Bool) → t ≡ false → x ≡ true → cond t (Passes o) (cond x (cond (m && leb (o .number) n) (Fails OldNumber) (Passes o)) (Fails NoSnapshot)) ≡ cond (m && leb (o .number) n) (Fails OldNumber) (Passes o)
         pick true x e f = absurd (true≢false e)
@@ -75,6 +76,6 @@ module _ (settings : Settings) (x : Lifecycle) (n : ℕ) (s : List ℕ) where
   judged-shut u = sym (rw (u, judged))
 
   pub judged-open : isShut (statusOf (x .state)) ≡ false → (v : Verdict) → verdictOf s (checked (configOf settings) s) ≡ v
-      → afterText (x .state) (isM (settings .dialect)) n v ≡ judged settings x n s
+      → afterText (x .state) (rulesOf (settings .dialect) .numbered) n v ≡ judged settings x n s
   unfolding judged
   judged-open u v h = sym (rw (u, judged, h))

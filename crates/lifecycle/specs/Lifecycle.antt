@@ -9,11 +9,14 @@ use Rattle.answer.specs.Answers.{leavesStatus}
 use Rattle.answer.specs.declared.Answer.{Answer}
 use Rattle.answer.specs.declared.Answer.the-variants.{NoSnapshot, OldNumber}
 use Rattle.answer.specs.declared.Answer.the-variants as answer·
-use Rattle.settings.specs.Settings.{isM, good}
+use Rattle.settings.specs.Settings.{good}
+use Rattle.settings.specs.Rules.{rulesOf}
 use Rattle.settings.specs.Kept.{configOf}
 use Rattle.settings.specs.declared.Settings.{Settings}
 use Rattle.settings.specs.declared.Dialect.{Dialect}
 use Rattle.settings.specs.declared.Dialect.the-variants.{K, M, Unknown}
+use Rattle.layout.specs.Layout.{isSnapshot}
+use Rattle.layout.specs.declared.Kind.{Kind}
 use Rattle.layout.specs.declared.Outline.{Outline}
 use Rattle.message.specs.Meaning.{checked}
 use Rattle.message.specs.Verdict.{verdictOf}
@@ -50,18 +53,18 @@ refusalOf waiting = NoSnapshot
 refusalOf live = NoSnapshot
 
 -- How a book stands after a message that is taken, and after a refusal.
-unfoldable pub liveLifecycle : Lifecycle → Bool → Lifecycle
-liveLifecycle now snapshot = record { state = Live; «had_snapshot» = snapshot || now .«had_snapshot» }
+unfoldable pub liveLifecycle : Lifecycle → Kind → Lifecycle
+liveLifecycle now kind = record { state = Live; «had_snapshot» = isSnapshot kind || now .«had_snapshot» }
 
 unfoldable pub refusedLifecycle : Lifecycle → Answer → Lifecycle
 refusedLifecycle now a = record { state = cond (leavesStatus a) (now .state) Waiting; «had_snapshot» = now .«had_snapshot» }
 
 -- Checks 10 and 11.
 unfoldable pub judgedUpdate : State → Bool → ℕ → Outline → Verdict
-judgedUpdate state m number o =
-    cond (o .snapshot) (Passes o)
+judgedUpdate state numbered number o =
+    cond (isSnapshot (o .kind)) (Passes o)
     (cond (isLive (statusOf state))
-    (cond (m && leb (o .number) number) (Fails OldNumber) (Passes o))
+    (cond (numbered && leb (o .number) number) (Fails OldNumber) (Passes o))
     (Fails NoSnapshot))
 
 -- What a message may be read with: of a book that is not shut the settings are good.
@@ -72,10 +75,10 @@ pub record Ruled (settings : Settings) (now : Lifecycle) : Type 0 where
 
 -- Checks 1 to 8, 10 and 11.
 unfoldable pub afterText : State → Bool → ℕ → Verdict → Verdict
-afterText state m number (Fails a) = Fails a
-afterText state m number (Passes o) = judgedUpdate state m number o
+afterText state numbered number (Fails a) = Fails a
+afterText state numbered number (Passes o) = judgedUpdate state numbered number o
 
 unfoldable pub judged : Settings → Lifecycle → ℕ → List ℕ → Verdict
 judged settings now number s =
     cond (isShut (statusOf (now .state))) (Fails answer·.Shut)
-    (afterText (now .state) (isM (settings .dialect)) number (verdictOf s (checked (configOf settings) s)))
+    (afterText (now .state) (rulesOf (settings .dialect) .numbered) number (verdictOf s (checked (configOf settings) s)))

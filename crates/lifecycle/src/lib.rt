@@ -2,17 +2,19 @@
 // updates.
 use answer::Answer;
 use answer::leaves_state;
+use layout::Kind;
 use layout::Outline;
+use layout::is_snapshot;
 use message::Verdict;
 use reference::Scope;
 use settings::Dialect;
 use settings::Settings;
-use settings::is_m;
-use text::both;
+use settings::rules_of;
 use text::either;
 ghost use mathlib.Core.Path.{_≡_};
 ghost use mathlib.Core.Bool.{_&&_, _||_, not, cond};
 ghost use lib.Dec.{leb};
+ghost use Rattle.layout.specs.Layout.{isSnapshot};
 ghost use Rattle.reference.specs.Reference.{isShut, oneMore};
 ghost use Rattle.lifecycle.specs.Lifecycle.{statusOf, firstState, answers, refusalOf, liveLifecycle, refusedLifecycle, judgedUpdate, Ruled, judged};
 
@@ -99,22 +101,26 @@ pub fn judge(settings: Settings, lifecycle: Lifecycle, number: u64, s: &[u8]) ->
     let n = settings.length;
     match message::read_open(dialect, depth, &name[..n], s) {
         Verdict::Fails(answer) => Verdict::Fails(answer),
-        Verdict::Passes(outline) => judge_update(state, is_m(dialect), number, outline),
+        Verdict::Passes(outline) => {
+            let rules = rules_of(dialect);
+            judge_update(state, rules.numbered, number, outline)
+        }
     }
 }
 
-// Checks 10 and 11, of a message that passes those of its text.
-fn judge_update(state: State, m: bool, number: u64, outline: Outline) -> Verdict
-    ensures { λ r. ⌜ r ≡ judgedUpdate state m number outline ⌝ }
+// Checks 10 and 11, of a message that passes those of its text; `numbered` says that messages have sequence numbers.
+fn judge_update(state: State, numbered: bool, number: u64, outline: Outline) -> Verdict
+    ensures { λ r. ⌜ r ≡ judgedUpdate state numbered number outline ⌝ }
 {
-    if outline.snapshot {
+    let kind = outline.kind;
+    if is_snapshot(kind) {
         return Verdict::Passes(outline);
     }
     match state {
         State::Shut => Verdict::Fails(Answer::NoSnapshot),
         State::Waiting => Verdict::Fails(Answer::NoSnapshot),
         State::Live => {
-            if is_old(m, outline.number, number) {
+            if is_old(numbered, outline.number, number) {
                 return Verdict::Fails(Answer::OldNumber);
             }
             Verdict::Passes(outline)
@@ -123,12 +129,12 @@ fn judge_update(state: State, m: bool, number: u64, outline: Outline) -> Verdict
 }
 
 // How a book stands after a message that is taken.
-pub fn live(lifecycle: Lifecycle, snapshot: bool) -> Lifecycle
-    ensures { λ r. ⌜ r ≡ liveLifecycle lifecycle snapshot ⌝ }
+pub fn live(lifecycle: Lifecycle, kind: Kind) -> Lifecycle
+    ensures { λ r. ⌜ r ≡ liveLifecycle lifecycle kind ⌝ }
 {
     Lifecycle {
         state: State::Live,
-        had_snapshot: either(snapshot, lifecycle.had_snapshot),
+        had_snapshot: either(is_snapshot(kind), lifecycle.had_snapshot),
     }
 }
 
@@ -146,32 +152,33 @@ pub fn refused(lifecycle: Lifecycle, answer: Answer) -> Lifecycle
 }
 
 // How many levels a side has before the entries: none before those of a snapshot.
-pub fn count_before(snapshot: bool, count: usize) -> usize
-    ensures { λ r. ⌜ r ≡ cond snapshot 0 count ⌝ }
+pub fn count_before(kind: Kind, count: usize) -> usize
+    ensures { λ r. ⌜ r ≡ cond (isSnapshot kind) 0 count ⌝ }
 {
-    if snapshot { 0 } else { count }
+    if is_snapshot(kind) { 0 } else { count }
 }
 
-pub fn updates_after(snapshot: bool, updates: u64) -> u64
-    ensures { λ r. ⌜ r ≡ cond snapshot 0 (oneMore updates) ⌝ }
+pub fn updates_after(kind: Kind, updates: u64) -> u64
+    ensures { λ r. ⌜ r ≡ cond (isSnapshot kind) 0 (oneMore updates) ⌝ }
 {
-    if snapshot { 0 } else { one_more(updates) }
-}
-
-fn is_old(m: bool, number: u64, last: u64) -> bool
-    ensures { λ r. ⌜ r ≡ (m && leb number last) ⌝ }
-{
-    if m { number <= last } else { false }
-}
-
-// Check 12, which is M's and of updates; a snapshot has no more levels than entries.
-pub fn is_over(snapshot: bool, m: bool, over: bool) -> bool
-    ensures { λ r. ⌜ r ≡ (not snapshot && (m && over)) ⌝ }
-{
-    if snapshot {
-        return false;
+    if is_snapshot(kind) {
+        0
+    } else {
+        one_more(updates)
     }
-    both(m, over)
+}
+
+fn is_old(numbered: bool, number: u64, last: u64) -> bool
+    ensures { λ r. ⌜ r ≡ (numbered && leb number last) ⌝ }
+{
+    if numbered { number <= last } else { false }
+}
+
+// Check 12; `over` says that before a cut more levels stand on a side than may. A side that is cut never has more.
+pub fn is_over(cut: bool, over: bool) -> bool
+    ensures { λ r. ⌜ r ≡ (not cut && over) ⌝ }
+{
+    if cut { false } else { over }
 }
 
 // One more update, up to the end of the count.

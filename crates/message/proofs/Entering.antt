@@ -13,6 +13,7 @@ use Rattle.text.specs.Text.{byteAt}
 use Rattle.json_tokens.proofs.Laws.{in-byte}
 use Rattle.json.specs.Json.{Span, text}
 use Rattle.settings.specs.Settings.{Config, isM, good, goodDepth}
+use Rattle.settings.specs.Rules.{rulesOf}
 use Rattle.settings.specs.declared.Dialect.{Dialect}
 use Rattle.settings.specs.declared.Dialect.the-variants.{K, M, Unknown}
 use Rattle.entries.specs.Places.{andThen, arrayAt, top}
@@ -49,38 +50,50 @@ pub or-none : (a b : Bool) → (a || b) ≡ false → (a ≡ false) × (b ≡ fa
 or-none true b h = absurd (true≢false h)
 or-none false b h = (refl, h)
 
--- it has at most 100 entries a side
+-- no dialect has more than 100 entries a side
+few-entries : (d : Dialect) → rulesOf d .entries ≤ 100
+unfolding rulesOf
+few-entries K = omega arith
+few-entries M = omega arith
+few-entries Unknown = omega arith
+
+-- it has no more entries a side than there may be
+module _ (most : ℕ) (l : Layout) where
+  abbrev Few : Type 0
+  Few = (length (l .bids .rows) ≤ most) × (length (l .asks .rows) ≤ most)
+
+  few-counted : (k : Layout) (b : Bool) → (ltb most (length (k .bids .rows)) || ltb most (length (k .asks .rows))) ≡ b → cond b (fails TooManyEntries) (passes k) ≡ passes l → Few
+  few-counted k true q g = no-pass TooManyEntries l g
+  few-counted k false q g =
+      let e : k ≡ l = cc in
+      let o = or-none (ltb most (length (k .bids .rows))) (ltb most (length (k .asks .rows))) q in
+      let x : length (k .bids .rows) ≤ most = ltb-false most (length (k .bids .rows)) (o .0) in
+      let y : length (k .asks .rows) ≤ most = ltb-false most (length (k .asks .rows)) (o .1) in
+      subst (λ (z : Layout). (length (z .bids .rows) ≤ most) × (length (z .asks .rows) ≤ most)) e (x, y)
+
+  few-laid : (r : Reading Layout) → laidOut most r ≡ passes l → Few
+  unfolding laidOut counted tooMany
+  few-laid (reads k) g = few-counted k (tooMany most k) refl g
+  few-laid refused g = no-pass BadLayout l g
+
+  few-addressed : (r : Reading Envelope) → addressed most r ≡ passes l → Few
+  unfolding addressed
+  few-addressed (reads x) g = at (x .escaped) (x .ours) g
+    where
+      at : (a b : Bool) → cond a (fails Escaped) (cond b (laidOut most (x .layout)) (fails NotOurs)) ≡ passes l → Few
+      at true b g = no-pass Escaped l g
+      at false true g = few-laid (x .layout) g
+      at false false g = no-pass NotOurs l g
+  few-addressed refused g = no-pass NotOurs l g
+
 pub framed-few : (t : Config) (s : List ℕ) (l : Layout) → framed t s ≡ passes l → (length (l .bids .rows) ≤ 100) × (length (l .asks .rows) ≤ 100)
-unfolding framed addressed laidOut counted tooMany
-framed-few t s l h = first (ltb 32768 (length s)) (text s) h
+unfolding framed
+framed-few t s l h = let f = first (ltb (rulesOf (t .dialect) .longest) (length s)) (text s) h in let e = few-entries (t .dialect) in (omega arith, omega arith)
   where
-    few : (k : Layout) (b : Bool) → (ltb 100 (length (k .bids .rows)) || ltb 100 (length (k .asks .rows))) ≡ b → cond b (fails TooManyEntries) (passes k) ≡ passes l
-        → (length (l .bids .rows) ≤ 100) × (length (l .asks .rows) ≤ 100)
-    few k true q g = no-pass TooManyEntries l g
-    few k false q g =
-        let e : k ≡ l = cc in
-        let o = or-none (ltb 100 (length (k .bids .rows))) (ltb 100 (length (k .asks .rows))) q in
-        let x : length (k .bids .rows) ≤ 100 = ltb-false 100 (length (k .bids .rows)) (o .0) in
-        let y : length (k .asks .rows) ≤ 100 = ltb-false 100 (length (k .asks .rows)) (o .1) in
-        subst (λ (z : Layout). (length (z .bids .rows) ≤ 100) × (length (z .asks .rows) ≤ 100)) e (x, y)
-
-    lay : (r : Reading Layout) → laidOut r ≡ passes l → (length (l .bids .rows) ≤ 100) × (length (l .asks .rows) ≤ 100)
-    lay (reads k) g = few k (tooMany k) refl g
-    lay refused g = no-pass BadLayout l g
-
-    scan : (x : Envelope) (a b : Bool) → cond a (fails Escaped) (cond b (laidOut (x .layout)) (fails NotOurs)) ≡ passes l → (length (l .bids .rows) ≤ 100) × (length (l .asks .rows) ≤ 100)
-    scan x true b g = no-pass Escaped l g
-    scan x false true g = lay (x .layout) g
-    scan x false false g = no-pass NotOurs l g
-
-    address : (r : Reading Envelope) → addressed r ≡ passes l → (length (l .bids .rows) ≤ 100) × (length (l .asks .rows) ≤ 100)
-    address (reads x) g = scan x (x .escaped) (x .ours) g
-    address refused g = no-pass NotOurs l g
-
-    first : (a b : Bool) → cond a (fails TooLong) (cond b (addressed (envelopeIn (t .dialect) t s (top s))) (fails NotJson)) ≡ passes l
-        → (length (l .bids .rows) ≤ 100) × (length (l .asks .rows) ≤ 100)
+    first : (a b : Bool) → cond a (fails TooLong) (cond b (addressed (rulesOf (t .dialect) .entries) (envelopeIn (t .dialect) t s (top s))) (fails NotJson)) ≡ passes l
+        → (length (l .bids .rows) ≤ rulesOf (t .dialect) .entries) × (length (l .asks .rows) ≤ rulesOf (t .dialect) .entries)
     first true b g = no-pass TooLong l g
-    first false true g = address (envelopeIn (t .dialect) t s (top s)) g
+    first false true g = few-addressed (rulesOf (t .dialect) .entries) l (envelopeIn (t .dialect) t s (top s)) g
     first false false g = no-pass NotJson l g
 
 -- ---- the entries of dialect K or M

@@ -15,7 +15,7 @@ use Rattle.settings.specs.Settings.{Config, isM, good}
 use Rattle.settings.specs.declared.Dialect.{Dialect}
 use Rattle.entries.specs.Rows.{Row, entryFor, entriesAt, badTexts, firstOf}
 use Rattle.entries.proofs.Shift.{texts-shift, shifted-rows}
-use Rattle.layout.specs.Layout.{Listed, Layout}
+use Rattle.layout.specs.Layout.{isSnapshot, Listed, Layout}
 use Rattle.layout.specs.Scan.{outlineOf}
 use Rattle.layout.specs.declared.Outline.{Outline}
 use Rattle.entries.specs.Arrays.{rowsAt, Ready}
@@ -158,16 +158,16 @@ module _ (t : Config) (s : List ℕ) (h : good t ≡ true) (v : Verdict) (is : v
         rw (q, p .2) (listed-ready d s (l .bids) (f .0) (w .bids), listed-ready d s (l .asks) (f .1) (w .asks))
 
     pub frame-bad : (m : Bool) → m ≡ isM (t .dialect)
-        → earlierPlace (badAt m s (o .«bids_at») (o .bids) (o .snapshot)) (badAt m s (o .«asks_at») (o .asks) (o .snapshot)) ≡ partOf (firstBadOf s (framed t s))
+        → earlierPlace (badAt m s (o .«bids_at») (o .bids) (isSnapshot (o .kind))) (badAt m s (o .«asks_at») (o .asks) (isSnapshot (o .kind))) ≡ partOf (firstBadOf s (framed t s))
     unfolding outlineOf firstBadOf firstBad
     frame-bad m q =
         let p = passed in
         let l = p .0 in
         let w = framed-lies t s l (p .1) in
         let d = good-readable t h in
-        let b = side-bad d s (l .snapshot) (l .bids) (w .bids) in
-        let a = side-bad d s (l .snapshot) (l .asks) (w .asks) in
-        rw (q, p .2, p .1) (ap₂ earlierPlace b a ∙ earlier-places (badTexts (l .snapshot) s (l .bids .rows)) (badTexts (l .snapshot) s (l .asks .rows)))
+        let b = side-bad d s (isSnapshot (l .kind)) (l .bids) (w .bids) in
+        let a = side-bad d s (isSnapshot (l .kind)) (l .asks) (w .asks) in
+        rw (q, p .2, p .1) (ap₂ earlierPlace b a ∙ earlier-places (badTexts (isSnapshot (l .kind)) s (l .bids .rows)) (badTexts (isSnapshot (l .kind)) s (l .asks .rows)))
 
 pub place-good : (t : Config) (s : List ℕ) → good t ≡ true → partOf (firstBadOf s (framed t s)) ≡ partOf (badDecimal t s)
 unfolding badDecimal

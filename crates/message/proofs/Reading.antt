@@ -1,6 +1,6 @@
 -- The reader's answers, step by step.
 -- Assumes nothing.
-use mathlib.Core.Path.{_≡_, refl, sym, ap, _∙_}
+use mathlib.Core.Path.{_≡_, refl, sym, ap, _∙_, subst}
 use mathlib.Core.List.{List}
 use mathlib.Core.Bool.{Bool, true, false, true≢false, _&&_}
 use Prim.Native.Nat.{ℕ, _<_, _≤_}
@@ -13,7 +13,9 @@ use Rattle.json_tokens.specs.Tokens.{End, At, Broken, blanks, ended}
 use Rattle.json_tokens.specs.Ends.{endOf}
 use Rattle.json.specs.Json.{value}
 use Rattle.settings.specs.Settings.{Config, goodDepth, goodName, good}
+use Rattle.settings.specs.Rules.{rulesOf}
 use Rattle.settings.specs.declared.Dialect.the-variants.{K, Unknown}
+use Rattle.settings.specs.declared.Rules.{Rules}
 use Rattle.layout.specs.Scan.{notFramed, outlineOf, scanOf, scanAt}
 use Rattle.layout.specs.declared.Outline.{Outline}
 use Rattle.layout.specs.declared.Scan.{Scan}
@@ -53,19 +55,26 @@ module _ (t : Config) (s : List ℕ) where
 
   -- ---- checks 2 to 7
 
-  pub frame-long : 32768 < length s → Fails TooLong ≡ verdictOf s (framed t s)
-  unfolding framed verdictOf
-  frame-long h = let e = lt-ltb 32768 (length s) h in sym (rw (e, framed, verdictOf))
-
   abbrev here : Scan
   here = scanAt (envelopeIn (t .dialect) t) s (blanks s 0)
 
-  pub frame-rest : length s ≤ 32768 → (scan : Scan) → scan ≡ here → (over : Bool) → over ≡ ended s (scan .end) → decided scan over ≡ verdictOf s (framed t s)
-  unfolding framed
-  frame-rest h scan p over q =
-      let e = le-ltb 32768 (length s) h in
-      let o : over ≡ ended s (here .end) = q ∙ ap (λ (x : Scan). ended s (x .end)) p in
-      ap (λ (x : Scan). decided x over) p ∙ ap (decided here) o ∙ decided-is (envelopeIn (t .dialect) t) s ∙ sym (ap (verdictOf s) (rw (e, framed)))
+  -- r is what the code has of the rules
+  module _ (r : Rules) (same : r ≡ rulesOf (t .dialect)) where
+    longest : r .longest ≡ rulesOf (t .dialect) .longest
+    longest = ap (λ (x : Rules). x .longest) same
+
+    pub frame-long : r .longest < length s → Fails TooLong ≡ verdictOf s (framed t s)
+    unfolding framed verdictOf
+    frame-long h = let e = lt-ltb (rulesOf (t .dialect) .longest) (length s) (subst (λ (n : ℕ). n < length s) longest h) in sym (rw (e, framed, verdictOf))
+
+    pub frame-rest : length s ≤ r .longest → (scan : Scan) → scan ≡ here → (over : Bool) → over ≡ ended s (scan .end)
+        → decided (r .entries) scan over ≡ verdictOf s (framed t s)
+    unfolding framed
+    frame-rest h scan p over q =
+        let e = le-ltb (rulesOf (t .dialect) .longest) (length s) (subst (λ (n : ℕ). length s ≤ n) longest h) in
+        let o : over ≡ ended s (here .end) = q ∙ ap (λ (x : Scan). ended s (x .end)) p in
+        ap (λ (x : Scan). decided (r .entries) x over) p ∙ ap (decided (r .entries) here) o ∙ ap (λ (x : Rules). decided (x .entries) here (ended s (here .end))) same
+        ∙ decided-is (rulesOf (t .dialect) .entries) (envelopeIn (t .dialect) t) s ∙ sym (ap (verdictOf s) (rw (e, framed)))
 
   -- ---- check 8
 

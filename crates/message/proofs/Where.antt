@@ -15,13 +15,16 @@ use Rattle.decimal.proofs.Scan.{leading-whole}
 use Rattle.json.specs.Names.{part}
 use Rattle.json.specs.Json.{Span, Pair, text}
 use Rattle.settings.specs.Settings.{Config}
+use Rattle.settings.specs.Rules.{rulesOf}
 use Rattle.settings.specs.declared.Dialect.{Dialect}
 use Rattle.settings.specs.declared.Dialect.the-variants.{K, M, Unknown}
 use Rattle.entries.specs.Places.{isString, inner, andThen, all, arrayAt, objectAt, valuesOf, only, wholeAt, checksumAt, quotedChecksumAt, top}
 use Rattle.entries.specs.Rows.{Row, entryK, entryM, entriesAt}
 use Rattle.layout.specs.Layout.{Printed, printed, unprinted, Listed, Layout, Envelope, unlisted, listedAt, laid}
+use Rattle.layout.specs.declared.Kind.{Kind}
+use Rattle.layout.specs.declared.Kind.the-variants.{Snapshot, Update}
 use Rattle.message_k.specs.LayoutK.{Frame, frameOf, isSnapshot, isUpdate, together, listedOf, listedIn, objectsLayout, layoutK, envelopeK}
-use Rattle.message_m.specs.LayoutM.{isSnapshotAt, listedIn as listedInM, layoutM, envelopeM}
+use Rattle.message_m.specs.LayoutM.{kindAt, listedIn as listedInM, layoutM, envelopeM}
 use lib.Dec.{leb, ltb, eqb, lit<}
 use lib.ListN.{length, getD}
 use Rattle.message.specs.Meaning.{fails, passes, tooMany, counted, laidOut, addressed, envelopeIn, framed}
@@ -125,15 +128,15 @@ module _ (entry : List ℕ → Span → Reading Row) (s : List ℕ) where
           rw e (there (a .to) q)
       go refused q g = no-reading g
 
-  laid-lies : (snapshot : Bool) (p : Printed) (n : ℕ) (b a : Reading Listed)
+  laid-lies : (kind : Kind) (p : Printed) (n : ℕ) (b a : Reading Listed)
       → ((x : Listed) → b ≡ reads x → Lies entry s x) → ((x : Listed) → a ≡ reads x → Lies entry s x)
-      → n < 10 ^ 19 → ((k : ℕ) → p ≡ printed k → k ≤ 4294967295) → (l : Layout) → laid snapshot p n b a ≡ reads l → LieIn entry s l
+      → n < 10 ^ 19 → ((k : ℕ) → p ≡ printed k → k ≤ 4294967295) → (l : Layout) → laid kind p n b a ≡ reads l → LieIn entry s l
   unfolding laid andThen
-  laid-lies snapshot p n (reads b) (reads a) f g small low l h =
-      let e : l ≡ record { snapshot = snapshot; bids = b; asks = a; checksum = p; number = n } = sym (reads-same h) in
+  laid-lies kind p n (reads b) (reads a) f g small low l h =
+      let e : l ≡ record { kind = kind; bids = b; asks = a; checksum = p; number = n } = sym (reads-same h) in
       rw e (record { bids = f b refl; asks = g a refl; small = small; low = low })
-  laid-lies snapshot p n (reads b) refused f g small low l h = no-reading h
-  laid-lies snapshot p n refused a f g small low l h = no-reading h
+  laid-lies kind p n (reads b) refused f g small low l h = no-reading h
+  laid-lies kind p n refused a f g small low l h = no-reading h
 
 -- ---- K
 module _ (s : List ℕ) where
@@ -151,17 +154,17 @@ module _ (s : List ℕ) where
       lies name = k-list-lies (valuesOf s name (together o))
 
       at : (x y : Bool)
-          → cond x (laid true unprinted 0 (listedIn s (ascii "bs") o) (listedIn s (ascii "as") o))
+          → cond x (laid Snapshot unprinted 0 (listedIn s (ascii "bs") o) (listedIn s (ascii "as") o))
           (cond y
           (andThen (only (valuesOf s (ascii "c") (together o))) (λ c.
-          andThen (quotedChecksumAt s c) (λ sum. laid false (printed sum) 0 (listedIn s (ascii "b") o) (listedIn s (ascii "a") o))))
+          andThen (quotedChecksumAt s c) (λ sum. laid Update (printed sum) 0 (listedIn s (ascii "b") o) (listedIn s (ascii "a") o))))
           refused)
           ≡ reads l → LieIn entryK s l
-      at true y g = laid-lies entryK s true unprinted 0 _ _ (lies (ascii "bs")) (lies (ascii "as")) (lit< tt) (λ k e. no-print e) l g
+      at true y g = laid-lies entryK s Snapshot unprinted 0 _ _ (lies (ascii "bs")) (lies (ascii "as")) (lit< tt) (λ k e. no-print e) l g
       at false true g =
           let c = then-reads (only (valuesOf s (ascii "c") (together o))) _ l g in
           let d = then-reads (quotedChecksumAt s (c .0)) _ l (c .1) in
-          laid-lies entryK s false (printed (d .0)) 0 _ _ (lies (ascii "b")) (lies (ascii "a")) (lit< tt) (λ k e. subst (λ (x : ℕ). x ≤ 4294967295) (printed-same e) (quoted-low s (c .0) (d .0) (d .2))) l (d .1)
+          laid-lies entryK s Update (printed (d .0)) 0 _ _ (lies (ascii "b")) (lies (ascii "a")) (lit< tt) (λ k e. subst (λ (x : ℕ). x ≤ 4294967295) (printed-same e) (quoted-low s (c .0) (d .0) (d .2))) l (d .1)
       at false false g = no-reading g
 
   k-lies : (f : Frame) (l : Layout) → layoutK s f ≡ reads l → LieIn entryK s l
@@ -184,7 +187,7 @@ module _ (s : List ℕ) where
       let a = then-reads (only (valuesOf s (ascii "channel") ms)) _ l h in
       let b = then-reads (only (valuesOf s (ascii "product") ms)) _ l (a .1) in
       let c = then-reads (only (valuesOf s (ascii "type") ms)) _ l (b .1) in
-      let t = then-reads (isSnapshotAt s (c .0)) _ l (c .1) in
+      let t = then-reads (kindAt s (c .0)) _ l (c .1) in
       let d = then-reads (only (valuesOf s (ascii "data") ms)) _ l (t .1) in
       let o = then-reads (objectAt 15 s (d .0)) _ l (d .1) in
       let k = then-reads (only (valuesOf s (ascii "checksum") ms)) _ l (o .1) in
@@ -198,25 +201,25 @@ no-pass : {A : Type 0} (a : Answer) (l : Layout) → fails a ≡ passes l → A
 no-pass a l h = let z : _≡_ {A = ℕ} 0 1 = cc in absurd (omega arith)
 
 module _ (entry : List ℕ → Span → Reading Row) (s : List ℕ) where
-  counted-lies : (r : Reading Layout) → ((x : Layout) → r ≡ reads x → LieIn entry s x) → (l : Layout) → laidOut r ≡ passes l → LieIn entry s l
+  counted-lies : (most : ℕ) (r : Reading Layout) → ((x : Layout) → r ≡ reads x → LieIn entry s x) → (l : Layout) → laidOut most r ≡ passes l → LieIn entry s l
   unfolding laidOut counted
-  counted-lies (reads x) f l h = at (tooMany x) h
+  counted-lies most (reads x) f l h = at (tooMany most x) h
     where
       at : (b : Bool) → cond b (fails TooManyEntries) (passes x) ≡ passes l → LieIn entry s l
       at true g = no-pass TooManyEntries l g
       at false g = let e : l ≡ x = cc in rw e (f x refl)
-  counted-lies refused f l h = no-pass BadLayout l h
+  counted-lies most refused f l h = no-pass BadLayout l h
 
-  addressed-lies : (r : Reading Envelope) → ((x : Envelope) → r ≡ reads x → (y : Layout) → x .layout ≡ reads y → LieIn entry s y)
-      → (l : Layout) → addressed r ≡ passes l → LieIn entry s l
+  addressed-lies : (most : ℕ) (r : Reading Envelope) → ((x : Envelope) → r ≡ reads x → (y : Layout) → x .layout ≡ reads y → LieIn entry s y)
+      → (l : Layout) → addressed most r ≡ passes l → LieIn entry s l
   unfolding addressed
-  addressed-lies (reads x) f l h = at (x .escaped) (x .ours) h
+  addressed-lies most (reads x) f l h = at (x .escaped) (x .ours) h
     where
-      at : (a b : Bool) → cond a (fails Escaped) (cond b (laidOut (x .layout)) (fails NotOurs)) ≡ passes l → LieIn entry s l
+      at : (a b : Bool) → cond a (fails Escaped) (cond b (laidOut most (x .layout)) (fails NotOurs)) ≡ passes l → LieIn entry s l
       at true b g = no-pass Escaped l g
-      at false true g = counted-lies (x .layout) (f x refl) l g
+      at false true g = counted-lies most (x .layout) (f x refl) l g
       at false false g = no-pass NotOurs l g
-  addressed-lies refused f l h = no-pass NotOurs l h
+  addressed-lies most refused f l h = no-pass NotOurs l h
 
 heard-lies : (d : Dialect) (t : Config) (s : List ℕ) (a : Span) (x : Envelope) → envelopeIn d t s a ≡ reads x → (y : Layout) → x .layout ≡ reads y → LieIn (entryIn d) s y
 unfolding envelopeIn entryIn envelopeK envelopeM
@@ -232,9 +235,9 @@ heard-lies Unknown t s a x h y g = no-reading h
 
 pub framed-lies : (t : Config) (s : List ℕ) (l : Layout) → framed t s ≡ passes l → LieIn (entryIn (t .dialect)) s l
 unfolding framed
-framed-lies t s l h = at (ltb 32768 (length s)) (text s) h
+framed-lies t s l h = at (ltb (rulesOf (t .dialect) .longest) (length s)) (text s) h
   where
-    at : (a b : Bool) → cond a (fails TooLong) (cond b (addressed (envelopeIn (t .dialect) t s (top s))) (fails NotJson)) ≡ passes l → LieIn (entryIn (t .dialect)) s l
+    at : (a b : Bool) → cond a (fails TooLong) (cond b (addressed (rulesOf (t .dialect) .entries) (envelopeIn (t .dialect) t s (top s))) (fails NotJson)) ≡ passes l → LieIn (entryIn (t .dialect)) s l
     at true b g = no-pass TooLong l g
-    at false true g = addressed-lies (entryIn (t .dialect)) s (envelopeIn (t .dialect) t s (top s)) (heard-lies (t .dialect) t s (top s)) l g
+    at false true g = addressed-lies (entryIn (t .dialect)) s (rulesOf (t .dialect) .entries) (envelopeIn (t .dialect) t s (top s)) (heard-lies (t .dialect) t s (top s)) l g
     at false false g = no-pass NotJson l g

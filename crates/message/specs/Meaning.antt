@@ -1,4 +1,4 @@
--- What a message says, from the settings and the text alone: a refusal among 2 to 8, or a snapshot or an update. The checks are those of document
+-- What a message says, from the settings and the text alone: a refusal among 2 to 8, or its kind and what it carries. The checks are those of document
 -- 01's table, in its order, each over the whole message before the next one begins. Assumes nothing: these are definitions.
 use Prim.Native.Nat.{ℕ}
 use mathlib.Core.Bool.{Bool, _||_, cond}
@@ -9,9 +9,11 @@ use Rattle.decimal.specs.Digits.{Reading, reads, refused}
 use Rattle.decimal.specs.Decimal.{Number}
 use Rattle.json.specs.Json.{Span, text}
 use Rattle.settings.specs.Settings.{Config, good}
+use Rattle.settings.specs.Rules.{rulesOf}
 use Rattle.entries.specs.Places.{top}
-use Rattle.entries.specs.Rows.{Row, maxEntries, badTexts, firstOf, numberAt}
-use Rattle.layout.specs.Layout.{Printed, Listed, Layout, Envelope}
+use Rattle.entries.specs.Rows.{Row, badTexts, firstOf, numberAt}
+use Rattle.layout.specs.Layout.{isSnapshot, Printed, Listed, Layout, Envelope}
+use Rattle.layout.specs.declared.Kind.{Kind}
 use Rattle.message_k.specs.LayoutK.{envelopeK}
 use Rattle.message_m.specs.LayoutM.{envelopeM}
 use Rattle.answer.specs.declared.Answer.{Answer}
@@ -19,32 +21,29 @@ use Rattle.answer.specs.declared.Answer.the-variants.{Shut, TooLong, NotJson, E
 use Rattle.settings.specs.declared.Dialect.{Dialect}
 use Rattle.settings.specs.declared.Dialect.the-variants.{K, M, Unknown}
 
-abbrev pub maxMessage : ℕ
-maxMessage = 32768
-
 -- The answer to a message that fails a check, or the layout of one that fails none.
 pub data Checked : Type 0 where
   fails : Answer → Checked
   passes : Layout → Checked
 
--- ---- check 7: over 100 entries on one side
+-- ---- check 7: too many entries on one side
 
-unfoldable pub tooMany : Layout → Bool
-tooMany l = ltb maxEntries (length (l .bids .rows)) || ltb maxEntries (length (l .asks .rows))
+unfoldable pub tooMany : ℕ → Layout → Bool
+tooMany most l = ltb most (length (l .bids .rows)) || ltb most (length (l .asks .rows))
 
-unfoldable pub counted : Layout → Checked
-counted l = cond (tooMany l) (fails TooManyEntries) (passes l)
+unfoldable pub counted : ℕ → Layout → Checked
+counted most l = cond (tooMany most l) (fails TooManyEntries) (passes l)
 
 -- ---- checks 4, 5 and 6
 
-unfoldable pub laidOut : Reading Layout → Checked
-laidOut (reads l) = counted l
-laidOut refused = fails BadLayout
+unfoldable pub laidOut : ℕ → Reading Layout → Checked
+laidOut most (reads l) = counted most l
+laidOut most refused = fails BadLayout
 
 -- What is no message of the dialect's outer form is not this book's.
-unfoldable pub addressed : Reading Envelope → Checked
-addressed (reads h) = cond (h .escaped) (fails Escaped) (cond (h .ours) (laidOut (h .layout)) (fails NotOurs))
-addressed refused = fails NotOurs
+unfoldable pub addressed : ℕ → Reading Envelope → Checked
+addressed most (reads h) = cond (h .escaped) (fails Escaped) (cond (h .ours) (laidOut most (h .layout)) (fails NotOurs))
+addressed most refused = fails NotOurs
 
 unfoldable pub envelopeIn : Dialect → Config → List ℕ → Span → Reading Envelope
 envelopeIn K t = envelopeK (t .depth) (t .name)
@@ -54,13 +53,15 @@ envelopeIn Unknown t = λ s a. refused
 -- ---- checks 2 and 3
 
 unfoldable pub framed : Config → List ℕ → Checked
-framed t s = cond (ltb maxMessage (length s)) (fails TooLong) (cond (text s) (addressed (envelopeIn (t .dialect) t s (top s))) (fails NotJson))
+framed t s =
+    cond (ltb (rulesOf (t .dialect) .longest) (length s)) (fails TooLong)
+    (cond (text s) (addressed (rulesOf (t .dialect) .entries) (envelopeIn (t .dialect) t s (top s))) (fails NotJson))
 
 -- ---- check 8: a decimal rule broken, price zero, or size zero in a snapshot
 
 -- The texts that break it, of each side in written order, the bids' before the asks'.
 unfoldable pub bad : List ℕ → Layout → List Span
-bad s l = badTexts (l .snapshot) s (l .bids .rows) ++ badTexts (l .snapshot) s (l .asks .rows)
+bad s l = badTexts (isSnapshot (l .kind)) s (l .bids .rows) ++ badTexts (isSnapshot (l .kind)) s (l .asks .rows)
 
 unfoldable pub decimals : List ℕ → Layout → Checked
 decimals s l = elim (bad s l) [ [] ↦ passes l | a ∷ rest ↦ fails BadDecimal ]
@@ -85,7 +86,7 @@ pub record LevelChange : Type 0 where
   pub size : Number
 
 pub record Message : Type 0 where
-  pub snapshot : Bool
+  pub kind : Kind
   pub bids : List LevelChange
   pub asks : List LevelChange
   pub checksum : Printed
@@ -102,7 +103,7 @@ abbrev pub levelChangesOf : List ℕ → Listed → List LevelChange
 levelChangesOf s l = map (levelChangeAt s) (l .rows)
 
 unfoldable pub messageOf : List ℕ → Layout → Message
-messageOf s l = record { snapshot = l .snapshot; bids = levelChangesOf s (l .bids); asks = levelChangesOf s (l .asks); checksum = l .checksum; number = l .number }
+messageOf s l = record { kind = l .kind; bids = levelChangesOf s (l .bids); asks = levelChangesOf s (l .asks); checksum = l .checksum; number = l .number }
 
 unfoldable pub decodedOf : List ℕ → Checked → Decoded
 decodedOf s (fails a) = refuses a
@@ -120,7 +121,7 @@ earlier (a ∷ k) [] = a
 earlier (a ∷ k) (b ∷ l) = cond (ltb (b .from) (a .from)) b a
 
 unfoldable pub firstBad : List ℕ → Layout → Span
-firstBad s l = earlier (badTexts (l .snapshot) s (l .bids .rows)) (badTexts (l .snapshot) s (l .asks .rows))
+firstBad s l = earlier (badTexts (isSnapshot (l .kind)) s (l .bids .rows)) (badTexts (isSnapshot (l .kind)) s (l .asks .rows))
 
 unfoldable pub firstBadOf : List ℕ → Checked → Span
 firstBadOf s (fails a) = record { from = 0; to = 0 }

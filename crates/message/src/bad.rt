@@ -4,6 +4,7 @@ ghost use mathlib.Core.Bool.{true};
 ghost use Rattle.json.specs.Names.{part};
 ghost use Rattle.settings.specs.Settings.{good};
 ghost use Rattle.entries.specs.Arrays.{Ready};
+ghost use Rattle.layout.specs.Layout.{isSnapshot};
 ghost use Rattle.message.specs.Meaning.{badDecimal, firstBadOf, framed};
 ghost use Rattle.message.specs.Bad.{partOf, badAt, earlierPlace, PlaceIs, PartIs};
 use crate::Part;
@@ -12,6 +13,7 @@ use crate::read_frame;
 use first_bad::Place;
 use first_bad::first_bad;
 use layout::Outline;
+use layout::is_snapshot;
 use settings::Dialect;
 use settings::is_m;
 
@@ -49,10 +51,12 @@ fn bad_in_frame(dialect: Dialect, depth: usize, name: &[u8], s: &[u8]) -> Part
 // Of the first bad texts of both sides the one that is written first.
 fn bad_in(s: &[u8], m: bool, outline: Outline) -> Part
     requires { ⌜ Ready m (now s) (outline .«bids_at») (outline .bids) × Ready m (now s) (outline .«asks_at») (outline .asks) ⌝ }
-    ensures { λ r. ⌜ PartIs (now (s .entry)) (earlierPlace (badAt m (now (s .entry)) (outline .«bids_at») (outline .bids) (outline .snapshot)) (badAt m (now (s .entry)) (outline .«asks_at») (outline .asks) (outline .snapshot))) r ⌝ }
+    ensures { λ r. ⌜ PartIs (now (s .entry)) (earlierPlace (badAt m (now (s .entry)) (outline .«bids_at») (outline .bids) (isSnapshot (outline .kind))) (badAt m (now (s .entry)) (outline .«asks_at») (outline .asks) (isSnapshot (outline .kind)))) r ⌝ }
 {
-    let bid = bad_at(s, m, outline.bids_at, outline.bids, outline.snapshot);
-    let ask = bad_at(s, m, outline.asks_at, outline.asks, outline.snapshot);
+    let kind = outline.kind;
+    let snapshot = is_snapshot(kind);
+    let bid = bad_at(s, m, outline.bids_at, outline.bids, snapshot);
+    let ask = bad_at(s, m, outline.asks_at, outline.asks, snapshot);
     earlier(bid, ask)
 }
 

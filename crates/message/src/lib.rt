@@ -3,7 +3,6 @@
 mod bad;
 
 use answer::Answer;
-use entries::MAX_ENTRIES;
 use json::MAX_DEPTH;
 use json::value_end;
 use json_tokens::is_ended;
@@ -14,6 +13,7 @@ use layout::not_framed;
 use message_k::k_message;
 use message_m::m_message;
 use settings::Dialect;
+use settings::rules_of;
 ghost use mathlib.Core.Path.{_≡_};
 ghost use mathlib.Core.Bool.{true};
 ghost use Rattle.settings.specs.Settings.{good};
@@ -24,7 +24,7 @@ pub use bad::bad_decimal;
 pub use bad::bad_place;
 ghost use Rattle.message.specs.Deciding.{decided, addressedScan, laidOutline};
 
-// The longest message.
+// The longest message of any dialect.
 pub const MAX_MESSAGE: usize = 32768;
 
 pub enum Verdict {
@@ -69,12 +69,13 @@ pub fn read_frame(dialect: Dialect, depth: usize, name: &[u8], s: &[u8]) -> Verd
     requires { ⌜ good (record { dialect = dialect; depth = depth; name = now name }) ≡ true ⌝ }
     ensures { λ r. ⌜ r ≡ verdictOf (now (s .entry)) (framed (record { dialect = dialect; depth = depth; name = now (name .entry) }) (now (s .entry))) ⌝ }
 {
-    if MAX_MESSAGE < s.len() {
+    let rules = rules_of(dialect);
+    if rules.longest < s.len() {
         return Verdict::Fails(Answer::TooLong);
     }
     let scan = scan_at(dialect, depth, name, s, skip_blanks(s, 0));
     let ended = is_ended(s, scan.end);
-    decide(scan, ended)
+    decide(rules.entries, scan, ended)
 }
 
 // What one walk over the message tells.
@@ -89,29 +90,30 @@ fn scan_at(dialect: Dialect, depth: usize, name: &[u8], s: &[u8], at: usize) -> 
     }
 }
 
-// The first of checks 3 to 7 that fails, by what was told of the message; `ended` says that nothing stands past its value.
-fn decide(scan: Scan, ended: bool) -> Verdict
-    ensures { λ r. ⌜ r ≡ decided scan ended ⌝ }
+// The first of checks 3 to 7 that fails, by what was told of the message; `ended` says that nothing stands past its value, and `most`
+// how many entries a side may have.
+fn decide(most: usize, scan: Scan, ended: bool) -> Verdict
+    ensures { λ r. ⌜ r ≡ decided most scan ended ⌝ }
 {
     if scan.end == 0 {
         return Verdict::Fails(Answer::NotJson);
     }
     if ended {
-        return decide_address(scan);
+        return decide_address(most, scan);
     }
     Verdict::Fails(Answer::NotJson)
 }
 
 // Checks 4 to 7.
-fn decide_address(scan: Scan) -> Verdict
-    ensures { λ r. ⌜ r ≡ addressedScan scan ⌝ }
+fn decide_address(most: usize, scan: Scan) -> Verdict
+    ensures { λ r. ⌜ r ≡ addressedScan most scan ⌝ }
 {
     if scan.framed {
         if scan.escaped {
             return Verdict::Fails(Answer::Escaped);
         }
         if scan.ours {
-            return decide_layout(scan.outline);
+            return decide_layout(most, scan.outline);
         }
         return Verdict::Fails(Answer::NotOurs);
     }
@@ -119,14 +121,14 @@ fn decide_address(scan: Scan) -> Verdict
 }
 
 // Checks 6 and 7.
-fn decide_layout(outline: Outline) -> Verdict
-    ensures { λ r. ⌜ r ≡ laidOutline outline ⌝ }
+fn decide_layout(most: usize, outline: Outline) -> Verdict
+    ensures { λ r. ⌜ r ≡ laidOutline most outline ⌝ }
 {
     if outline.well_formed {
-        if MAX_ENTRIES < outline.bids {
+        if most < outline.bids {
             return Verdict::Fails(Answer::TooManyEntries);
         }
-        if MAX_ENTRIES < outline.asks {
+        if most < outline.asks {
             return Verdict::Fails(Answer::TooManyEntries);
         }
         return Verdict::Passes(outline);

@@ -14,6 +14,7 @@ use Rattle.json.specs.Json.{Span, Pair}
 use Rattle.entries.specs.Places.{andThen, valuesOf, only, quotedChecksumAt}
 use Rattle.entries.specs.Summary.{anyBroken, anyZero}
 use Rattle.layout.specs.Layout.{printed, unprinted, laid}
+use Rattle.layout.specs.declared.Kind.the-variants.{Snapshot, Update}
 use Rattle.layout.specs.Scan.{entryArrayOf, isPrinted, sumOf, noOutline, outlineOf, outlineFrom}
 use Rattle.json.specs.Fold.{foldFrom}
 use Rattle.layout.specs.MemberSpans.{few, fewMore, withEntryArray, entryMemberOf}
@@ -74,20 +75,20 @@ module _ (s : List ℕ) (objects : List (List Pair)) where
         let x : often (ascii "as") ≤ 1 = omega arith in
         let y : often (ascii "bs") ≤ 1 = omega arith in
         rw (side (ascii "as") (t .«snapshot_asks») (h .snapshot-asks) x, side (ascii "bs") (t .«snapshot_bids») (h .snapshot-bids) y, g)
-        (outline-of s true unprinted 0 (listedIn s (ascii "bs") objects) (listedIn s (ascii "as") objects))
+        (outline-of s Snapshot unprinted 0 (listedIn s (ascii "bs") objects) (listedIn s (ascii "as") objects))
 
     -- the one `c`
     sum-laid : (x : Reading ℕ)
-        → cond (isRead x) (outlineFrom false (entryArrayOf s (listedIn s (ascii "b") objects)) (entryArrayOf s (listedIn s (ascii "a") objects)) true (orZero x) 0) noOutline
-        ≡ outlineOf s (andThen x (λ sum. laid false (printed sum) 0 (listedIn s (ascii "b") objects) (listedIn s (ascii "a") objects)))
+        → cond (isRead x) (outlineFrom Update (entryArrayOf s (listedIn s (ascii "b") objects)) (entryArrayOf s (listedIn s (ascii "a") objects)) true (orZero x) 0) noOutline
+        ≡ outlineOf s (andThen x (λ sum. laid Update (printed sum) 0 (listedIn s (ascii "b") objects) (listedIn s (ascii "a") objects)))
     unfolding isRead orZero andThen isPrinted sumOf outlineOf
-    sum-laid (reads n) = outline-of s false (printed n) 0 (listedIn s (ascii "b") objects) (listedIn s (ascii "a") objects)
+    sum-laid (reads n) = outline-of s Update (printed n) 0 (listedIn s (ascii "b") objects) (listedIn s (ascii "a") objects)
     sum-laid refused = refl
 
     one-sum : (l : List Span) → length l ≡ 1 → t .checksum ≡ sumsOf s l → often (ascii "a") ≤ 1 → often (ascii "b") ≤ 1
         → outlineBy false true t
         ≡ outlineOf s (andThen (only l) (λ c. andThen (quotedChecksumAt s c) (λ sum.
-        laid false (printed sum) 0 (listedIn s (ascii "b") objects) (listedIn s (ascii "a") objects))))
+        laid Update (printed sum) 0 (listedIn s (ascii "b") objects) (listedIn s (ascii "a") objects))))
     unfolding outlineBy foldFrom moreSummed only andThen
     one-sum [] n g a b = absurd (omega arith)
     one-sum (c ∷ []) n g a b =

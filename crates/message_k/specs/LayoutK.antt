@@ -12,6 +12,7 @@ use Rattle.entries.specs.Places.{andThen, all, isString, arrayAt, objectAt, val
 use Rattle.entries.specs.Rows.{entryK}
 use Rattle.layout.specs.Depths.{itemDepth}
 use Rattle.layout.specs.Layout.{printed, unprinted, Listed, Layout, Envelope, unlisted, listedAt, laid}
+use Rattle.layout.specs.declared.Kind.the-variants.{Snapshot, Update}
 
 -- An array of four or five elements: whole number, one or two objects, channel, pair.
 pub record Frame : Type 0 where
@@ -87,10 +88,10 @@ listedIn s name objects = listedOf s (valuesOf s name (together objects))
 unfoldable pub objectsLayout : List ℕ → List (List Pair) → Reading Layout
 objectsLayout s objects =
     cond (isSnapshot s objects)
-    (laid true unprinted 0 (listedIn s (ascii "bs") objects) (listedIn s (ascii "as") objects))
+    (laid Snapshot unprinted 0 (listedIn s (ascii "bs") objects) (listedIn s (ascii "as") objects))
     (cond (isUpdate s objects)
     (andThen (only (valuesOf s (ascii "c") (together objects))) (λ c.
-    andThen (quotedChecksumAt s c) (λ sum. laid false (printed sum) 0 (listedIn s (ascii "b") objects) (listedIn s (ascii "a") objects))))
+    andThen (quotedChecksumAt s c) (λ sum. laid Update (printed sum) 0 (listedIn s (ascii "b") objects) (listedIn s (ascii "a") objects))))
     refused)
 
 unfoldable pub layoutK : List ℕ → Frame → Reading Layout

@@ -14,6 +14,7 @@ use Rattle.entries.specs.Places.{objectAt, quotedChecksumAt}
 use Rattle.entries.specs.Rows.{entryK}
 use Rattle.layout.specs.Depths.{itemDepth, sideDepth}
 use Rattle.layout.specs.Layout.{listedAt}
+use Rattle.layout.specs.declared.Kind.the-variants.{Snapshot, Update}
 use Rattle.layout.specs.Scan.{absentEntryArray, entryArrayOf, outlineFrom, noOutline}
 use Rattle.json.specs.Fold.{foldFrom}
 use Rattle.layout.specs.MemberSpans.{noMemberSpan, withMemberSpan, noEntryMember, withEntryArray}
@@ -144,5 +145,5 @@ sideOf t = cond (eqb (t .times) 0) absentEntryArray (t .listing)
 unfoldable pub outlineBy : Bool → Bool → Members → Outline
 outlineBy snapshot update t =
     cond snapshot
-    (outlineFrom true (sideOf (t .«snapshot_bids»)) (sideOf (t .«snapshot_asks»)) false 0 0)
-    (cond (update && t .checksum .«well_formed») (outlineFrom false (sideOf (t .bids)) (sideOf (t .asks)) true (t .checksum .sum) 0) noOutline)
+    (outlineFrom Snapshot (sideOf (t .«snapshot_bids»)) (sideOf (t .«snapshot_asks»)) false 0 0)
+    (cond (update && t .checksum .«well_formed») (outlineFrom Update (sideOf (t .bids)) (sideOf (t .asks)) true (t .checksum .sum) 0) noOutline)

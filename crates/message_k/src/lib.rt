@@ -28,6 +28,7 @@ use json_tokens::string_end;
 use layout::EntryArray;
 use layout::EntryMember;
 use layout::ITEM_DEPTH;
+use layout::Kind;
 use layout::MemberSpan;
 use layout::Outline;
 use layout::SIDE_DEPTH;
@@ -505,12 +506,12 @@ fn k_outline(snapshot: bool, update: bool, all: Members) -> Outline
     if snapshot {
         let bids = side_of(all.snapshot_bids);
         let asks = side_of(all.snapshot_asks);
-        return outline_of(true, bids, asks, false, 0, 0);
+        return outline_of(Kind::Snapshot, bids, asks, false, 0, 0);
     }
     if both(update, all.checksum.well_formed) {
         let bids = side_of(all.bids);
         let asks = side_of(all.asks);
-        return outline_of(false, bids, asks, true, all.checksum.sum, 0);
+        return outline_of(Kind::Update, bids, asks, true, all.checksum.sum, 0);
     }
     no_outline()
 }

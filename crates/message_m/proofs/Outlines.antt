@@ -16,7 +16,9 @@ use Rattle.layout.specs.declared.MemberSpan.{MemberSpan}
 use Rattle.layout.specs.declared.EntryMember.{EntryMember}
 use Rattle.layout.specs.declared.Outline.{Outline}
 use Rattle.layout.specs.declared.Scan.{Scan}
-use Rattle.message_m.specs.LayoutM.{isSnapshotAt}
+use Rattle.layout.specs.declared.Kind.{Kind}
+use Rattle.layout.specs.declared.Kind.the-variants.{Snapshot, Update}
+use Rattle.message_m.specs.LayoutM.{kindAt}
 use Rattle.message_m.specs.Collected.{onceAt, onceListed, outlineWhere, numbersIn, bodyIn, outlineIn, scanIn}
 use Rattle.message_m.specs.declared.Members.{Members}
 
@@ -62,7 +64,7 @@ module _ {A : Type 0} (f : A → Outline) where
   where-refused h = sym (rw h)
 
 -- ---- from the checksum on
-module _ (s : List ℕ) (snapshot : Bool) (b a : EntryArray) (k g : MemberSpan) where
+module _ (s : List ℕ) (kind : Kind) (b a : EntryArray) (k g : MemberSpan) where
   abbrev sum : Reading ℕ
   sum = andThen (onceAt k) (checksumAt s)
 
@@ -70,40 +72,40 @@ module _ (s : List ℕ) (snapshot : Bool) (b a : EntryArray) (k g : MemberSpan) 
   number = andThen (onceAt g) (wholeAt s)
 
   abbrev with-sum : ℕ → Outline
-  with-sum u = outlineWhere number (λ n. outlineFrom snapshot b a true u n)
+  with-sum u = outlineWhere number (λ n. outlineFrom kind b a true u n)
 
-  pub numbers-no-sum : sum ≡ refused → noOutline ≡ numbersIn s snapshot b a k g
+  pub numbers-no-sum : sum ≡ refused → noOutline ≡ numbersIn s kind b a k g
   unfolding numbersIn
   numbers-no-sum h = where-refused with-sum h
 
-  pub numbers-no-number : (u : ℕ) → sum ≡ reads u → number ≡ refused → noOutline ≡ numbersIn s snapshot b a k g
+  pub numbers-no-number : (u : ℕ) → sum ≡ reads u → number ≡ refused → noOutline ≡ numbersIn s kind b a k g
   unfolding numbersIn
-  numbers-no-number u h r = where-refused (λ n. outlineFrom snapshot b a true u n) r ∙ where-reads with-sum h
+  numbers-no-number u h r = where-refused (λ n. outlineFrom kind b a true u n) r ∙ where-reads with-sum h
 
-  pub numbers-are : (u n : ℕ) → sum ≡ reads u → number ≡ reads n → outlineFrom snapshot b a true u n ≡ numbersIn s snapshot b a k g
+  pub numbers-are : (u n : ℕ) → sum ≡ reads u → number ≡ reads n → outlineFrom kind b a true u n ≡ numbersIn s kind b a k g
   unfolding numbersIn
-  numbers-are u n h r = where-reads (λ n. outlineFrom snapshot b a true u n) r ∙ where-reads with-sum h
+  numbers-are u n h r = where-reads (λ n. outlineFrom kind b a true u n) r ∙ where-reads with-sum h
 
 -- ---- from `data` on
-module _ (s : List ℕ) (snapshot : Bool) (met : Members) where
+module _ (s : List ℕ) (kind : Kind) (met : Members) where
   abbrev numbers : Outline
-  numbers = numbersIn s snapshot (onceListed (met .body .last .bids)) (onceListed (met .body .last .asks)) (met .checksum) (met .gsn)
+  numbers = numbersIn s kind (onceListed (met .body .last .bids)) (onceListed (met .body .last .asks)) (met .checksum) (met .gsn)
 
-  pub body-not-once : (met .body .mark .times ≡ 1 → ⊥) → noOutline ≡ bodyIn s snapshot met
+  pub body-not-once : (met .body .mark .times ≡ 1 → ⊥) → noOutline ≡ bodyIn s kind met
   unfolding bodyIn
   body-not-once h = where-refused (λ d. numbers) (once-no (met .body .mark) h)
 
-  pub body-once : met .body .mark .times ≡ 1 → numbers ≡ bodyIn s snapshot met
+  pub body-once : met .body .mark .times ≡ 1 → numbers ≡ bodyIn s kind met
   unfolding bodyIn
   body-once h = where-reads (λ d. numbers) (once-yes (met .body .mark) h)
 
 -- ---- whole
 module _ (s : List ℕ) (met : Members) where
-  abbrev of-type : Bool → Outline
-  of-type snapshot = bodyIn s snapshot met
+  abbrev of-type : Kind → Outline
+  of-type kind = bodyIn s kind met
 
   abbrev of-product : Span → Outline
-  of-product p = outlineWhere (andThen (onceAt (met .kind)) (isSnapshotAt s)) of-type
+  of-product p = outlineWhere (andThen (onceAt (met .kind)) (kindAt s)) of-type
 
   abbrev of-channel : Span → Outline
   of-channel c = outlineWhere (onceAt (met .product)) of-product
@@ -125,27 +127,27 @@ module _ (s : List ℕ) (met : Members) where
       past-product = where-reads of-product (once-yes (met .product) p) ∙ past-channel
 
       pub outline-no-type : (met .kind .times ≡ 1 → ⊥) → noOutline ≡ outlineIn s met
-      outline-no-type h = where-refused of-type (then-no (met .kind) (isSnapshotAt s) h) ∙ past-product
+      outline-no-type h = where-refused of-type (then-no (met .kind) (kindAt s) h) ∙ past-product
 
       module _ (t : met .kind .times ≡ 1) where
-        pub outline-snapshot : means s (placeOf (met .kind)) (ascii "snapshot") ≡ true → bodyIn s true met ≡ outlineIn s met
-        unfolding isSnapshotAt
+        pub outline-snapshot : means s (placeOf (met .kind)) (ascii "snapshot") ≡ true → bodyIn s Snapshot met ≡ outlineIn s met
+        unfolding kindAt
         outline-snapshot h =
-            let k : isSnapshotAt s (placeOf (met .kind)) ≡ reads true = rw h in
-            where-reads of-type (then-yes (met .kind) (isSnapshotAt s) t ∙ k) ∙ past-product
+            let k : kindAt s (placeOf (met .kind)) ≡ reads Snapshot = rw h in
+            where-reads of-type (then-yes (met .kind) (kindAt s) t ∙ k) ∙ past-product
 
         module _ (n : means s (placeOf (met .kind)) (ascii "snapshot") ≡ false) where
-          pub outline-update : means s (placeOf (met .kind)) (ascii "update") ≡ true → bodyIn s false met ≡ outlineIn s met
-          unfolding isSnapshotAt
+          pub outline-update : means s (placeOf (met .kind)) (ascii "update") ≡ true → bodyIn s Update met ≡ outlineIn s met
+          unfolding kindAt
           outline-update h =
-              let k : isSnapshotAt s (placeOf (met .kind)) ≡ reads false = rw (n, h) in
-              where-reads of-type (then-yes (met .kind) (isSnapshotAt s) t ∙ k) ∙ past-product
+              let k : kindAt s (placeOf (met .kind)) ≡ reads Update = rw (n, h) in
+              where-reads of-type (then-yes (met .kind) (kindAt s) t ∙ k) ∙ past-product
 
           pub outline-neither : means s (placeOf (met .kind)) (ascii "update") ≡ false → noOutline ≡ outlineIn s met
-          unfolding isSnapshotAt
+          unfolding kindAt
           outline-neither h =
-              let k : isSnapshotAt s (placeOf (met .kind)) ≡ refused = rw (n, h) in
-              where-refused of-type (then-yes (met .kind) (isSnapshotAt s) t ∙ k) ∙ past-product
+              let k : kindAt s (placeOf (met .kind)) ≡ refused = rw (n, h) in
+              where-refused of-type (then-yes (met .kind) (kindAt s) t ∙ k) ∙ past-product
 
 -- part by part
 pub told-made : (s : List ℕ) (met : Members) (end : ℕ) {o : Bool} {x : Outline} → o ≡ (met .«is_book» && met .«is_product») → x ≡ outlineIn s met

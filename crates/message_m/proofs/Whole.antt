@@ -28,7 +28,8 @@ use Rattle.layout.specs.declared.Outline.{Outline}
 use Rattle.layout.specs.declared.Scan.{Scan}
 use Rattle.layout.proofs.Laws.{outline-of}
 use Rattle.layout.proofs.MemberSpans.{values-fold, only-once, only-other, slot-times}
-use Rattle.message_m.specs.LayoutM.{someName, someString, escapedM, someMeans, oursM, isSnapshotAt, listedIn, layoutM, envelopeM}
+use Rattle.layout.specs.declared.Kind.{Kind}
+use Rattle.message_m.specs.LayoutM.{someName, someString, escapedM, someMeans, oursM, kindAt, listedIn, layoutM, envelopeM}
 use Rattle.message_m.specs.Collected.{onMember, sideM, noData, dataEnd, moreData, dataFrom, dataOf, isEscaped, moreBody, noMembers, moreMembers, onceAt, onceListed, outlineWhere, numbersIn, bodyIn, outlineIn, scanIn, Placed}
 use Rattle.message_m.specs.declared.Data.{Data}
 use Rattle.message_m.specs.declared.Members.{Members}
@@ -203,7 +204,7 @@ module _ (name s : List ℕ) (ms : List Pair) where
   data-last = on-fold s (ascii "data") (moreMembers name s) (λ (x : Members). x .body .last) (λ (d : Data) (a : Span). dataOf s a) (λ st m. refl) noMembers ms
 
   -- ---- from the checksum on, where ds are the members of `data`
-  module _ (snapshot : Bool) (ds : List Pair) where
+  module _ (kind : Kind) (ds : List Pair) where
     abbrev bids : Reading Listed
     bids = listedIn s (ascii "bids") ds
 
@@ -217,7 +218,7 @@ module _ (name s : List ℕ) (ms : List Pair) where
     askSlot = entryMemberOf (sideM s) (valuesOf s (ascii "asks") ds)
 
     abbrev all-read : ℕ → ℕ → Reading Layout
-    all-read sum number = laid snapshot (printed sum) number bids asks
+    all-read sum number = laid kind (printed sum) number bids asks
 
     abbrev sum-read : ℕ → Reading Layout
     sum-read sum = andThen (only (values (ascii "gsn"))) (λ g. andThen (wholeAt s g) (all-read sum))
@@ -226,13 +227,13 @@ module _ (name s : List ℕ) (ms : List Pair) where
     sides-read = andThen (only (values (ascii "checksum"))) (λ k. andThen (checksumAt s k) sum-read)
 
     abbrev outline : ℕ → ℕ → Outline
-    outline sum number = outlineFrom snapshot (onceListed bidSlot) (onceListed askSlot) true sum number
+    outline sum number = outlineFrom kind (onceListed bidSlot) (onceListed askSlot) true sum number
 
     all-out : (sum number : ℕ) → outlineOf s (all-read sum number) ≡ outline sum number
     unfolding listedIn isPrinted sumOf
     all-out sum number =
-        sym (outline-of s snapshot (printed sum) number bids asks)
-        ∙ ap₂ (λ (b a : EntryArray). outlineFrom snapshot b a true sum number) (side-of s (valuesOf s (ascii "bids") ds)) (side-of s (valuesOf s (ascii "asks") ds))
+        sym (outline-of s kind (printed sum) number bids asks)
+        ∙ ap₂ (λ (b a : EntryArray). outlineFrom kind b a true sum number) (side-of s (valuesOf s (ascii "bids") ds)) (side-of s (valuesOf s (ascii "asks") ds))
 
     sum-out : (sum : ℕ) → outlineOf s (sum-read sum) ≡ outlineWhere (andThen (onceAt (met .gsn)) (wholeAt s)) (outline sum)
     sum-out sum =
@@ -240,7 +241,7 @@ module _ (name s : List ℕ) (ms : List Pair) where
         ∙ then-out s (all-read sum) (outline sum) (andThen (only (values (ascii "gsn"))) (wholeAt s)) (andThen (onceAt (met .gsn)) (wholeAt s))
         (ap (λ (x : Reading Span). andThen x (wholeAt s)) (only-is (values (ascii "gsn")) (met .gsn) gsn-is)) (λ n q. all-out sum n)
 
-    sides-out : outlineOf s sides-read ≡ numbersIn s snapshot (onceListed bidSlot) (onceListed askSlot) (met .checksum) (met .gsn)
+    sides-out : outlineOf s sides-read ≡ numbersIn s kind (onceListed bidSlot) (onceListed askSlot) (met .checksum) (met .gsn)
     unfolding numbersIn
     sides-out =
         ap (outlineOf s) (then-assoc (only (values (ascii "checksum"))) (checksumAt s) sum-read)
@@ -249,19 +250,19 @@ module _ (name s : List ℕ) (ms : List Pair) where
         (ap (λ (x : Reading Span). andThen x (checksumAt s)) (only-is (values (ascii "checksum")) (met .checksum) checksum-is)) (λ n q. sum-out n)
 
   -- ---- from `data` on
-  module _ (snapshot : Bool) where
+  module _ (kind : Kind) where
     abbrev numbers : Data → Outline
-    numbers d = numbersIn s snapshot (onceListed (d .bids)) (onceListed (d .asks)) (met .checksum) (met .gsn)
+    numbers d = numbersIn s kind (onceListed (d .bids)) (onceListed (d .asks)) (met .checksum) (met .gsn)
 
     abbrev data-read : Span → Reading Layout
-    data-read d = andThen (objectAt 15 s d) (sides-read snapshot)
+    data-read d = andThen (objectAt 15 s d) (sides-read kind)
 
     -- a value that has no sides
-    no-sides : (k g : MemberSpan) → numbersIn s snapshot (onceListed (noData 0 .bids)) (onceListed (noData 0 .asks)) k g ≡ noOutline
+    no-sides : (k g : MemberSpan) → numbersIn s kind (onceListed (noData 0 .bids)) (onceListed (noData 0 .asks)) k g ≡ noOutline
     unfolding numbersIn onceListed noData outlineWhere outlineFrom
     no-sides k g = go (andThen (onceAt k) (checksumAt s)) (andThen (onceAt g) (wholeAt s))
       where
-        go : (x y : Reading ℕ) → outlineWhere x (λ sum. outlineWhere y (λ number. outlineFrom snapshot notEntryArray notEntryArray true sum number)) ≡ noOutline
+        go : (x y : Reading ℕ) → outlineWhere x (λ sum. outlineWhere y (λ number. outlineFrom kind notEntryArray notEntryArray true sum number)) ≡ noOutline
         go (reads sum) (reads number) = refl
         go (reads sum) refused = refl
         go refused y = refl
@@ -270,37 +271,37 @@ module _ (name s : List ℕ) (ms : List Pair) where
     unfolding dataOf andThen outlineOf dataFrom noData
     data-out d q = go (objectAt 15 s d) refl
       where
-        go : (x : Reading (List Pair)) → objectAt 15 s d ≡ x → outlineOf s (andThen x (sides-read snapshot)) ≡ numbers (met .body .last)
+        go : (x : Reading (List Pair)) → objectAt 15 s d ≡ x → outlineOf s (andThen x (sides-read kind)) ≡ numbers (met .body .last)
         go x h = at x ∙ ap numbers (sym (data-last ∙ last-only s (values (ascii "data")) (noData 0) d q ∙ ap (dataFrom s (d .to)) h))
           where
-            at : (y : Reading (List Pair)) → outlineOf s (andThen y (sides-read snapshot)) ≡ numbers (dataFrom s (d .to) y)
-            at (reads ds) = sides-out snapshot ds
+            at : (y : Reading (List Pair)) → outlineOf s (andThen y (sides-read kind)) ≡ numbers (dataFrom s (d .to) y)
+            at (reads ds) = sides-out kind ds
             at refused = sym (no-sides (met .checksum) (met .gsn))
 
-    body-out : outlineOf s (andThen (only (values (ascii "data"))) data-read) ≡ bodyIn s snapshot met
+    body-out : outlineOf s (andThen (only (values (ascii "data"))) data-read) ≡ bodyIn s kind met
     unfolding bodyIn
     body-out =
         then-out s data-read (λ d. numbers (met .body .last)) (only (values (ascii "data"))) (onceAt (met .body .mark))
         (only-is (values (ascii "data")) (met .body .mark) data-mark) data-out
 
   -- ---- whole
-  abbrev type-read : Bool → Reading Layout
-  type-read snapshot = andThen (only (values (ascii "data"))) (data-read snapshot)
+  abbrev type-read : Kind → Reading Layout
+  type-read kind = andThen (only (values (ascii "data"))) (data-read kind)
 
   abbrev product-read : Span → Reading Layout
-  product-read p = andThen (only (values (ascii "type"))) (λ t. andThen (isSnapshotAt s t) type-read)
+  product-read p = andThen (only (values (ascii "type"))) (λ t. andThen (kindAt s t) type-read)
 
   abbrev channel-read : Span → Reading Layout
   channel-read c = andThen (only (values (ascii "product"))) product-read
 
-  product-out : (p : Span) → outlineOf s (product-read p) ≡ outlineWhere (andThen (onceAt (met .kind)) (isSnapshotAt s)) (λ snapshot. bodyIn s snapshot met)
+  product-out : (p : Span) → outlineOf s (product-read p) ≡ outlineWhere (andThen (onceAt (met .kind)) (kindAt s)) (λ kind. bodyIn s kind met)
   product-out p =
-      ap (outlineOf s) (then-assoc (only (values (ascii "type"))) (isSnapshotAt s) type-read)
-      ∙ then-out s type-read (λ snapshot. bodyIn s snapshot met) (andThen (only (values (ascii "type"))) (isSnapshotAt s)) (andThen (onceAt (met .kind)) (isSnapshotAt s))
-      (ap (λ (x : Reading Span). andThen x (isSnapshotAt s)) (only-is (values (ascii "type")) (met .kind) kind-is)) (λ b q. body-out b)
+      ap (outlineOf s) (then-assoc (only (values (ascii "type"))) (kindAt s) type-read)
+      ∙ then-out s type-read (λ kind. bodyIn s kind met) (andThen (only (values (ascii "type"))) (kindAt s)) (andThen (onceAt (met .kind)) (kindAt s))
+      (ap (λ (x : Reading Span). andThen x (kindAt s)) (only-is (values (ascii "type")) (met .kind) kind-is)) (λ b q. body-out b)
 
   abbrev of-product : Span → Outline
-  of-product p = outlineWhere (andThen (onceAt (met .kind)) (isSnapshotAt s)) (λ snapshot. bodyIn s snapshot met)
+  of-product p = outlineWhere (andThen (onceAt (met .kind)) (kindAt s)) (λ kind. bodyIn s kind met)
 
   abbrev of-channel : Span → Outline
   of-channel c = outlineWhere (onceAt (met .product)) of-product

@@ -21,7 +21,8 @@ use Rattle.layout.specs.declared.MemberSpan.{MemberSpan}
 use Rattle.layout.specs.declared.EntryMember.{EntryMember}
 use Rattle.layout.specs.declared.Outline.{Outline}
 use Rattle.layout.specs.declared.Scan.{Scan}
-use Rattle.message_m.specs.LayoutM.{isSnapshotAt}
+use Rattle.layout.specs.declared.Kind.{Kind}
+use Rattle.message_m.specs.LayoutM.{kindAt}
 use Rattle.message_m.specs.declared.Data.{Data}
 use Rattle.message_m.specs.declared.Body.{Body}
 use Rattle.message_m.specs.declared.Members.{Members}
@@ -155,23 +156,23 @@ unfoldable pub outlineWhere : {A : Type 0} → Reading A → (A → Outline) →
 outlineWhere (reads a) outline = outline a
 outlineWhere refused outline = noOutline
 
-unfoldable pub numbersIn : List ℕ → Bool → EntryArray → EntryArray → MemberSpan → MemberSpan → Outline
-numbersIn s snapshot bids asks checksum gsn =
+unfoldable pub numbersIn : List ℕ → Kind → EntryArray → EntryArray → MemberSpan → MemberSpan → Outline
+numbersIn s kind bids asks checksum gsn =
     outlineWhere (andThen (onceAt checksum) (checksumAt s)) (λ sum.
     outlineWhere (andThen (onceAt gsn) (wholeAt s)) (λ number.
-    outlineFrom snapshot bids asks true sum number))
+    outlineFrom kind bids asks true sum number))
 
-unfoldable pub bodyIn : List ℕ → Bool → Members → Outline
-bodyIn s snapshot met =
+unfoldable pub bodyIn : List ℕ → Kind → Members → Outline
+bodyIn s kind met =
     outlineWhere (onceAt (met .body .mark)) (λ d.
-    numbersIn s snapshot (onceListed (met .body .last .bids)) (onceListed (met .body .last .asks)) (met .checksum) (met .gsn))
+    numbersIn s kind (onceListed (met .body .last .bids)) (onceListed (met .body .last .asks)) (met .checksum) (met .gsn))
 
 unfoldable pub outlineIn : List ℕ → Members → Outline
 outlineIn s met =
     outlineWhere (onceAt (met .channel)) (λ c.
     outlineWhere (onceAt (met .product)) (λ p.
-    outlineWhere (andThen (onceAt (met .kind)) (isSnapshotAt s)) (λ snapshot.
-    bodyIn s snapshot met)))
+    outlineWhere (andThen (onceAt (met .kind)) (kindAt s)) (λ kind.
+    bodyIn s kind met)))
 
 unfoldable pub scanIn : List ℕ → ℕ → Members → Scan
 scanIn s end met =

@@ -10,6 +10,8 @@ use Rattle.entries.specs.Places.{andThen, isString, objectAt, valuesOf, only, w
 use Rattle.entries.specs.Rows.{entryM}
 use Rattle.layout.specs.Depths.{itemDepth}
 use Rattle.layout.specs.Layout.{printed, Listed, Layout, Envelope, listedAt, laid}
+use Rattle.layout.specs.declared.Kind.{Kind}
+use Rattle.layout.specs.declared.Kind.the-variants.{Snapshot, Update}
 
 -- Check 4: a backslash in a top-level key or in a `channel` or `product` string.
 unfoldable pub someName : List ℕ → List Pair → Bool
@@ -33,8 +35,8 @@ oursM name s ms = someMeans s (ascii "book") (valuesOf s (ascii "channel") ms) &
 
 -- ---- check 6: named, once each: `channel`, `product`, `type` (`snapshot` or `update`), `data`, `checksum`, `gsn`, and in `data` `bids` and `asks`
 
-unfoldable pub isSnapshotAt : List ℕ → Span → Reading Bool
-isSnapshotAt s a = cond (means s a (ascii "snapshot")) (reads true) (cond (means s a (ascii "update")) (reads false) refused)
+unfoldable pub kindAt : List ℕ → Span → Reading Kind
+kindAt s a = cond (means s a (ascii "snapshot")) (reads Snapshot) (cond (means s a (ascii "update")) (reads Update) refused)
 
 unfoldable pub listedIn : List ℕ → List ℕ → List Pair → Reading Listed
 listedIn s name ms = andThen (only (valuesOf s name ms)) (listedAt entryM s)
@@ -44,14 +46,14 @@ layoutM s ms =
     andThen (only (valuesOf s (ascii "channel") ms)) (λ c.
     andThen (only (valuesOf s (ascii "product") ms)) (λ p.
     andThen (only (valuesOf s (ascii "type") ms)) (λ t.
-    andThen (isSnapshotAt s t) (λ snapshot.
+    andThen (kindAt s t) (λ kind.
     andThen (only (valuesOf s (ascii "data") ms)) (λ d.
     andThen (objectAt itemDepth s d) (λ ds.
     andThen (only (valuesOf s (ascii "checksum") ms)) (λ k.
     andThen (checksumAt s k) (λ sum.
     andThen (only (valuesOf s (ascii "gsn") ms)) (λ g.
     andThen (wholeAt s g) (λ number.
-    laid snapshot (printed sum) number (listedIn s (ascii "bids") ds) (listedIn s (ascii "asks") ds)))))))))))
+    laid kind (printed sum) number (listedIn s (ascii "bids") ds) (listedIn s (ascii "asks") ds)))))))))))
 
 -- ---- the message, to a book of that name
 

@@ -22,6 +22,7 @@ use json_tokens::string_end;
 use layout::EntryArray;
 use layout::EntryMember;
 use layout::ITEM_DEPTH;
+use layout::Kind;
 use layout::MemberSpan;
 use layout::Outline;
 use layout::SIDE_DEPTH;
@@ -438,18 +439,18 @@ fn m_outline(s: &[u8], met: Members) -> Outline
         return no_outline();
     }
     if is_short_name(s, kind.from, kind.to, SNAPSHOT_NAME, 8) {
-        return body_outline(s, true, met);
+        return body_outline(s, Kind::Snapshot, met);
     }
     if is_short_name(s, kind.from, kind.to, UPDATE_NAME, 6) {
-        return body_outline(s, false, met);
+        return body_outline(s, Kind::Update, met);
     }
     no_outline()
 }
 
 // The layout from `data` on.
-fn body_outline(s: &[u8], snapshot: bool, met: Members) -> Outline
+fn body_outline(s: &[u8], kind: Kind, met: Members) -> Outline
     requires { ⌜ Placed (now s) (met .checksum) × Placed (now s) (met .gsn) ⌝ }
-    ensures { λ r. ⌜ r ≡ bodyIn (now (s .entry)) snapshot met ⌝ }
+    ensures { λ r. ⌜ r ≡ bodyIn (now (s .entry)) kind met ⌝ }
 {
     let body = met.body;
     let data = body.last;
@@ -458,7 +459,7 @@ fn body_outline(s: &[u8], snapshot: bool, met: Members) -> Outline
     }
     let bids = once_listed(data.bids);
     let asks = once_listed(data.asks);
-    numbers_outline(s, snapshot, bids, asks, met.checksum, met.gsn)
+    numbers_outline(s, kind, bids, asks, met.checksum, met.gsn)
 }
 
 // The entries of a side that was met once.
@@ -475,18 +476,18 @@ fn once_listed(slot: EntryMember) -> EntryArray
 // The layout from the checksum on.
 fn numbers_outline(
     s: &[u8],
-    snapshot: bool,
+    kind: Kind,
     bids: EntryArray,
     asks: EntryArray,
     checksum: MemberSpan,
     gsn: MemberSpan,
 ) -> Outline
     requires { ⌜ Placed (now s) checksum × Placed (now s) gsn ⌝ }
-    ensures { λ r. ⌜ r ≡ numbersIn (now (s .entry)) snapshot bids asks checksum gsn ⌝ }
+    ensures { λ r. ⌜ r ≡ numbersIn (now (s .entry)) kind bids asks checksum gsn ⌝ }
 {
     match checksum_of(s, checksum) {
         ParsedChecksum::Number(sum) => match gsn_of(s, gsn) {
-            ParsedWhole::Number(number) => { outline_of(snapshot, bids, asks, true, sum, number) }
+            ParsedWhole::Number(number) => { outline_of(kind, bids, asks, true, sum, number) }
             ParsedWhole::Refused => no_outline(),
         },
         ParsedChecksum::Refused => no_outline(),

@@ -15,6 +15,7 @@ use Rattle.decimal.specs.Limits.{Within}
 use Rattle.decimal.proofs.RoundTrip.{read-within}
 use Rattle.json.specs.Json.{Span}
 use Rattle.settings.specs.Settings.{Config, isM, good, kept}
+use Rattle.settings.specs.Rules.{rulesOf}
 use Rattle.settings.specs.declared.Dialect.{Dialect}
 use Rattle.settings.specs.declared.Dialect.the-variants.{K, M, Unknown}
 use Rattle.entries.specs.Places.{inner}
@@ -32,20 +33,22 @@ use Rattle.level.proofs.Lengths.{length-ranked}
 use Rattle.entries.proofs.Numbers.{number-within}
 use Rattle.crc32_spec.specs.Crc.{crc, run}
 use Rattle.writer.specs.Snapshot.{kSnapshot, mSnapshot}
-use Rattle.checksum.specs.Text.{interleaved, colonJoined, mChecksumText, mChecksum}
-use Rattle.layout.specs.Layout.{Printed, printed, unprinted, Layout}
+use Rattle.checksum.specs.Text.{interleaved, colonJoined, mChecksumText}
+use Rattle.layout.specs.declared.Kind.the-variants.{Snapshot}
+use Rattle.layout.specs.Layout.{isSnapshot, Printed, printed, unprinted, Layout}
 use Rattle.message.specs.Meaning.{LevelChange, levelChangeAt, Message, messageOf, Checked, fails, passes, bad, checked, decodedOf, decode, decodes, refuses}
 use Rattle.answer.specs.declared.Answer.the-variants.{Taken}
 use Rattle.message.proofs.Where.{LieIn, entryIn, framed-lies}
 use Rattle.message.proofs.Entering.{Readable, is-k, is-m, good-readable, also-framed}
 use Rattle.round_trip.specs.Claims.{levelChangeOf, Positive, ValidLevel, Each, each-none, each-more, Valid}
 use Rattle.round_trip.proofs.Claims.{k-round-trip, m-round-trip}
-use Rattle.reference.specs.Reference.{Status, shut, waiting, live, isShut, isLive, Reference, opened, editOf, cut, afterChanges, bidsAfter, asksAfter, pricesOf, checksumOf, taken, After, receive, textIn, snapshotText, Ask, does, Call, final, withStatus}
+use Rattle.reference.specs.Reference.{Status, shut, waiting, live, isShut, isLive, Reference, opened, Sides, rules, editOf, afterChanges, sidesAfter, pricesOf, checksumText, checksumOf, taken, After, receive, textIn, snapshotText, Ask, does, Call, final, withStatus}
 use Rattle.reference.specs.Claims.{Ready, restarts, Agrees, carries-none, the-same, Acceptable, ReadsBack, Round-trip}
+use Rattle.reference.proofs.Snapshot.{of-update}
 use Rattle.reference.proofs.Outcome.{or-none, ready-open, acceptable-taken}
 use Rattle.reference.proofs.Carried.{said-carries}
 use Rattle.reference.proofs.Runs.{Steps, stays, moves, steps, Reached, reached, reached-step, reached-opened}
-use Rattle.settings.proofs.Depth.{good-depth}
+use Rattle.settings.proofs.Depth.{good-depth, good-rules}
 
 -- ---- a sorted side, set level by level on an empty one and ranked, is the side
 
@@ -167,11 +170,11 @@ understood t s m h = go (checked t s) refl h
     go (passes l) q g =
         let e : messageOf s l ≡ m = cc in
         let f = also-framed t s l q in
-        let b = append-none (badTexts (l .snapshot) s (l .bids .rows)) (badTexts (l .snapshot) s (l .asks .rows)) (f .1) in
+        let b = append-none (badTexts (isSnapshot (l .kind)) s (l .bids .rows)) (badTexts (isSnapshot (l .kind)) s (l .asks .rows)) (f .1) in
         let w = framed-lies t s l (f .0) in
         subst Understood e (record {
-          bids = texts-offers (l .snapshot) s (l .bids .rows) (b .0);
-          asks = texts-offers (l .snapshot) s (l .asks .rows) (b .1);
+          bids = texts-offers (isSnapshot (l .kind)) s (l .bids .rows) (b .0);
+          asks = texts-offers (isSnapshot (l .kind)) s (l .asks .rows) (b .1);
           small = w .small;
           low = w .low;
         })
@@ -184,11 +187,11 @@ pub record SaneSide (side : Side) (depth : ℕ) (s : List PriceLevel) : Type 0 w
   pub few : length s ≤ depth
 
 pub record Sane (p : Reference) : Type 0 where
-  pub bids : SaneSide Bids (p .config .depth) (p .bids)
-  pub asks : SaneSide Asks (p .config .depth) (p .asks)
-  pub small : p .number < 10 ^ 19
+  pub bids : SaneSide Bids (p .config .depth) (p .last .sides .bids)
+  pub asks : SaneSide Asks (p .config .depth) (p .last .sides .asks)
+  pub small : p .last .number < 10 ^ 19
   -- an M book's checksum was compared with one that a message carried
-  pub low : p .config .dialect ≡ M → mChecksum (p .bids) (p .asks) ≤ 4294967295
+  pub low : p .config .dialect ≡ M → checksumOf (rulesOf M) (p .last .sides) ≤ 4294967295
 
 empty-sane : (side : Side) (depth : ℕ) → SaneSide side depth []
 unfolding Sorted All
@@ -205,59 +208,55 @@ module _ (t : Config) (g : good t ≡ true) (side : Side) (qs : List LevelChange
   worked-fine : All ValidLevel (ranked shownPrice side worked)
   worked-fine = all-ranked shownPrice ValidLevel side worked (all-applyAll shownPrice ValidLevel (map editOf qs) base (offer-edits qs o) (h .fine))
 
-  after-sane : (t .dialect ≡ M → length (afterChanges t side qs base) ≤ 100) → SaneSide side (t .depth) (afterChanges t side qs base)
-  unfolding afterChanges cut isM
-  after-sane few = go (good-readable t g) refl few (good-depth t g .1)
+  after-sane : length (afterChanges t side qs base) ≤ rulesOf (t .dialect) .levels → SaneSide side (t .depth) (afterChanges t side qs base)
+  unfolding afterChanges
+  after-sane few = at (rulesOf (t .dialect) .cut) few (good-rules t g .1)
     where
-      go : {d : Dialect} → Readable d → t .dialect ≡ d → (t .dialect ≡ M → length (cut (t .dialect) (t .depth) (ranked shownPrice side worked)) ≤ 100) → (isM (t .dialect) ≡ true → t .depth ≡ 100)
-          → SaneSide side (t .depth) (cut (t .dialect) (t .depth) (ranked shownPrice side worked))
-      go is-k e f x =
+      at : (b : Bool) → length (cond b (take (t .depth) (ranked shownPrice side worked)) (ranked shownPrice side worked)) ≤ rulesOf (t .dialect) .levels
+          → (b ≡ false → t .depth ≡ rulesOf (t .dialect) .levels)
+          → SaneSide side (t .depth) (cond b (take (t .depth) (ranked shownPrice side worked)) (ranked shownPrice side worked))
+      at true f x =
           let n = length-take (t .depth) (ranked shownPrice side worked) in
-          rw e (record { sorted = sorted-take shownPrice side (t .depth) (ranked shownPrice side worked) worked-sorted; fine = all-take ValidLevel (t .depth) (ranked shownPrice side worked) worked-fine; few = omega arith })
-      go is-m e f x =
-          let y : t .depth ≡ 100 = x (ap isM e) in
-          let l : length (cut (t .dialect) (t .depth) (ranked shownPrice side worked)) ≤ 100 = f e in
-          let l′ : length (ranked shownPrice side worked) ≤ 100 = subst (λ (d : Dialect). length (cut d (t .depth) (ranked shownPrice side worked)) ≤ 100) e l in
-          rw e (record { sorted = worked-sorted; fine = worked-fine; few = omega arith })
+          record { sorted = sorted-take shownPrice side (t .depth) (ranked shownPrice side worked) worked-sorted; fine = all-take ValidLevel (t .depth) (ranked shownPrice side worked) worked-fine; few = omega arith }
+      at false f x = let e = x refl in record { sorted = worked-sorted; fine = worked-fine; few = omega arith }
 
 sane-opened : (t : Config) → Sane (opened t)
-unfolding opened mChecksum mChecksumText interleaved colonJoined crc run
+unfolding opened rulesOf checksumOf checksumText mChecksumText interleaved colonJoined crc run
 sane-opened t = record { bids = empty-sane Bids (kept t .depth); asks = empty-sane Asks (kept t .depth); small = lit< tt; low = λ e. none-low }
   where
-    none-low : mChecksum [] [] ≤ 4294967295
-    none-low = let e : mChecksum [] [] ≡ 0 = refl in omega arith
+    none-low : checksumOf (rulesOf M) (record { bids = []; asks = [] }) ≤ 4294967295
+    none-low = let e : checksumOf (rulesOf M) (record { bids = []; asks = [] }) ≡ 0 = refl in omega arith
 
 module _ (p : Reference) (s : List ℕ) (m : Message) (q : decode (p .config) s ≡ decodes m) (a : Acceptable p m) (g : good (p .config) ≡ true) (h : Sane p) where
   u : Understood m
   u = understood (p .config) s m q
 
-  bids-sane : SaneSide Bids (p .config .depth) (bidsAfter p m)
-  unfolding bidsAfter
-  bids-sane = at (m .snapshot) refl
+  bids-sane : SaneSide Bids (p .config .depth) (sidesAfter p m .bids)
+  unfolding sidesAfter
+  bids-sane = at (isSnapshot (m .kind)) refl
     where
-      at : (b : Bool) → m .snapshot ≡ b → SaneSide Bids (p .config .depth) (afterChanges (p .config) Bids (m .bids) (cond (m .snapshot) [] (p .bids)))
-      at true e = after-sane (p .config) g Bids (m .bids) (cond (m .snapshot) [] (p .bids)) (rw e (empty-sane Bids (p .config .depth))) (u .bids) (λ k. a .few k .0)
-      at false e = after-sane (p .config) g Bids (m .bids) (cond (m .snapshot) [] (p .bids)) (rw e (h .bids)) (u .bids) (λ k. a .few k .0)
+      at : (b : Bool) → isSnapshot (m .kind) ≡ b → SaneSide Bids (p .config .depth) (afterChanges (p .config) Bids (m .bids) (cond (isSnapshot (m .kind)) [] (p .last .sides .bids)))
+      at true e = after-sane (p .config) g Bids (m .bids) (cond (isSnapshot (m .kind)) [] (p .last .sides .bids)) (rw e (empty-sane Bids (p .config .depth))) (u .bids) (a .few .0)
+      at false e = after-sane (p .config) g Bids (m .bids) (cond (isSnapshot (m .kind)) [] (p .last .sides .bids)) (rw e (h .bids)) (u .bids) (a .few .0)
 
-  asks-sane : SaneSide Asks (p .config .depth) (asksAfter p m)
-  unfolding asksAfter
-  asks-sane = at (m .snapshot) refl
+  asks-sane : SaneSide Asks (p .config .depth) (sidesAfter p m .asks)
+  unfolding sidesAfter
+  asks-sane = at (isSnapshot (m .kind)) refl
     where
-      at : (b : Bool) → m .snapshot ≡ b → SaneSide Asks (p .config .depth) (afterChanges (p .config) Asks (m .asks) (cond (m .snapshot) [] (p .asks)))
-      at true e = after-sane (p .config) g Asks (m .asks) (cond (m .snapshot) [] (p .asks)) (rw e (empty-sane Asks (p .config .depth))) (u .asks) (λ k. a .few k .1)
-      at false e = after-sane (p .config) g Asks (m .asks) (cond (m .snapshot) [] (p .asks)) (rw e (h .asks)) (u .asks) (λ k. a .few k .1)
+      at : (b : Bool) → isSnapshot (m .kind) ≡ b → SaneSide Asks (p .config .depth) (afterChanges (p .config) Asks (m .asks) (cond (isSnapshot (m .kind)) [] (p .last .sides .asks)))
+      at true e = after-sane (p .config) g Asks (m .asks) (cond (isSnapshot (m .kind)) [] (p .last .sides .asks)) (rw e (empty-sane Asks (p .config .depth))) (u .asks) (a .few .1)
+      at false e = after-sane (p .config) g Asks (m .asks) (cond (isSnapshot (m .kind)) [] (p .last .sides .asks)) (rw e (h .asks)) (u .asks) (a .few .1)
 
-  taken-low : p .config .dialect ≡ M → mChecksum (bidsAfter p m) (asksAfter p m) ≤ 4294967295
-  unfolding checksumOf
+  taken-low : p .config .dialect ≡ M → checksumOf (rulesOf M) (sidesAfter p m) ≤ 4294967295
   taken-low e = go (a .checksum)
     where
-      go : Agrees (m .checksum) (checksumOf (p .config .dialect) (bidsAfter p m) (asksAfter p m)) → mChecksum (bidsAfter p m) (asksAfter p m) ≤ 4294967295
+      go : Agrees (m .checksum) (checksumOf (rules p) (sidesAfter p m)) → checksumOf (rulesOf M) (sidesAfter p m) ≤ 4294967295
       go (carries-none c) =
           let k = said-carries (p .config) s m q .compared c .0 in
           let z : _≡_ {A = Dialect} M K = sym e ∙ k in
           let w : _≡_ {A = ℕ} 1 0 = ap (λ (d : Dialect). elim d [ K ↦ 0 | M ↦ 1 | Unknown ↦ 2 ]) z in
           absurd (omega arith)
-      go (the-same c) = u .low (mChecksum (bidsAfter p m) (asksAfter p m)) (c ∙ ap printed (rw e))
+      go (the-same c) = u .low (checksumOf (rulesOf M) (sidesAfter p m)) (c ∙ ap (λ (d : Dialect). printed (checksumOf (rulesOf d) (sidesAfter p m))) e)
 
   sane-taken : Sane (taken p m)
   unfolding taken
@@ -292,15 +291,16 @@ sane t cs = sane-final t (opened t) cs (reached-opened t) (sane-opened t)
 -- the snapshot of a sane side gives the side again
 module _ (t : Config) (g : good t ≡ true) (side : Side) (l : List PriceLevel) (h : SaneSide side (t .depth) l) where
   pub back : afterChanges t side (map levelChangeOf l) [] ≡ l
-  unfolding afterChanges cut
-  back = go (good-readable t g) refl
+  unfolding afterChanges
+  back = at (rulesOf (t .dialect) .cut)
     where
       is : ranked shownPrice side (applyAll shownPrice (map editOf (map levelChangeOf l)) []) ≡ l
       is = ap (λ (x : List (Edit PriceLevel)). ranked shownPrice side (applyAll shownPrice x [])) (fine-sets l (h .fine)) ∙ side-back side l (h .sorted)
 
-      go : {d : Dialect} → Readable d → t .dialect ≡ d → cut (t .dialect) (t .depth) (ranked shownPrice side (applyAll shownPrice (map editOf (map levelChangeOf l)) [])) ≡ l
-      go is-k e = rw e (ap (take (t .depth)) is ∙ take-all (t .depth) l (h .few))
-      go is-m e = rw e is
+      at : (b : Bool) → cond b (take (t .depth) (ranked shownPrice side (applyAll shownPrice (map editOf (map levelChangeOf l)) [])))
+          (ranked shownPrice side (applyAll shownPrice (map editOf (map levelChangeOf l)) [])) ≡ l
+      at true = ap (take (t .depth)) is ∙ take-all (t .depth) l (h .few)
+      at false = is
 
   pub back-fine : Valid l
   back-fine = let d = good-depth t g .0 in let f = h .few in record { few = omega arith; each = each-fine l (h .fine) }
@@ -310,7 +310,7 @@ module _ (t : Config) (g : good t ≡ true) (side : Side) (l : List PriceLevel) 
 
 -- the message that a snapshot of a book is
 snapshotOf : Reference → Printed → Message
-snapshotOf p c = record { snapshot = true; bids = map levelChangeOf (p .bids); asks = map levelChangeOf (p .asks); checksum = c; number = p .number }
+snapshotOf p c = record { kind = Snapshot; bids = map levelChangeOf (p .last .sides .bids); asks = map levelChangeOf (p .last .sides .asks); checksum = c; number = p .last .number }
 
 module _ (t : Config) (p : Reference) (r : Reached t p) (h : Sane p) (g : good t ≡ true) where
   same-terms : p .config ≡ t
@@ -321,49 +321,46 @@ module _ (t : Config) (p : Reference) (r : Reached t p) (h : Sane p) (g : good t
   unfolding opened kept
   open-terms = rw g
 
-  abbrev at-bids : SaneSide Bids (t .depth) (p .bids)
-  at-bids = subst (λ (x : Config). SaneSide Bids (x .depth) (p .bids)) same-terms (h .bids)
+  abbrev at-bids : SaneSide Bids (t .depth) (p .last .sides .bids)
+  at-bids = subst (λ (x : Config). SaneSide Bids (x .depth) (p .last .sides .bids)) same-terms (h .bids)
 
-  abbrev at-asks : SaneSide Asks (t .depth) (p .asks)
-  at-asks = subst (λ (x : Config). SaneSide Asks (x .depth) (p .asks)) same-terms (h .asks)
+  abbrev at-asks : SaneSide Asks (t .depth) (p .last .sides .asks)
+  at-asks = subst (λ (x : Config). SaneSide Asks (x .depth) (p .last .sides .asks)) same-terms (h .asks)
 
   module _ (c : Printed) where
-    bids-back : bidsAfter (opened t) (snapshotOf p c) ≡ p .bids
-    unfolding bidsAfter snapshotOf
-    bids-back = rw open-terms (back t g Bids (p .bids) at-bids)
+    sides-back : sidesAfter (opened t) (snapshotOf p c) ≡ p .last .sides
+    unfolding sidesAfter snapshotOf isSnapshot
+    sides-back =
+        rw open-terms (ap₂ (λ (x y : List PriceLevel). record { bids = x; asks = y }) (back t g Bids (p .last .sides .bids) at-bids) (back t g Asks (p .last .sides .asks) at-asks))
 
-    asks-back : asksAfter (opened t) (snapshotOf p c) ≡ p .asks
-    unfolding asksAfter snapshotOf
-    asks-back = rw open-terms (back t g Asks (p .asks) at-asks)
-
-    acceptable-back : Agrees c (checksumOf (t .dialect) (p .bids) (p .asks)) → Acceptable (opened t) (snapshotOf p c)
-    unfolding snapshotOf opened
+    acceptable-back : Agrees c (checksumOf (rulesOf (t .dialect)) (p .last .sides)) → Acceptable (opened t) (snapshotOf p c)
+    unfolding snapshotOf opened isSnapshot
     acceptable-back x =
-        let bf = back-fine t g Bids (p .bids) at-bids .few in
-        let af = back-fine t g Asks (p .asks) at-asks .few in
+        let d = good-rules t g .0 in
+        let bf = at-bids .few in
+        let af = at-asks .few in
         record {
           ready = restarts open-status refl;
-          once = λ e. (back-once t g Bids (p .bids) at-bids, back-once t g Asks (p .asks) at-asks);
-          newer = λ e n. absurd (true≢false n);
-          few = λ e. (rw bids-back bf, rw asks-back af);
-          checksum = rw (bids-back, asks-back, open-terms) x;
+          once = λ e. (back-once t g Bids (p .last .sides .bids) at-bids, back-once t g Asks (p .last .sides .asks) at-asks);
+          newer = λ e n. absurd (true≢false (of-update n));
+          few = rw (sides-back, open-terms) (omega arith, omega arith);
+          checksum = rw (sides-back, open-terms) x;
         }
       where
         open-status : opened t .status ≡ waiting
         open-status = rw g
 
-    read-back : decode t (snapshotText p) ≡ decodes (snapshotOf p c) → Agrees c (checksumOf (t .dialect) (p .bids) (p .asks)) → ReadsBack t p
-    unfolding taken snapshotOf
+    read-back : decode t (snapshotText p) ≡ decodes (snapshotOf p c) → Agrees c (checksumOf (rulesOf (t .dialect)) (p .last .sides)) → ReadsBack t p
+    unfolding taken snapshotOf isSnapshot
     read-back q x =
         let q′ : decode (opened t .config) (snapshotText p) ≡ decodes (snapshotOf p c) = subst (λ (y : Config). decode y (snapshotText p) ≡ decodes (snapshotOf p c)) (sym open-terms) q in
         let e = acceptable-taken (opened t) (snapshotText p) (snapshotOf p c) q′ (acceptable-back x) in
         record {
           answer = ap (λ (y : After). y .answer) e;
           status = ap (λ (y : After). y .book .status) e;
-          bids = ap (λ (y : After). y .book .bids) e ∙ bids-back;
-          asks = ap (λ (y : After). y .book .asks) e ∙ asks-back;
-          number = ap (λ (y : After). y .book .number) e;
-          updates = ap (λ (y : After). y .book .updates) e;
+          sides = ap (λ (y : After). y .book .last .sides) e ∙ sides-back;
+          number = ap (λ (y : After). y .book .last .number) e;
+          updates = ap (λ (y : After). y .book .last .updates) e;
         }
 
   -- ---- dialect by dialect
@@ -380,25 +377,25 @@ module _ (t : Config) (p : Reference) (r : Reached t p) (h : Sane p) (g : good t
   k-back e =
       let i = in-dialect K e in
       let g′ : good (record { dialect = K; depth = t .depth; name = t .name }) ≡ true = subst (λ (x : Config). good x ≡ true) (sym i) g in
-      let w = k-round-trip (t .depth) (t .name) (p .bids) (p .asks) g′ (back-fine t g Bids (p .bids) at-bids) (back-fine t g Asks (p .asks) at-asks) in
-      let n : p .number ≡ 0 = r .number (ap (λ (x : Config). x .dialect) (sym (r .config) ∙ same-terms) ∙ e) in
-      let x : snapshotText p ≡ kSnapshot (t .depth) (t .name) (p .bids) (p .asks) = text-in K e ∙ ap (λ (y : Config). kSnapshot (y .depth) (y .name) (p .bids) (p .asks)) same-terms in
+      let w = k-round-trip (t .depth) (t .name) (p .last .sides .bids) (p .last .sides .asks) g′ (back-fine t g Bids (p .last .sides .bids) at-bids) (back-fine t g Asks (p .last .sides .asks) at-asks) in
+      let n : p .last .number ≡ 0 = r .number (ap (λ (x : Config). x .dialect) (sym (r .config) ∙ same-terms) ∙ e) in
+      let x : snapshotText p ≡ kSnapshot (t .depth) (t .name) (p .last .sides .bids) (p .last .sides .asks) = text-in K e ∙ ap (λ (y : Config). kSnapshot (y .depth) (y .name) (p .last .sides .bids) (p .last .sides .asks)) same-terms in
       let q : decode t (snapshotText p) ≡ decodes (snapshotOf p unprinted) = ap₂ decode (sym i) x ∙ w ∙ rw n in
       read-back unprinted q (carries-none refl)
 
   m-back : t .dialect ≡ M → ReadsBack t p
-  unfolding snapshotOf textIn isM checksumOf
+  unfolding snapshotOf textIn isM
   m-back e =
       let i = in-dialect M e in
       let d : t .depth ≡ 100 = good-depth t g .1 (ap isM e) in
       let j : record { dialect = M; depth = 100; name = t .name } ≡ t = ap (λ (x : ℕ). record { dialect = M; depth = x; name = t .name }) (sym d) ∙ i in
       let g′ : good (record { dialect = M; depth = 100; name = t .name }) ≡ true = subst (λ (x : Config). good x ≡ true) (sym j) g in
-      let sum : ℕ = mChecksum (p .bids) (p .asks) in
+      let sum : ℕ = checksumOf (rulesOf M) (p .last .sides) in
       let low = h .low (ap (λ (x : Config). x .dialect) same-terms ∙ e) in
-      let w = m-round-trip (t .name) (p .bids) (p .asks) sum (p .number) g′ (back-fine t g Bids (p .bids) at-bids) (back-fine t g Asks (p .asks) at-asks) low (h .small) in
-      let x : snapshotText p ≡ mSnapshot (t .name) (p .bids) (p .asks) sum (p .number) = text-in M e ∙ ap (λ (y : Config). mSnapshot (y .name) (p .bids) (p .asks) sum (p .number)) same-terms in
+      let w = m-round-trip (t .name) (p .last .sides .bids) (p .last .sides .asks) sum (p .last .number) g′ (back-fine t g Bids (p .last .sides .bids) at-bids) (back-fine t g Asks (p .last .sides .asks) at-asks) low (h .small) in
+      let x : snapshotText p ≡ mSnapshot (t .name) (p .last .sides .bids) (p .last .sides .asks) sum (p .last .number) = text-in M e ∙ ap (λ (y : Config). mSnapshot (y .name) (p .last .sides .bids) (p .last .sides .asks) sum (p .last .number)) same-terms in
       let q : decode t (snapshotText p) ≡ decodes (snapshotOf p (printed sum)) = ap₂ decode (sym j) x ∙ w in
-      read-back (printed sum) q (the-same (rw e))
+      read-back (printed sum) q (the-same (ap (λ (x : Dialect). printed (checksumOf (rulesOf x) (p .last .sides))) (sym e)))
 
   pub either-back : ReadsBack t p
   either-back = go (good-readable t g) refl

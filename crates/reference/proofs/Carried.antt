@@ -12,10 +12,12 @@ use Rattle.settings.specs.Settings.{Config}
 use Rattle.settings.specs.declared.Dialect.{Dialect}
 use Rattle.settings.specs.declared.Dialect.the-variants.{K, M, Unknown}
 use Rattle.entries.specs.Places.{andThen, all, top, arrayAt, objectAt, valuesOf, only, wholeAt, checksumAt, quotedChecksumAt}
+use Rattle.layout.specs.declared.Kind.{Kind}
+use Rattle.layout.specs.declared.Kind.the-variants.{Snapshot, Update}
 use Rattle.layout.specs.Layout.{Printed, printed, unprinted, Listed, Layout, Envelope, laid}
 use Rattle.message_k.specs.LayoutK.{Frame, frameOf, together, isSnapshot, isUpdate, objectsLayout, layoutK, envelopeK}
 use Rattle.message_k.specs.LayoutK as k·
-use Rattle.message_m.specs.LayoutM.{isSnapshotAt, layoutM, envelopeM}
+use Rattle.message_m.specs.LayoutM.{kindAt, layoutM, envelopeM}
 use Rattle.message_m.specs.LayoutM as m·
 use Rattle.message.specs.Meaning.{Message, decodes, decode, Checked, fails, passes, envelopeIn, checked, decodedOf, messageOf}
 use Rattle.reference.specs.Claims.{Carries}
@@ -29,17 +31,20 @@ then-read P (reads a) next h = h a
 then-read P refused next h = tt
 
 abbrev Carrying : Dialect → Layout → Type 0
-Carrying d l = Carries d (l .snapshot) (l .checksum) (l .number)
+Carrying d l = Carries d (l .kind) (l .checksum) (l .number)
 
-laid-carries : (d : Dialect) (snapshot : Bool) (sum : Printed) (number : ℕ) (bids asks : Reading Listed) → Carries d snapshot sum number
-    → Read (Carrying d) (laid snapshot sum number bids asks)
+laid-carries : (d : Dialect) (kind : Kind) (sum : Printed) (number : ℕ) (bids asks : Reading Listed) → Carries d kind sum number
+    → Read (Carrying d) (laid kind sum number bids asks)
 unfolding laid
-laid-carries d snapshot sum number bids asks h = then-read (Carrying d) bids _ (λ b. then-read (Carrying d) asks _ (λ a. h))
+laid-carries d kind sum number bids asks h = then-read (Carrying d) bids _ (λ b. then-read (Carrying d) asks _ (λ a. h))
 
 -- ---- the dialects
 
 not-unprinted : {A : Type 0} (n : ℕ) → printed n ≡ unprinted → A
 not-unprinted n h = let z : _≡_ {A = ℕ} 0 1 = cc in absurd (omega arith)
+
+update-not : {A : Type 0} → Update ≡ Snapshot → A
+update-not h = let z : _≡_ {A = ℕ} 0 1 = cc in absurd (omega arith)
 
 m-not-k : {A : Type 0} → M ≡ K → A
 m-not-k h = let z : _≡_ {A = ℕ} 0 1 = cc in absurd (omega arith)
@@ -49,17 +54,17 @@ unfolding objectsLayout
 objects-carry s objects = at (isSnapshot s objects) (isUpdate s objects)
   where
     at : (a b : Bool) → Read (Carrying K)
-        (cond a (laid true unprinted 0 (k·.listedIn s (ascii "bs") objects) (k·.listedIn s (ascii "as") objects))
+        (cond a (laid Snapshot unprinted 0 (k·.listedIn s (ascii "bs") objects) (k·.listedIn s (ascii "as") objects))
         (cond b (andThen (only (valuesOf s (ascii "c") (together objects))) (λ c.
-        andThen (quotedChecksumAt s c) (λ sum. laid false (printed sum) 0 (k·.listedIn s (ascii "b") objects) (k·.listedIn s (ascii "a") objects)))) refused))
+        andThen (quotedChecksumAt s c) (λ sum. laid Update (printed sum) 0 (k·.listedIn s (ascii "b") objects) (k·.listedIn s (ascii "a") objects)))) refused))
     at true b =
-        laid-carries K true unprinted 0 (k·.listedIn s (ascii "bs") objects) (k·.listedIn s (ascii "as") objects)
+        laid-carries K Snapshot unprinted 0 (k·.listedIn s (ascii "bs") objects) (k·.listedIn s (ascii "as") objects)
         (record { compared = λ e. (refl, refl); none = λ e h. refl; number = λ e. refl })
     at false true =
         then-read (Carrying K) (only (valuesOf s (ascii "c") (together objects))) _ (λ c.
         then-read (Carrying K) (quotedChecksumAt s c) _ (λ sum.
-        laid-carries K false (printed sum) 0 (k·.listedIn s (ascii "b") objects) (k·.listedIn s (ascii "a") objects)
-        (record { compared = λ e. not-unprinted sum e; none = λ e h. absurd (false≢true h); number = λ e. refl })))
+        laid-carries K Update (printed sum) 0 (k·.listedIn s (ascii "b") objects) (k·.listedIn s (ascii "a") objects)
+        (record { compared = λ e. not-unprinted sum e; none = λ e h. update-not h; number = λ e. refl })))
     at false false = tt
 
 k-carries : (s : List ℕ) (f : Frame) → Read (Carrying K) (layoutK s f)
@@ -72,14 +77,14 @@ m-carries s ms =
     then-read P (only (valuesOf s (ascii "channel") ms)) _ (λ c.
     then-read P (only (valuesOf s (ascii "product") ms)) _ (λ p.
     then-read P (only (valuesOf s (ascii "type") ms)) _ (λ t.
-    then-read P (isSnapshotAt s t) _ (λ snapshot.
+    then-read P (kindAt s t) _ (λ kind.
     then-read P (only (valuesOf s (ascii "data") ms)) _ (λ d.
     then-read P (objectAt 15 s d) _ (λ ds.
     then-read P (only (valuesOf s (ascii "checksum") ms)) _ (λ k.
     then-read P (checksumAt s k) _ (λ sum.
     then-read P (only (valuesOf s (ascii "gsn") ms)) _ (λ g.
     then-read P (wholeAt s g) _ (λ number.
-    laid-carries M snapshot (printed sum) number (m·.listedIn s (ascii "bids") ds) (m·.listedIn s (ascii "asks") ds)
+    laid-carries M kind (printed sum) number (m·.listedIn s (ascii "bids") ds) (m·.listedIn s (ascii "asks") ds)
     (record { compared = λ e. not-unprinted sum e; none = λ e h. m-not-k e; number = λ e. m-not-k e })))))))))))
   where
     P : Layout → Type 0
@@ -96,13 +101,13 @@ heard-carries Unknown t s a = tt
 
 -- ---- the message
 
-pub said-carries : (t : Config) (s : List ℕ) (m : Message) → decode t s ≡ decodes m → Carries (t .dialect) (m .snapshot) (m .checksum) (m .number)
+pub said-carries : (t : Config) (s : List ℕ) (m : Message) → decode t s ≡ decodes m → Carries (t .dialect) (m .kind) (m .checksum) (m .number)
 unfolding decode decodedOf messageOf
 said-carries t s m h = go (checked t s) (checked-either (λ a. Unit {0}) (Carrying (t .dialect)) none t s (heard-carries (t .dialect) t s (top s))) h
   where
     none : Refusals (λ a. Unit {0})
     none = record { long = tt; not-json = tt; escaped = tt; not-ours = tt; layout = tt; entries = tt; decimal = tt }
 
-    go : (x : Checked) → Either (λ a. Unit {0}) (Carrying (t .dialect)) x → decodedOf s x ≡ decodes m → Carries (t .dialect) (m .snapshot) (m .checksum) (m .number)
+    go : (x : Checked) → Either (λ a. Unit {0}) (Carrying (t .dialect)) x → decodedOf s x ≡ decodes m → Carries (t .dialect) (m .kind) (m .checksum) (m .number)
     go (passes l) r g = let e : messageOf s l ≡ m = cc in rw (← e) r
     go (fails a) r g = let z : _≡_ {A = ℕ} 0 1 = cc in absurd (omega arith)

@@ -8,9 +8,10 @@ use lib.ListN.{length}
 use Rattle.decimal.specs.Digits.{Reading, reads, refused}
 use Rattle.json.specs.Json.{Span, text}
 use Rattle.settings.specs.Settings.{Config}
+use Rattle.settings.specs.Rules.{rulesOf}
 use Rattle.entries.specs.Places.{top}
 use Rattle.layout.specs.Layout.{Layout, Envelope}
-use Rattle.message.specs.Meaning.{Checked, fails, passes, tooMany, counted, laidOut, addressed, envelopeIn, framed, bad, decimals, alsoDecimals, checked, maxMessage}
+use Rattle.message.specs.Meaning.{Checked, fails, passes, tooMany, counted, laidOut, addressed, envelopeIn, framed, bad, decimals, alsoDecimals, checked}
 use Rattle.answer.specs.declared.Answer.{Answer}
 use Rattle.answer.specs.declared.Answer.the-variants.{TooLong, NotJson, Escaped, NotOurs, BadLayout, TooManyEntries, BadDecimal}
 
@@ -33,32 +34,32 @@ Either F P (fails a) = F a
 Either F P (passes l) = P l
 
 module _ (F : Answer → Type 0) (P : Layout → Type 0) (f : Refusals F) where
-  laid-either : (x : Reading Layout) → Read P x → Either F P (laidOut x)
+  laid-either : (most : ℕ) (x : Reading Layout) → Read P x → Either F P (laidOut most x)
   unfolding laidOut counted
-  laid-either (reads l) h = at (tooMany l)
+  laid-either most (reads l) h = at (tooMany most l)
     where
       at : (b : Bool) → Either F P (cond b (fails TooManyEntries) (passes l))
       at true = f .entries
       at false = h
-  laid-either refused h = f .layout
+  laid-either most refused h = f .layout
 
-  addressed-either : (x : Reading Envelope) → Read (λ h. Read P (h .layout)) x → Either F P (addressed x)
+  addressed-either : (most : ℕ) (x : Reading Envelope) → Read (λ h. Read P (h .layout)) x → Either F P (addressed most x)
   unfolding addressed
-  addressed-either (reads h) r = at (h .escaped) (h .ours)
+  addressed-either most (reads h) r = at (h .escaped) (h .ours)
     where
-      at : (a b : Bool) → Either F P (cond a (fails Escaped) (cond b (laidOut (h .layout)) (fails NotOurs)))
+      at : (a b : Bool) → Either F P (cond a (fails Escaped) (cond b (laidOut most (h .layout)) (fails NotOurs)))
       at true b = f .escaped
-      at false true = laid-either (h .layout) r
+      at false true = laid-either most (h .layout) r
       at false false = f .not-ours
-  addressed-either refused r = f .not-ours
+  addressed-either most refused r = f .not-ours
 
   framed-either : (t : Config) (s : List ℕ) → Read (λ h. Read P (h .layout)) (envelopeIn (t .dialect) t s (top s)) → Either F P (framed t s)
   unfolding framed
-  framed-either t s r = at (ltb maxMessage (length s)) (text s)
+  framed-either t s r = at (ltb (rulesOf (t .dialect) .longest) (length s)) (text s)
     where
-      at : (a b : Bool) → Either F P (cond a (fails TooLong) (cond b (addressed (envelopeIn (t .dialect) t s (top s))) (fails NotJson)))
+      at : (a b : Bool) → Either F P (cond a (fails TooLong) (cond b (addressed (rulesOf (t .dialect) .entries) (envelopeIn (t .dialect) t s (top s))) (fails NotJson)))
       at true b = f .long
-      at false true = addressed-either (envelopeIn (t .dialect) t s (top s)) r
+      at false true = addressed-either (rulesOf (t .dialect) .entries) (envelopeIn (t .dialect) t s (top s)) r
       at false false = f .not-json
 
   decimals-either : (s : List ℕ) (x : Checked) → Either F P x → Either F P (alsoDecimals s x)

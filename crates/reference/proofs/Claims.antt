@@ -11,25 +11,31 @@ use Rattle.answer.proofs.Laws.{not-taken, other-answer, taken-answer}
 use Rattle.message.specs.Meaning.{Message, decodes, decode}
 use Rattle.answer.specs.declared.Answer.{Answer}
 use Rattle.answer.specs.declared.Answer.the-variants.{Taken}
-use Rattle.reference.specs.Reference.{Status, shut, waiting, live, isShut, isLive, Reference, opened, taken, After, receive, asked, askedLevel, levelAsked, askedWriting, level, amount, Reply, Ask, message, howMany, levelAt, whichNumber, howManyUpdates, write, does, Call, repliesTo, final, withStatus}
+use Rattle.reference.specs.Reference.{Status, shut, waiting, live, isShut, isLive, Reference, opened, taken, After, receive, Question, howMany, levelAt, whichNumber, howManyUpdates, write, zeros, Response, respond, refusal, replied, Reply, Ask, message, question, does, Call, repliesTo, final, withStatus}
+use lib.ListN.{length}
+use Rattle.decimal.specs.Buffer.{overlaid}
+use Rattle.decimal.proofs.Buffer.{overlaid-none}
+use Rattle.layout.specs.Layout.{isSnapshot}
+use Rattle.layout.specs.declared.Kind.the-variants.{Snapshot, Update}
+use Rattle.reference.proofs.Snapshot.{of-snapshot, of-update}
 use Rattle.reference.proofs.Back.{reached-back}
-use Rattle.reference.specs.Claims.{Round-trip, zeros, statusAfter, Refused, Demand-1, Ready, is-live, restarts, Acceptable, Demand-2, All-compared, call, From-snapshot, takenIn, takenOf, anySnapshot, sinceSnapshot, rebuilt, Latest-snapshot, K-number, prices, No-price}
+use Rattle.reference.specs.Claims.{Round-trip, statusAfter, Refused, Demand-1, Ready, is-live, restarts, Acceptable, Demand-2, All-compared, call, From-snapshot, takenIn, takenOf, anySnapshot, sinceSnapshot, rebuilt, Latest-snapshot, K-number, prices, No-price}
 use Rattle.reference.proofs.Carried.{said-carries}
 use Rattle.reference.proofs.Outcome.{Outcome, is-refused, is-accepted, outcome, acceptable-taken, ready-open, or-none}
-use Rattle.reference.proofs.Questions.{isMessage, no-message, question-one, if-refused, no-answer}
+use Rattle.reference.proofs.Questions.{question-one, zeros-again, no-answer}
 use Rattle.reference.proofs.Runs.{Steps, stays, moves, steps, Reached, opened-waits, reached, run-append, taken-fresh, acceptable-fresh, final-rebuilt, rebuilt-ever, since-begins, since-rebuilt, begins-live}
 
 -- ---- demand 1
 
-module _ (p : Reference) (ask : Ask) (buffer : List ℕ) (h : isMessage ask ≡ false) where
-  of-question : oneOf toQuestions (answerNumber (does p ask buffer .answer)) ≡ true
+module _ (p : Reference) (q : Question) (buffer : List ℕ) where
+  of-question : oneOf toQuestions (answerNumber (does p (question q) buffer .answer)) ≡ true
   unfolding answerNumber oneOf
-  of-question = question-one (λ a. oneOf toQuestions (answerNumber a) ≡ true) refl refl refl refl refl p ask buffer h
+  of-question = question-one (λ a. oneOf toQuestions (answerNumber a) ≡ true) refl refl refl refl refl p q buffer
 
   -- a refused question leaves the status
-  leaves : isTaken (does p ask buffer .answer) ≡ false → leavesStatus (does p ask buffer .answer) ≡ true
+  leaves : isTaken (does p (question q) buffer .answer) ≡ false → leavesStatus (does p (question q) buffer .answer) ≡ true
   unfolding oneOf isTaken leavesStatus answerNumber
-  leaves = question-one (λ a. isTaken a ≡ false → leavesStatus a ≡ true) (λ k. absurd (true≢false k)) (λ k. refl) (λ k. refl) (λ k. refl) (λ k. refl) p ask buffer h
+  leaves = question-one (λ a. isTaken a ≡ false → leavesStatus a ≡ true) (λ k. absurd (true≢false k)) (λ k. refl) (λ k. refl) (λ k. refl) (λ k. refl) p q buffer
 
 of-message : (p : Reference) (s buffer : List ℕ) → oneOf toMessages (answerNumber (does p (message s) buffer .answer)) ≡ true
 unfolding does answerNumber oneOf
@@ -39,58 +45,60 @@ of-message p s buffer = go (outcome p s)
     go (is-refused n l k e) = l
     go (is-accepted m q a e) = rw (e, answerNumber, oneOf)
 
-question : (p : Reference) (ask : Ask) (buffer : List ℕ) → isMessage ask ≡ false → does p ask buffer .after ≡ p
-unfolding does isMessage
-question p (message s) buffer h = absurd (true≢false h)
-question p (howMany scope) buffer h = refl
-question p (levelAt scope side i) buffer h = refl
-question p (whichNumber scope) buffer h = refl
-question p (howManyUpdates scope) buffer h = refl
-question p write buffer h = refl
-
-all-but-status : (p : Reference) (ask : Ask) (lent : List ℕ) (r : Reply) → r .after ≡ withStatus (statusAfter (r .answer) (p .status)) p → r .value ≡ zeros ask
-    → r .buffer ≡ lent → Refused p ask lent r
+all-but-status : (p : Reference) (lent : List ℕ) (r : Reply) → r .after ≡ withStatus (statusAfter (r .answer) (p .status)) p → r .value ≡ zeros (r .value)
+    → r .buffer ≡ lent → Refused p lent r
 unfolding withStatus
-all-but-status p ask lent r e v b =
-    record { config = rw e; status = rw e; bids = rw e; asks = rw e; number = rw e; updates = rw e; had-snapshot = rw e; value = v; buffer = b }
+all-but-status p lent r e v b = record { config = rw e; status = rw e; last = rw e; had-snapshot = rw e; value = v; buffer = b }
 
-by-question : (p : Reference) (ask : Ask) (lent : List ℕ) → isMessage ask ≡ false → isTaken (does p ask lent .answer) ≡ false → does p ask lent .value ≡ zeros ask
-    → does p ask lent .buffer ≡ lent → Refused p ask lent (does p ask lent)
-unfolding statusAfter withStatus
-by-question p ask lent h n v b = all-but-status p ask lent (does p ask lent) (question p ask lent h ∙ rw (leaves p ask lent h n, statusAfter)) v b
-
-refused : (p : Reference) (ask : Ask) (buffer : List ℕ) → isTaken (does p ask buffer .answer) ≡ false → Refused p ask buffer (does p ask buffer)
-unfolding does isMessage zeros levelAsked
+refused : (p : Reference) (ask : Ask) (buffer : List ℕ) → isTaken (does p ask buffer .answer) ≡ false → Refused p buffer (does p ask buffer)
+unfolding does replied zeros statusAfter withStatus
 refused p (message s) buffer h = go (outcome p s)
   where
-    go : Outcome p s → Refused p (message s) buffer (does p (message s) buffer)
-    go (is-refused n l k e) = all-but-status p (message s) buffer (does p (message s) buffer) e refl refl
+    go : Outcome p s → Refused p buffer (does p (message s) buffer)
+    go (is-refused n l k e) = all-but-status p buffer (does p (message s) buffer) e refl refl
     go (is-accepted m q a e) = absurd (not-taken (receive p s .answer) h (ap (λ (x : After). x .answer) e))
-refused p (howMany scope) buffer h = by-question p (howMany scope) buffer refl h (if-refused (asked scope p) _ _ h) refl
-refused p (levelAt scope side i) buffer h =
-    by-question p (levelAt scope side i) buffer refl h (ap level (if-refused (askedLevel scope side i p) _ _ h)) refl
-refused p (whichNumber scope) buffer h = by-question p (whichNumber scope) buffer refl h (ap amount (if-refused (asked scope p) _ _ h)) refl
-refused p (howManyUpdates scope) buffer h = by-question p (howManyUpdates scope) buffer refl h (ap amount (if-refused (asked scope p) _ _ h)) refl
-refused p write buffer h =
-    by-question p write buffer refl h (ap amount (if-refused (askedWriting p buffer) _ _ h)) (if-refused (askedWriting p buffer) _ _ h)
+refused p (question q) buffer h =
+    let r = respond p (length buffer) q in
+    let l = leaves p q buffer h in
+    all-but-status p buffer (does p (question q) buffer) (rw (l, statusAfter)) (rw h (sym (zeros-again (r .value)))) (rw h)
 
-others-buffer : (p : Reference) (ask : Ask) (buffer : List ℕ) → (ask ≡ write → ⊥) → does p ask buffer .buffer ≡ buffer
-unfolding does
+-- a question but for the writer writes nothing
+no-text : (p : Reference) (room : ℕ) (q : Question) → (q ≡ write → ⊥) → respond p room q .text ≡ []
+unfolding respond
+no-text p room (howMany scope) h = refl
+no-text p room (levelAt scope side i) h = refl
+no-text p room (whichNumber scope) h = refl
+no-text p room (howManyUpdates scope) h = refl
+no-text p room write h = absurd (h refl)
+
+others-buffer : (p : Reference) (ask : Ask) (buffer : List ℕ) → (ask ≡ question write → ⊥) → does p ask buffer .buffer ≡ buffer
+unfolding does replied
 others-buffer p (message s) buffer h = refl
-others-buffer p (howMany scope) buffer h = refl
-others-buffer p (levelAt scope side i) buffer h = refl
-others-buffer p (whichNumber scope) buffer h = refl
-others-buffer p (howManyUpdates scope) buffer h = refl
-others-buffer p write buffer h = absurd (h refl)
+others-buffer p (question q) buffer h = at (isTaken (refusal p r))
+  where
+    r : Response
+    r = respond p (length buffer) q
+
+    at : (b : Bool) → cond b (overlaid buffer 0 (r .text)) buffer ≡ buffer
+    at true = ap (overlaid buffer 0) (no-text p (length buffer) q (λ e. h (ap question e))) ∙ overlaid-none buffer 0
+    at false = refl
+
+-- the buffer after a question but for the writer, where it is one that is asked
+pub same-buffer : (p : Reference) (q : Question) (buffer : List ℕ) → (q ≡ write → ⊥) → buffer ≡ does p (question q) buffer .buffer
+same-buffer p q buffer h = sym (others-buffer p (question q) buffer (λ e. h (asked-same e)))
+  where
+    asked-same : {x y : Question} → question x ≡ question y → x ≡ y
+    asked-same e = cc
 
 pub demand-1 : Demand-1
-demand-1 p ask buffer =
+unfolding does replied
+demand-1 p buffer =
     record {
-      of-message = λ s e. rw e (of-message p s buffer);
-      of-question = λ h. of-question p ask buffer (no-message ask h);
-      refused = λ h. refused p ask buffer (other-answer (does p ask buffer .answer) h);
-      question = λ h. question p ask buffer (no-message ask h);
-      others-buffer = others-buffer p ask buffer;
+      of-message = λ s. of-message p s buffer;
+      of-question = λ q. of-question p q buffer;
+      refused = λ ask h. refused p ask buffer (other-answer (does p ask buffer .answer) h);
+      unchanged = λ q. refl;
+      others-buffer = λ ask. others-buffer p ask buffer;
     }
 
 -- ---- demand 2
@@ -116,7 +124,7 @@ all-compared = said-carries
 
 -- ---- from a taken snapshot on
 
-opened-ready : (t : Config) (m : Message) → isShut (opened t .status) ≡ false → m .snapshot ≡ true → Ready (opened t) m
+opened-ready : (t : Config) (m : Message) → isShut (opened t .status) ≡ false → m .kind ≡ Snapshot → Ready (opened t) m
 unfolding opened isShut
 opened-ready t m u k = restarts (at (good t) u) k
   where
@@ -124,7 +132,7 @@ opened-ready t m u k = restarts (at (good t) u) k
     at true h = refl
     at false h = absurd (true≢false h)
 
-module _ (t : Config) (p : Reference) (r : Reached t p) (s : List ℕ) (m : Message) (q : decode (kept t) s ≡ decodes m) (k : m .snapshot ≡ true) where
+module _ (t : Config) (p : Reference) (r : Reached t p) (s : List ℕ) (m : Message) (q : decode (kept t) s ≡ decodes m) (k : m .kind ≡ Snapshot) where
   hear-new : Acceptable p m → receive p s ≡ receive (opened t) s
   unfolding opened
   hear-new a =
@@ -192,19 +200,19 @@ k-number t cs h = reached t cs .number h
 -- ---- no current price
 
 -- a book that is not live takes only a snapshot
-needs-snapshot : (p : Reference) (m : Message) → isLive (p .status) ≡ false → Acceptable p m → m .snapshot ≡ true
+needs-snapshot : (p : Reference) (m : Message) → isLive (p .status) ≡ false → Acceptable p m → m .kind ≡ Snapshot
 needs-snapshot p m h a = go (a .ready)
   where
-    go : Ready p m → m .snapshot ≡ true
+    go : Ready p m → m .kind ≡ Snapshot
     go (is-live e) = absurd (true≢false (sym (is-live-true (p .status) e) ∙ h))
     go (restarts e k) = k
 
-no-update : (p : Reference) (s : List ℕ) (m : Message) → isLive (p .status) ≡ false → decode (p .config) s ≡ decodes m → m .snapshot ≡ false → receive p s .answer ≡ Taken → ⊥
+no-update : (p : Reference) (s : List ℕ) (m : Message) → isLive (p .status) ≡ false → decode (p .config) s ≡ decodes m → m .kind ≡ Update → receive p s .answer ≡ Taken → ⊥
 no-update p s m h q k t = go (outcome p s)
   where
     go : Outcome p s → ⊥
     go (is-refused n b l e) = not-taken (receive p s .answer) n t
-    go (is-accepted n d a e) = let same : n ≡ m = cc in true≢false (sym (needs-snapshot p m h (rw same at a)) ∙ k)
+    go (is-accepted n d a e) = let same : n ≡ m = cc in true≢false (sym (of-snapshot (needs-snapshot p m h (rw same at a))) ∙ of-update k)
 
 -- and stays so until then
 module _ (p q : Reference) (ask : Ask) (ms : List Message) (h : isLive (p .status) ≡ false) (n : anySnapshot (takenIn p ask ++ ms) ≡ false) where
@@ -215,7 +223,7 @@ module _ (p q : Reference) (ask : Ask) (ms : List Message) (h : isLive (p .statu
       dark : (b : Bool) → (b ≡ true → isLive (p .status) ≡ true) → b ≡ false
       dark true g = absurd (true≢false (sym (g refl) ∙ h))
       dark false g = refl
-  still-waits (moves s m d a t e) = absurd (true≢false (sym (needs-snapshot p m h a) ∙ or-none (m .snapshot) (anySnapshot ms) (rw t at n) .0))
+  still-waits (moves s m d a t e) = absurd (true≢false (sym (of-snapshot (needs-snapshot p m h a)) ∙ or-none (isSnapshot (m .kind)) (anySnapshot ms) (rw t at n) .0))
 
 not-live : (p : Reference) (cs : List Call) → isLive (p .status) ≡ false → anySnapshot (takenOf p cs) ≡ false → prices p cs ≡ []
 unfolding prices takenOf

@@ -1,4 +1,6 @@
--- In reading order: the chain of checks; what a message makes of a book; questions; what messages carry; lists of calls; the round trip; the claims.
+-- In reading order: kinds of messages; checksums; the chain of checks; what a message makes of a book; questions; what messages carry; lists of calls; the round trip; the claims.
+pub mod Snapshot
+pub mod Sums
 pub mod Checks
 pub mod Outcome
 pub mod Questions

@@ -10,18 +10,19 @@ use lib.Dec.{leb, ltb, eqb}
 use lib.ListN.{length}
 use Rattle.decimal.specs.Digits.{Reading, reads, refused}
 use Rattle.settings.specs.Settings.{Config}
-use Rattle.settings.specs.declared.Dialect.{Dialect}
-use Rattle.settings.specs.declared.Dialect.the-variants.{K, M, Unknown}
+use Rattle.settings.specs.declared.Rules.{Rules}
 use Rattle.level.specs.Side.{namesTwice}
 use Rattle.entries.specs.Places.{top}
-use Rattle.layout.specs.Layout.{Printed, printed, unprinted, Layout, Envelope}
+use Rattle.layout.specs.declared.Kind.{Kind}
+use Rattle.layout.specs.declared.Kind.the-variants.{Snapshot, Update}
+use Rattle.layout.specs.Layout.{isSnapshot, Printed, printed, unprinted, Layout, Envelope}
 use Rattle.answer.specs.Answers.{answerNumber, oneOf, toMessages, isTaken, leavesStatus}
 use Rattle.answer.proofs.Laws.{taken-answer}
 use Rattle.message.specs.Meaning.{Message, Decoded, refuses, decodes, decode, Checked, fails, passes, envelopeIn, checked, decodedOf}
 use Rattle.answer.specs.declared.Answer.{Answer}
 use Rattle.answer.specs.declared.Answer.the-variants.{Taken, Shut, TooLong, NotJson, Escaped, NotOurs, BadLayout, TooManyEntries, BadDecimal, PriceTwice, NoSnapshot, OldNumber, TooManyLevels, WrongChecksum, NoLevel, NoRoom}
-use Rattle.reference.specs.Reference.{Status, shut, waiting, live, isShut, isLive, Reference, checksumOf, pricesOf, namesPriceTwice, lacksSnapshot, isOld, hasTooMany, differs, hasWrongChecksum, bidsAfter, asksAfter, verdict, taken, withStatus, refusedBy, answered, received, receive}
-use Rattle.settings.specs.Settings.{isM}
+use Rattle.reference.specs.Reference.{Status, shut, waiting, live, isShut, isLive, Reference, rules, checksumOf, pricesOf, namesPriceTwice, lacksSnapshot, isOld, hasTooMany, differs, hasWrongChecksum, sidesAfter, verdict, taken, withStatus, refusedBy, answered, received, receive}
+use Rattle.reference.proofs.Snapshot.{of-snapshot, of-update, a-snapshot, an-update}
 use Rattle.reference.proofs.Checks.{Refusals, Read, Either, checked-either}
 use Rattle.reference.specs.Claims.{statusAfter, Ready, is-live, restarts, Agrees, carries-none, the-same, Acceptable}
 
@@ -74,16 +75,13 @@ or-none false b h = (refl, h)
 neither : (a b : Bool) → a ≡ false → b ≡ false → (a || b) ≡ false
 neither a b h k = rw (h, k)
 
--- a test that counts only in M
-in-m : (d : Dialect) (b : Bool) → (isM d && b) ≡ false → d ≡ M → b ≡ false
-unfolding isM
-in-m d b h e = rw (e, isM) at h
+-- a test that counts only where a rule holds
+where-rule : (a b : Bool) → (a && b) ≡ false → a ≡ true → b ≡ false
+where-rule a b h e = rw e at h
 
-only-m : (d : Dialect) (b : Bool) → (d ≡ M → b ≡ false) → (isM d && b) ≡ false
-unfolding isM
-only-m K b h = refl
-only-m M b h = h refl
-only-m Unknown b h = refl
+only-where : (a b : Bool) → (a ≡ true → b ≡ false) → (a && b) ≡ false
+only-where true b h = h refl
+only-where false b h = refl
 
 differs-none : (c : Printed) (sum : ℕ) → differs c sum ≡ false → Agrees c sum
 unfolding differs
@@ -125,11 +123,11 @@ module _ (p : Reference) (m : Message) where
 
   ready-from : isShut (p .status) ≡ false → lacksSnapshot p m ≡ false → Ready p m
   unfolding lacksSnapshot isShut isLive
-  ready-from u h = go (p .status) (m .snapshot) refl refl u h
+  ready-from u h = go (p .status) (isSnapshot (m .kind)) refl refl u h
     where
-      go : (st : Status) (b : Bool) → p .status ≡ st → m .snapshot ≡ b → isShut st ≡ false → (not b && not (isLive st)) ≡ false → Ready p m
+      go : (st : Status) (b : Bool) → p .status ≡ st → isSnapshot (m .kind) ≡ b → isShut st ≡ false → (not b && not (isLive st)) ≡ false → Ready p m
       go shut b e k u h = absurd (true≢false u)
-      go waiting true e k u h = restarts e k
+      go waiting true e k u h = restarts e (a-snapshot (m .kind) k)
       go waiting false e k u h = absurd (true≢false h)
       go live b e k u h = is-live e
 
@@ -140,53 +138,52 @@ module _ (p : Reference) (m : Message) where
 
   ready-has : Ready p m → lacksSnapshot p m ≡ false
   unfolding lacksSnapshot isLive
-  ready-has (is-live e) = rw (e, lacksSnapshot, isLive) (at (m .snapshot))
+  ready-has (is-live e) = rw (e, lacksSnapshot, isLive) (at (isSnapshot (m .kind)))
     where
       at : (b : Bool) → (not b && false) ≡ false
       at true = refl
       at false = refl
-  ready-has (restarts e k) = rw (k, lacksSnapshot)
+  ready-has (restarts e k) = rw (of-snapshot k, lacksSnapshot)
 
   verdict-acceptable : isShut (p .status) ≡ false → isTaken (verdict p m) ≡ true → Acceptable p m
   unfolding verdict namesPriceTwice isOld hasTooMany hasWrongChecksum
   verdict-acceptable u h =
       let f = none-fits (namesPriceTwice m) (lacksSnapshot p m) (isOld p m) (hasTooMany p m) (hasWrongChecksum p m) h in
-      let d : Dialect = p .config .dialect in
       record {
         ready = ready-from u (f .1);
-        once = λ k. or-none (namesTwice (pricesOf (m .bids))) (namesTwice (pricesOf (m .asks))) (rw k at (f .0));
-        newer = λ e k. leb-false (m .number) (p .number) (rw k at (in-m d (not (m .snapshot) && leb (m .number) (p .number)) (f .2) e));
-        few = λ e.
-            let o = or-none (ltb 100 (length (bidsAfter p m))) (ltb 100 (length (asksAfter p m))) (in-m d _ (f .3) e) in
-            (ltb-false 100 (length (bidsAfter p m)) (o .0), ltb-false 100 (length (asksAfter p m)) (o .1));
-        checksum = differs-none (m .checksum) (checksumOf d (bidsAfter p m) (asksAfter p m)) (f .4);
+        once = λ k. or-none (namesTwice (pricesOf (m .bids))) (namesTwice (pricesOf (m .asks))) (rw (of-snapshot k) at (f .0));
+        newer = λ e k. leb-false (m .number) (p .last .number) (rw (of-update k) at (where-rule (rules p .numbered) (not (isSnapshot (m .kind)) && leb (m .number) (p .last .number)) (f .2) e));
+        few =
+            let o = or-none (ltb (rules p .levels) (length (sidesAfter p m .bids))) (ltb (rules p .levels) (length (sidesAfter p m .asks))) (f .3) in
+            (ltb-false (rules p .levels) (length (sidesAfter p m .bids)) (o .0), ltb-false (rules p .levels) (length (sidesAfter p m .asks)) (o .1));
+        checksum = differs-none (m .checksum) (checksumOf (rules p) (sidesAfter p m)) (f .4);
       }
 
   acceptable-once : Acceptable p m → namesPriceTwice m ≡ false
   unfolding namesPriceTwice
-  acceptable-once a = at (m .snapshot) refl
+  acceptable-once a = at (isSnapshot (m .kind)) refl
     where
-      at : (b : Bool) → m .snapshot ≡ b → (b && (namesTwice (pricesOf (m .bids)) || namesTwice (pricesOf (m .asks)))) ≡ false
-      at true k = neither _ _ (a .once k .0) (a .once k .1)
+      at : (b : Bool) → isSnapshot (m .kind) ≡ b → (b && (namesTwice (pricesOf (m .bids)) || namesTwice (pricesOf (m .asks)))) ≡ false
+      at true k = let e = a .once (a-snapshot (m .kind) k) in neither _ _ (e .0) (e .1)
       at false k = refl
 
   acceptable-newer : Acceptable p m → isOld p m ≡ false
   unfolding isOld
-  acceptable-newer a = only-m (p .config .dialect) _ (λ e. at (m .snapshot) refl e)
+  acceptable-newer a = only-where (rules p .numbered) _ (λ e. at (isSnapshot (m .kind)) refl e)
     where
-      at : (b : Bool) → m .snapshot ≡ b → p .config .dialect ≡ M → (not b && leb (m .number) (p .number)) ≡ false
+      at : (b : Bool) → isSnapshot (m .kind) ≡ b → rules p .numbered ≡ true → (not b && leb (m .number) (p .last .number)) ≡ false
       at true k e = refl
-      at false k e = lt-leb (m .number) (p .number) (a .newer e k)
+      at false k e = lt-leb (m .number) (p .last .number) (a .newer e (an-update (m .kind) k))
 
   acceptable-few : Acceptable p m → hasTooMany p m ≡ false
   unfolding hasTooMany
   acceptable-few a =
-      only-m (p .config .dialect) _ (λ e. neither _ _ (le-ltb 100 (length (bidsAfter p m)) (a .few e .0)) (le-ltb 100 (length (asksAfter p m)) (a .few e .1)))
+      neither _ _ (le-ltb (rules p .levels) (length (sidesAfter p m .bids)) (a .few .0)) (le-ltb (rules p .levels) (length (sidesAfter p m .asks)) (a .few .1))
 
   acceptable-verdict : Acceptable p m → verdict p m ≡ Taken
   unfolding verdict hasWrongChecksum
   acceptable-verdict a =
-      let h = agrees-same (m .checksum) (checksumOf (p .config .dialect) (bidsAfter p m) (asksAfter p m)) (a .checksum) in
+      let h = agrees-same (m .checksum) (checksumOf (rules p) (sidesAfter p m)) (a .checksum) in
       rw (acceptable-once a, ready-has (a .ready), acceptable-newer a, acceptable-few a, h)
 
 -- ---- a message is refused or taken

@@ -11,8 +11,11 @@ use Rattle.answer.specs.Answers.{answerNumber, isTaken, leavesStatus}
 use Rattle.message.specs.Meaning.{Message, Decoded, refuses, decodes, decode}
 use Rattle.answer.specs.declared.Answer.{Answer}
 use Rattle.answer.specs.declared.Answer.the-variants.{Taken}
-use Rattle.reference.specs.Reference.{Status, shut, waiting, live, isShut, isLive, Reference, opened, bidsAfter, asksAfter, taken, After, receive, Reply, Ask, message, howMany, levelAt, whichNumber, howManyUpdates, write, does, Call, repliesTo, final, withStatus}
+use Rattle.reference.specs.Reference.{Status, shut, waiting, live, isShut, isLive, Reference, opened, rules, sidesAfter, taken, After, receive, Question, Reply, Ask, message, question, does, replied, Call, repliesTo, final, withStatus}
 use Rattle.reference.specs.Claims.{statusAfter, Ready, is-live, restarts, Acceptable, ifAnswered, takenIn, takenOf, anySnapshot, sinceSnapshot, Begins, begins, rebuilt}
+use Rattle.layout.specs.Layout.{isSnapshot}
+use Rattle.layout.specs.declared.Kind.the-variants.{Snapshot}
+use Rattle.reference.proofs.Snapshot.{of-snapshot, of-update, a-snapshot}
 use Rattle.reference.proofs.Carried.{said-carries}
 use Rattle.reference.proofs.Outcome.{Outcome, is-refused, is-accepted, outcome, ready-open}
 
@@ -34,18 +37,14 @@ none-taken a (refuses b) h = refl
 none-taken a (decodes m) h = rw h
 
 pub steps : (p : Reference) (ask : Ask) (buffer : List ℕ) → Steps p ask (does p ask buffer .after)
-unfolding does takenIn withStatus statusAfter ifAnswered isTaken
+unfolding does replied takenIn withStatus statusAfter ifAnswered isTaken
 steps p (message s) buffer = go (outcome p s)
   where
     go : Outcome p s → Steps p (message s) (receive p s .book)
     go (is-refused h n k e) =
         stays (statusAfter (receive p s .answer) (p .status)) k (refused-live (leavesStatus (receive p s .answer)) (p .status)) (none-taken (receive p s .answer) (decode (p .config) s) h) e
     go (is-accepted m q a e) = moves s m q a (rw (e, q, is-taken Taken refl)) (ap (λ (x : After). x .book) e)
-steps p (howMany scope) buffer = stays (p .status) refl (λ h. h) refl refl
-steps p (levelAt scope side i) buffer = stays (p .status) refl (λ h. h) refl refl
-steps p (whichNumber scope) buffer = stays (p .status) refl (λ h. h) refl refl
-steps p (howManyUpdates scope) buffer = stays (p .status) refl (λ h. h) refl refl
-steps p write buffer = stays (p .status) refl (λ h. h) refl refl
+steps p (question q) buffer = stays (p .status) refl (λ h. h) refl refl
 
 -- ---- what every book that is reached has: the settings it was opened with, shut or not as it was opened, live only after a snapshot, in K no number
 
@@ -53,7 +52,7 @@ pub record Reached (t : Config) (p : Reference) : Type 0 where
   pub config : p .config ≡ kept t
   pub shut : isShut (p .status) ≡ isShut (opened t .status)
   pub had-snapshot : isLive (p .status) ≡ true → p .had-snapshot ≡ true
-  pub number : kept t .dialect ≡ K → p .number ≡ 0
+  pub number : kept t .dialect ≡ K → p .last .number ≡ 0
 
 reached-taken : (t : Config) (p : Reference) (s : List ℕ) (m : Message) → decode (p .config) s ≡ decodes m → Acceptable p m → Reached t p → Reached t (taken p m)
 unfolding taken isShut isLive
@@ -65,9 +64,9 @@ reached-taken t p s m q a r =
       number = λ k. said-carries (p .config) s m q .number (rw (r .config) k);
     }
   where
-    go : Ready p m → (m .snapshot || p .had-snapshot) ≡ true
-    go (is-live e) = rw (r .had-snapshot (rw e)) (or-true (m .snapshot))
-    go (restarts e k) = rw k
+    go : Ready p m → (isSnapshot (m .kind) || p .had-snapshot) ≡ true
+    go (is-live e) = rw (r .had-snapshot (rw e)) (or-true (isSnapshot (m .kind)))
+    go (restarts e k) = rw (of-snapshot k)
 
 pub reached-step : (t : Config) (p : Reference) (ask : Ask) (q : Reference) → Steps p ask q → Reached t p → Reached t q
 unfolding withStatus
@@ -104,33 +103,29 @@ run-append p (c ∷ cs) ds = ap (λ (rs : List Reply). does p (c .ask) (c .buffe
 
 -- ---- a snapshot makes the same of every book with the same settings
 
-module _ (p q : Reference) (m : Message) (k : m .snapshot ≡ true) (h : p .config ≡ q .config) where
-  bids-fresh : bidsAfter p m ≡ bidsAfter q m
-  unfolding bidsAfter
-  bids-fresh = rw (k, h)
-
-  asks-fresh : asksAfter p m ≡ asksAfter q m
-  unfolding asksAfter
-  asks-fresh = rw (k, h)
+module _ (p q : Reference) (m : Message) (k : m .kind ≡ Snapshot) (h : p .config ≡ q .config) where
+  sides-fresh : sidesAfter p m ≡ sidesAfter q m
+  unfolding sidesAfter
+  sides-fresh = rw (of-snapshot k, h)
 
   pub taken-fresh : taken p m ≡ taken q m
   unfolding taken
-  taken-fresh = rw (bids-fresh, asks-fresh, k, h)
+  taken-fresh = rw (sides-fresh, of-snapshot k, h)
 
   pub acceptable-fresh : Ready q m → Acceptable p m → Acceptable q m
   acceptable-fresh r a =
       record {
         ready = r;
         once = a .once;
-        newer = λ e n. absurd (true≢false (sym k ∙ n));
-        few = λ e. rw (← bids-fresh, ← asks-fresh) (a .few (rw h e));
-        checksum = rw (← bids-fresh, ← asks-fresh, ← h) (a .checksum);
+        newer = λ e n. absurd (true≢false (sym (of-snapshot k) ∙ of-update n));
+        few = rw (← sides-fresh, ← h) (a .few);
+        checksum = rw (← sides-fresh, ← h) (a .checksum);
       }
 
 -- ---- the messages that made a book
 
 rebuilt-status : (x y : Status) (p : Reference) (ms : List Message) → withStatus x (rebuilt (withStatus y p) ms) ≡ withStatus x (rebuilt p ms)
-unfolding withStatus rebuilt taken bidsAfter asksAfter
+unfolding withStatus rebuilt taken sidesAfter
 rebuilt-status x y p [] = refl
 rebuilt-status x y p (m ∷ ms) = refl
 
@@ -150,28 +145,28 @@ final-rebuilt p (c ∷ cs) =
 pub rebuilt-ever : (p : Reference) (ms : List Message) → rebuilt p ms .had-snapshot ≡ (anySnapshot ms || p .had-snapshot)
 unfolding rebuilt anySnapshot taken
 rebuilt-ever p [] = refl
-rebuilt-ever p (m ∷ ms) = rebuilt-ever (taken p m) ms ∙ sym (or-assoc (anySnapshot ms) (m .snapshot) (p .had-snapshot)) ∙ ap (λ (b : Bool). b || p .had-snapshot) (or-comm (anySnapshot ms) (m .snapshot))
+rebuilt-ever p (m ∷ ms) = rebuilt-ever (taken p m) ms ∙ sym (or-assoc (anySnapshot ms) (isSnapshot (m .kind)) (p .had-snapshot)) ∙ ap (λ (b : Bool). b || p .had-snapshot) (or-comm (anySnapshot ms) (isSnapshot (m .kind)))
 
 pub since-begins : (ms : List Message) → anySnapshot ms ≡ true → Begins (sinceSnapshot ms)
 unfolding anySnapshot sinceSnapshot
 since-begins [] h = absurd (false≢true h)
-since-begins (m ∷ ms) h = go (anySnapshot ms) (m .snapshot) refl refl h (since-begins ms)
+since-begins (m ∷ ms) h = go (anySnapshot ms) (isSnapshot (m .kind)) refl refl h (since-begins ms)
   where
-    go : (a b : Bool) → anySnapshot ms ≡ a → m .snapshot ≡ b → (b || a) ≡ true → (anySnapshot ms ≡ true → Begins (sinceSnapshot ms))
+    go : (a b : Bool) → anySnapshot ms ≡ a → isSnapshot (m .kind) ≡ b → (b || a) ≡ true → (anySnapshot ms ≡ true → Begins (sinceSnapshot ms))
         → Begins (cond a (sinceSnapshot ms) (cond b (m ∷ ms) []))
     go true b n k h later = later n
-    go false true n k h later = begins m ms k n
+    go false true n k h later = begins m ms (a-snapshot (m .kind) k) n
     go false false n k h later = absurd (false≢true h)
 
 pub since-rebuilt : (p q : Reference) (ms : List Message) → p .config ≡ q .config → anySnapshot ms ≡ true → rebuilt p ms ≡ rebuilt q (sinceSnapshot ms)
 unfolding anySnapshot sinceSnapshot rebuilt taken
 since-rebuilt p q [] e h = absurd (false≢true h)
-since-rebuilt p q (m ∷ ms) e h = go (anySnapshot ms) (m .snapshot) refl refl h (since-rebuilt (taken p m) q ms e)
+since-rebuilt p q (m ∷ ms) e h = go (anySnapshot ms) (isSnapshot (m .kind)) refl refl h (since-rebuilt (taken p m) q ms e)
   where
-    go : (a b : Bool) → anySnapshot ms ≡ a → m .snapshot ≡ b → (b || a) ≡ true → (anySnapshot ms ≡ true → rebuilt (taken p m) ms ≡ rebuilt q (sinceSnapshot ms))
+    go : (a b : Bool) → anySnapshot ms ≡ a → isSnapshot (m .kind) ≡ b → (b || a) ≡ true → (anySnapshot ms ≡ true → rebuilt (taken p m) ms ≡ rebuilt q (sinceSnapshot ms))
         → rebuilt (taken p m) ms ≡ rebuilt q (cond a (sinceSnapshot ms) (cond b (m ∷ ms) []))
     go true b n k h later = later n
-    go false true n k h later = ap (λ (x : Reference). rebuilt x ms) (taken-fresh p q m k e)
+    go false true n k h later = ap (λ (x : Reference). rebuilt x ms) (taken-fresh p q m (a-snapshot (m .kind) k) e)
     go false false n k h later = absurd (false≢true h)
 
 live-rebuilt : (p : Reference) (ms : List Message) → p .status ≡ live → rebuilt p ms .status ≡ live

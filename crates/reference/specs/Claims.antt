@@ -7,56 +7,47 @@ use mathlib.Core.List.{List, [], _∷_, _++_}
 use lib.ListN.{length}
 use Rattle.settings.specs.Settings.{Config, kept}
 use Rattle.settings.specs.declared.Dialect.{Dialect}
-use Rattle.settings.specs.declared.Dialect.the-variants.{K, M}
+use Rattle.settings.specs.declared.Dialect.the-variants.{K}
 use Rattle.level.specs.Side.{namesTwice}
-use Rattle.layout.specs.Layout.{Printed, printed, unprinted}
+use Rattle.layout.specs.Layout.{isSnapshot, Printed, printed, unprinted}
+use Rattle.layout.specs.declared.Kind.{Kind}
+use Rattle.layout.specs.declared.Kind.the-variants.{Snapshot, Update}
 use Rattle.answer.specs.Answers.{answerNumber as numberOf, oneOf, toMessages, toQuestions, isTaken, leavesStatus}
 use Rattle.message.specs.Meaning.{Message, Decoded, refuses, decodes, decode}
 use Rattle.answer.specs.declared.Answer.{Answer}
 use Rattle.answer.specs.declared.Answer.the-variants.{Taken}
-use Rattle.reference.specs.Reference.{Status, waiting, live, withStatus, Reference, isLive, opened, bidsAfter, asksAfter, maxLevels, pricesOf, checksumOf, taken, receive, Value, nothing, counts, level, amount, Reply, noLevel, Ask, message, howMany, levelAt, whichNumber, howManyUpdates, write, does, Call, repliesTo, final, snapshotText}
+use Rattle.reference.specs.Reference.{Status, waiting, live, withStatus, Reference, rules, isLive, opened, sidesAfter, pricesOf, checksumOf, taken, receive, Question, write, zeros, respond, Reply, Ask, message, question, does, Call, repliesTo, final, snapshotText}
 use Rattle.reference.specs.declared.Scope.{Scope}
 use Rattle.reference.specs.declared.Scope.the-variants.{Current, LastGood}
 
 -- ---- demand 1: every call on every book has an answer of the table, and a refusal touches nothing but the status, as the table's last column says.
 -- Rules out a refusal that loses levels, a half-applied message, a value beside a refusal, and a question that changes something.
 
--- "A refused one answers 0 in place of every count, level, book number and length."
-unfoldable pub zeros : Ask → Value
-zeros (message s) = nothing
-zeros (howMany scope) = counts 0 0
-zeros (levelAt scope side i) = level noLevel
-zeros (whichNumber scope) = amount 0
-zeros (howManyUpdates scope) = amount 0
-zeros write = amount 0
-
 unfoldable pub statusAfter : Answer → Status → Status
 statusAfter a status = cond (leavesStatus a) status waiting
 
 -- "Waiting" keeps levels, number and count as last good.
-pub record Refused (p : Reference) (ask : Ask) (lent : List ℕ) (r : Reply) : Type 0 where
+pub record Refused (p : Reference) (lent : List ℕ) (r : Reply) : Type 0 where
   pub config : r .after .config ≡ p .config
   pub status : r .after .status ≡ statusAfter (r .answer) (p .status)
-  pub bids : r .after .bids ≡ p .bids
-  pub asks : r .after .asks ≡ p .asks
-  pub number : r .after .number ≡ p .number
-  pub updates : r .after .updates ≡ p .updates
+  pub last : r .after .last ≡ p .last
   pub had-snapshot : r .after .had-snapshot ≡ p .had-snapshot
-  pub value : r .value ≡ zeros ask
+  -- all zeros
+  pub value : r .value ≡ zeros (r .value)
   pub buffer : r .buffer ≡ lent
 
-pub record Demand1 (p : Reference) (ask : Ask) (buffer : List ℕ) : Type 0 where
+pub record Demand1 (p : Reference) (buffer : List ℕ) : Type 0 where
   -- "No number is given otherwise."
-  pub of-message : (s : List ℕ) → ask ≡ message s → oneOf toMessages (numberOf (does p ask buffer .answer)) ≡ true
-  pub of-question : ((s : List ℕ) → ask ≡ message s → ⊥) → oneOf toQuestions (numberOf (does p ask buffer .answer)) ≡ true
-  pub refused : (does p ask buffer .answer ≡ Taken → ⊥) → Refused p ask buffer (does p ask buffer)
+  pub of-message : (s : List ℕ) → oneOf toMessages (numberOf (does p (message s) buffer .answer)) ≡ true
+  pub of-question : (q : Question) → oneOf toQuestions (numberOf (does p (question q) buffer .answer)) ≡ true
+  pub refused : (ask : Ask) → (does p ask buffer .answer ≡ Taken → ⊥) → Refused p buffer (does p ask buffer)
   -- "Questions and the writer .. change no book", answered or not.
-  pub question : ((s : List ℕ) → ask ≡ message s → ⊥) → does p ask buffer .after ≡ p
+  pub unchanged : (q : Question) → does p (question q) buffer .after ≡ p
   -- Only the writer writes.
-  pub others-buffer : (ask ≡ write → ⊥) → does p ask buffer .buffer ≡ buffer
+  pub others-buffer : (ask : Ask) → (ask ≡ question write → ⊥) → does p ask buffer .buffer ≡ buffer
 
 abbrev pub Demand-1 : Type 0
-Demand-1 = (p : Reference) (ask : Ask) (buffer : List ℕ) → Demand1 p ask buffer
+Demand-1 = (p : Reference) (buffer : List ℕ) → Demand1 p buffer
 
 -- ---- demand 2: a message is taken exactly when it can be, and then the book is the one that the rules give.
 -- Rules out a book that refuses everything, one that takes what it should refuse, and one that answers 0 and leaves the book alone.
@@ -64,7 +55,7 @@ Demand-1 = (p : Reference) (ask : Ask) (buffer : List ℕ) → Demand1 p ask buf
 -- Live, or waiting and handed a snapshot.
 pub data Ready (p : Reference) (m : Message) : Type 0 where
   is-live : p .status ≡ live → Ready p m
-  restarts : p .status ≡ waiting → m .snapshot ≡ true → Ready p m
+  restarts : p .status ≡ waiting → m .kind ≡ Snapshot → Ready p m
 
 -- K snapshots carry no checksum; all others are compared.
 pub data Agrees (c : Printed) (sum : ℕ) : Type 0 where
@@ -74,13 +65,13 @@ pub data Agrees (c : Printed) (sum : ℕ) : Type 0 where
 pub record Acceptable (p : Reference) (m : Message) : Type 0 where
   pub ready : Ready p m
   -- A snapshot names no price twice on a side.
-  pub once : m .snapshot ≡ true → (namesTwice (pricesOf (m .bids)) ≡ false) × (namesTwice (pricesOf (m .asks)) ≡ false)
-  -- An M update's number is greater than the book's.
-  pub newer : p .config .dialect ≡ M → m .snapshot ≡ false → p .number < m .number
-  -- An M book has at most 100 levels a side afterwards.
-  pub few : p .config .dialect ≡ M → (length (bidsAfter p m) ≤ maxLevels) × (length (asksAfter p m) ≤ maxLevels)
+  pub once : m .kind ≡ Snapshot → (namesTwice (pricesOf (m .bids)) ≡ false) × (namesTwice (pricesOf (m .asks)) ≡ false)
+  -- Where messages are numbered, an update's number is greater than the book's.
+  pub newer : rules p .numbered ≡ true → m .kind ≡ Update → p .last .number < m .number
+  -- No more levels stand on a side afterwards than may.
+  pub few : (length (sidesAfter p m .bids) ≤ rules p .levels) × (length (sidesAfter p m .asks) ≤ rules p .levels)
   -- A checksum, if the message carries one, is that of the book afterwards.
-  pub checksum : Agrees (m .checksum) (checksumOf (p .config .dialect) (bidsAfter p m) (asksAfter p m))
+  pub checksum : Agrees (m .checksum) (checksumOf (rules p) (sidesAfter p m))
 
 pub record Demand2 (p : Reference) (s : List ℕ) : Type 0 where
   pub only-when : receive p s .answer ≡ Taken → (m : Message) × (decode (p .config) s ≡ decodes m) × Acceptable p m
@@ -91,13 +82,13 @@ abbrev pub Demand-2 : Type 0
 Demand-2 = (p : Reference) (s : List ℕ) → Demand2 p s
 
 -- "K snapshots carry no checksum; all others are compared", and a K message has no sequence number. Rules out a message that gets by for want of a checksum.
-pub record Carries (d : Dialect) (snapshot : Bool) (checksum : Printed) (sequence : ℕ) : Type 0 where
-  pub compared : checksum ≡ unprinted → (d ≡ K) × (snapshot ≡ true)
-  pub none : d ≡ K → snapshot ≡ true → checksum ≡ unprinted
+pub record Carries (d : Dialect) (kind : Kind) (checksum : Printed) (sequence : ℕ) : Type 0 where
+  pub compared : checksum ≡ unprinted → (d ≡ K) × (kind ≡ Snapshot)
+  pub none : d ≡ K → kind ≡ Snapshot → checksum ≡ unprinted
   pub number : d ≡ K → sequence ≡ 0
 
 abbrev pub All-compared : Type 0
-All-compared = (t : Config) (s : List ℕ) (m : Message) → decode t s ≡ decodes m → Carries (t .dialect) (m .snapshot) (m .checksum) (m .number)
+All-compared = (t : Config) (s : List ℕ) (m : Message) → decode t s ≡ decodes m → Carries (t .dialect) (m .kind) (m .checksum) (m .number)
 
 -- ---- demand 3, of lists of calls
 
@@ -107,7 +98,7 @@ call ask buffer = record { ask = ask; buffer = buffer }
 -- From any taken snapshot on, every reply, with every byte of buffer and the whole book afterwards, is what a new book with the same settings gives,
 -- handed that snapshot and what followed. Rules out a past that shows through a snapshot: an old level, number, count or gsn.
 abbrev pub From-snapshot : Type 0
-From-snapshot = (t : Config) (cs ds : List Call) (s buffer : List ℕ) (m : Message) → decode (kept t) s ≡ decodes m → m .snapshot ≡ true
+From-snapshot = (t : Config) (cs ds : List Call) (s buffer : List ℕ) (m : Message) → decode (kept t) s ≡ decodes m → m .kind ≡ Snapshot
     → receive (final (opened t) cs) s .answer ≡ Taken
     → repliesTo (opened t) (cs ++ (call (message s) buffer ∷ ds)) ≡ repliesTo (opened t) cs ++ repliesTo (opened t) (call (message s) buffer ∷ ds)
 
@@ -118,11 +109,7 @@ ifAnswered a (decodes m) = cond (isTaken a) (m ∷ []) []
 
 unfoldable pub takenIn : Reference → Ask → List Message
 takenIn p (message s) = ifAnswered (receive p s .answer) (decode (p .config) s)
-takenIn p (howMany scope) = []
-takenIn p (levelAt scope side i) = []
-takenIn p (whichNumber scope) = []
-takenIn p (howManyUpdates scope) = []
-takenIn p write = []
+takenIn p (question q) = []
 
 unfoldable pub takenOf : Reference → List Call → List Message
 takenOf p [] = []
@@ -130,15 +117,15 @@ takenOf p (c ∷ cs) = takenIn p (c .ask) ++ takenOf (does p (c .ask) (c .buffer
 
 unfoldable pub anySnapshot : List Message → Bool
 anySnapshot [] = false
-anySnapshot (m ∷ ms) = m .snapshot || anySnapshot ms
+anySnapshot (m ∷ ms) = isSnapshot (m .kind) || anySnapshot ms
 
 -- The latest snapshot and what follows it.
 unfoldable pub sinceSnapshot : List Message → List Message
 sinceSnapshot [] = []
-sinceSnapshot (m ∷ ms) = cond (anySnapshot ms) (sinceSnapshot ms) (cond (m .snapshot) (m ∷ ms) [])
+sinceSnapshot (m ∷ ms) = cond (anySnapshot ms) (sinceSnapshot ms) (cond (isSnapshot (m .kind)) (m ∷ ms) [])
 
 pub data Begins : List Message → Type 0 where
-  begins : (m : Message) (ms : List Message) → m .snapshot ≡ true → anySnapshot ms ≡ false → Begins (m ∷ ms)
+  begins : (m : Message) (ms : List Message) → m .kind ≡ Snapshot → anySnapshot ms ≡ false → Begins (m ∷ ms)
 
 -- The rules alone, message after message.
 unfoldable pub rebuilt : Reference → List Message → Reference
@@ -159,26 +146,22 @@ Latest-snapshot = (t : Config) (cs : List Call) → Latest t cs
 
 -- "A K book's number is always 0."
 abbrev pub K-number : Type 0
-K-number = (t : Config) (cs : List Call) → kept t .dialect ≡ K → final (opened t) cs .number ≡ 0
+K-number = (t : Config) (cs : List Call) → kept t .dialect ≡ K → final (opened t) cs .last .number ≡ 0
 
 -- "A current price is what the writer, or any of these questions but those on the last good book, gives with answer number 0."
 unfoldable pub isCurrent : Scope → Bool
 isCurrent Current = true
 isCurrent LastGood = false
 
-unfoldable pub asksPrice : Ask → Bool
-asksPrice (message s) = false
-asksPrice (howMany scope) = isCurrent scope
-asksPrice (levelAt scope side i) = isCurrent scope
-asksPrice (whichNumber scope) = isCurrent scope
-asksPrice (howManyUpdates scope) = isCurrent scope
-asksPrice write = true
+unfoldable pub asksPrice : Reference → Ask → Bool
+asksPrice p (message s) = false
+asksPrice p (question q) = isCurrent (respond p 0 q .scope)
 
 -- The replies of a list of calls that are current prices.
 unfoldable pub prices : Reference → List Call → List Reply
 prices p [] = []
 prices p (c ∷ cs) =
-    cond (asksPrice (c .ask) && isTaken (does p (c .ask) (c .buffer) .answer))
+    cond (asksPrice p (c .ask) && isTaken (does p (c .ask) (c .buffer) .answer))
     (does p (c .ask) (c .buffer) ∷ prices (does p (c .ask) (c .buffer) .after) cs)
     (prices (does p (c .ask) (c .buffer) .after) cs)
 
@@ -186,7 +169,7 @@ prices p (c ∷ cs) =
 -- Rules out a price from a book that the venue's checksum, or anything else, has put in doubt.
 pub record No-price : Type 0 where
   -- A book that is not live takes no update.
-  pub update : (p : Reference) (s : List ℕ) (m : Message) → isLive (p .status) ≡ false → decode (p .config) s ≡ decodes m → m .snapshot ≡ false
+  pub update : (p : Reference) (s : List ℕ) (m : Message) → isLive (p .status) ≡ false → decode (p .config) s ≡ decodes m → m .kind ≡ Update
       → receive p s .answer ≡ Taken → ⊥
   pub not-live : (p : Reference) (cs : List Call) → isLive (p .status) ≡ false → anySnapshot (takenOf p cs) ≡ false → prices p cs ≡ []
   pub at-first : (t : Config) (cs : List Call) → anySnapshot (takenOf (opened t) cs) ≡ false → prices (opened t) cs ≡ []
@@ -198,10 +181,9 @@ pub record No-price : Type 0 where
 pub record ReadsBack (t : Config) (p : Reference) : Type 0 where
   pub answer : receive (opened t) (snapshotText p) .answer ≡ Taken
   pub status : receive (opened t) (snapshotText p) .book .status ≡ live
-  pub bids : receive (opened t) (snapshotText p) .book .bids ≡ p .bids
-  pub asks : receive (opened t) (snapshotText p) .book .asks ≡ p .asks
-  pub number : receive (opened t) (snapshotText p) .book .number ≡ p .number
-  pub updates : receive (opened t) (snapshotText p) .book .updates ≡ 0
+  pub sides : receive (opened t) (snapshotText p) .book .last .sides ≡ p .last .sides
+  pub number : receive (opened t) (snapshotText p) .book .last .number ≡ p .last .number
+  pub updates : receive (opened t) (snapshotText p) .book .last .updates ≡ 0
 
 abbrev pub Round-trip : Type 0
 Round-trip = (t : Config) (cs : List Call) → isLive (final (opened t) cs .status) ≡ true → ReadsBack t (final (opened t) cs)

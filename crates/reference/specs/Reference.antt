@@ -7,15 +7,20 @@ use lib.Dec.{leb, ltb, eqb}
 use lib.ListN.{length, take, getD}
 use Rattle.decimal.specs.Decimal.{Number, isZero}
 use Rattle.decimal.specs.Buffer.{overlaid}
-use Rattle.settings.specs.Settings.{Config, isM, good, kept}
+use Rattle.settings.specs.Settings.{Config, good, kept}
+use Rattle.settings.specs.Rules.{rulesOf}
 use Rattle.settings.specs.declared.Dialect.{Dialect}
 use Rattle.settings.specs.declared.Dialect.the-variants.{K, M, Unknown}
+use Rattle.settings.specs.declared.Rules.{Rules}
+use Rattle.settings.specs.declared.SumText.{SumText}
+use Rattle.settings.specs.declared.SumText.the-variants.{Stripped, Interleaved}
 use Rattle.level.specs.Level.{PriceLevel, shownPrice}
 use Rattle.level.specs.Side.{Edit, sets, removes, namesTwice, applyAll, ranked}
 use Rattle.level.specs.declared.Side.{Side}
 use Rattle.level.specs.declared.Side.the-variants.{Bids, Asks}
-use Rattle.checksum.specs.Text.{kChecksum, mChecksum}
-use Rattle.layout.specs.Layout.{Printed, printed, unprinted}
+use Rattle.crc32_spec.specs.Crc.{crc}
+use Rattle.checksum.specs.Text.{kChecksumText, mChecksumText}
+use Rattle.layout.specs.Layout.{isSnapshot, Printed, printed, unprinted}
 use Rattle.answer.specs.Answers.{isTaken, leavesStatus}
 use Rattle.message.specs.Meaning.{LevelChange, Message, Decoded, refuses, decodes, decode}
 use Rattle.answer.specs.declared.Answer.{Answer}
@@ -29,16 +34,26 @@ pub data Status : Type 0 where
   waiting : Status
   live : Status
 
--- The sides best first. While the book waits, sides, number and count of updates are as last good.
+-- Both sides, best first.
+pub record Sides : Type 0 where
+  pub bids : List PriceLevel
+  pub asks : List PriceLevel
+
+-- What waiting keeps, as last good: the sides, the sequence number, and how many updates were taken since the last snapshot.
+pub record Last : Type 0 where
+  pub sides : Sides
+  pub number : ℕ
+  pub updates : ℕ
+
 pub record Reference : Type 0 where
   pub config : Config
   pub status : Status
-  pub bids : List PriceLevel
-  pub asks : List PriceLevel
-  pub number : ℕ
-  pub updates : ℕ
+  pub last : Last
   -- whether a snapshot was ever taken
   pub had-snapshot : Bool
+
+abbrev pub rules : Reference → Rules
+rules p = rulesOf (p .config .dialect)
 
 unfoldable pub isShut : Status → Bool
 isShut shut = true
@@ -52,57 +67,57 @@ isLive live = true
 
 -- ---- opening: shut or waiting by the settings, sides empty, number and count 0, no snapshot taken
 
-unfoldable pub opened : Config → Reference
-opened t = record { config = kept t; status = cond (good t) waiting shut; bids = []; asks = []; number = 0; updates = 0; had-snapshot = false }
+abbrev pub noLast : Last
+noLast = record { sides = record { bids = []; asks = [] }; number = 0; updates = 0 }
 
--- ---- what a message would make of a side: entry by entry the level at a price is set or removed; then the side is ranked, and cut in K
+unfoldable pub opened : Config → Reference
+opened t = record { config = kept t; status = cond (good t) waiting shut; last = noLast; had-snapshot = false }
+
+-- ---- what a message would make of the sides: entry by entry the level at a price is set or removed; then a side is ranked, and cut where the dialect cuts
 
 unfoldable pub editOf : LevelChange → Edit PriceLevel
 editOf q = cond (isZero (q .size)) (removes (q .price)) (sets (record { price = q .price; size = q .size }))
 
-unfoldable pub cut : Dialect → ℕ → List PriceLevel → List PriceLevel
-cut K depth s = take depth s
-cut M depth s = s
-cut Unknown depth s = s
-
 unfoldable pub afterChanges : Config → Side → List LevelChange → List PriceLevel → List PriceLevel
-afterChanges t side qs s = cut (t .dialect) (t .depth) (ranked shownPrice side (applyAll shownPrice (map editOf qs) s))
+afterChanges t side qs s =
+    let levels : List PriceLevel = ranked shownPrice side (applyAll shownPrice (map editOf qs) s) in
+    cond (rulesOf (t .dialect) .cut) (take (t .depth) levels) levels
 
 -- A snapshot replaces the book.
-unfoldable pub bidsAfter : Reference → Message → List PriceLevel
-bidsAfter p m = afterChanges (p .config) Bids (m .bids) (cond (m .snapshot) [] (p .bids))
-
-unfoldable pub asksAfter : Reference → Message → List PriceLevel
-asksAfter p m = afterChanges (p .config) Asks (m .asks) (cond (m .snapshot) [] (p .asks))
+unfoldable pub sidesAfter : Reference → Message → Sides
+sidesAfter p m =
+    record {
+      bids = afterChanges (p .config) Bids (m .bids) (cond (isSnapshot (m .kind)) [] (p .last .sides .bids));
+      asks = afterChanges (p .config) Asks (m .asks) (cond (isSnapshot (m .kind)) [] (p .last .sides .asks));
+    }
 
 -- ---- checks 9 to 13
-
-abbrev pub maxLevels : ℕ
-maxLevels = 100
 
 abbrev pub pricesOf : List LevelChange → List Number
 pricesOf qs = map (λ (q : LevelChange). q .price) qs
 
-unfoldable pub checksumOf : Dialect → List PriceLevel → List PriceLevel → ℕ
-checksumOf K bids asks = kChecksum bids asks
-checksumOf M bids asks = mChecksum bids asks
-checksumOf Unknown bids asks = 0
+unfoldable pub checksumText : SumText → ℕ → List PriceLevel → List PriceLevel → List ℕ
+checksumText Stripped = kChecksumText
+checksumText Interleaved = mChecksumText
+
+unfoldable pub checksumOf : Rules → Sides → ℕ
+checksumOf r s = crc (checksumText (r .text) (r .summed) (s .bids) (s .asks))
 
 -- 9: a snapshot names one price twice on a side
 unfoldable pub namesPriceTwice : Message → Bool
-namesPriceTwice m = m .snapshot && (namesTwice (pricesOf (m .bids)) || namesTwice (pricesOf (m .asks)))
+namesPriceTwice m = isSnapshot (m .kind) && (namesTwice (pricesOf (m .bids)) || namesTwice (pricesOf (m .asks)))
 
 -- 10: an update while waiting
 unfoldable pub lacksSnapshot : Reference → Message → Bool
-lacksSnapshot p m = not (m .snapshot) && not (isLive (p .status))
+lacksSnapshot p m = not (isSnapshot (m .kind)) && not (isLive (p .status))
 
--- 11: M update, gsn not greater
+-- 11: an update whose sequence number is not greater
 unfoldable pub isOld : Reference → Message → Bool
-isOld p m = isM (p .config .dialect) && (not (m .snapshot) && leb (m .number) (p .number))
+isOld p m = rules p .numbered && (not (isSnapshot (m .kind)) && leb (m .number) (p .last .number))
 
--- 12: M, over 100 levels on a side after the message
+-- 12: too many levels on a side after the message
 unfoldable pub hasTooMany : Reference → Message → Bool
-hasTooMany p m = isM (p .config .dialect) && (ltb maxLevels (length (bidsAfter p m)) || ltb maxLevels (length (asksAfter p m)))
+hasTooMany p m = ltb (rules p .levels) (length (sidesAfter p m .bids)) || ltb (rules p .levels) (length (sidesAfter p m .asks))
 
 -- 13: checksum differs
 unfoldable pub differs : Printed → ℕ → Bool
@@ -110,7 +125,7 @@ differs (printed n) sum = not (eqb n sum)
 differs unprinted sum = false
 
 unfoldable pub hasWrongChecksum : Reference → Message → Bool
-hasWrongChecksum p m = differs (m .checksum) (checksumOf (p .config .dialect) (bidsAfter p m) (asksAfter p m))
+hasWrongChecksum p m = differs (m .checksum) (checksumOf (rules p) (sidesAfter p m))
 
 unfoldable pub verdict : Reference → Message → Answer
 verdict p m =
@@ -138,15 +153,12 @@ taken p m =
     record {
       config = p .config;
       status = live;
-      bids = bidsAfter p m;
-      asks = asksAfter p m;
-      number = m .number;
-      updates = cond (m .snapshot) 0 (oneMore (p .updates));
-      had-snapshot = m .snapshot || p .had-snapshot;
+      last = record { sides = sidesAfter p m; number = m .number; updates = cond (isSnapshot (m .kind)) 0 (oneMore (p .last .updates)) };
+      had-snapshot = isSnapshot (m .kind) || p .had-snapshot;
     }
 
 unfoldable pub withStatus : Status → Reference → Reference
-withStatus status p = record { config = p .config; status = status; bids = p .bids; asks = p .asks; number = p .number; updates = p .updates; had-snapshot = p .had-snapshot }
+withStatus status p = record { config = p .config; status = status; last = p .last; had-snapshot = p .had-snapshot }
 
 unfoldable pub refusedBy : Reference → Answer → After
 refusedBy p a = record { book = cond (leavesStatus a) p (withStatus waiting p); answer = a }
@@ -163,6 +175,13 @@ receive p s = cond (isShut (p .status)) (record { book = p; answer = Shut }) (re
 
 -- ---- questions and the writer: 1, 10, 14, 15 in that order; none changes the book
 
+pub data Question : Type 0 where
+  howMany : Scope → Question
+  levelAt : Scope → Side → ℕ → Question
+  whichNumber : Scope → Question
+  howManyUpdates : Scope → Question
+  write : Question
+
 -- What a question answers with.
 pub data Value : Type 0 where
   nothing : Value
@@ -172,74 +191,78 @@ pub data Value : Type 0 where
   -- the sequence number, the count of updates, or a length
   amount : ℕ → Value
 
+abbrev pub noLevel : PriceLevel
+noLevel = record { price = record { digits = 0; decimals = 0 }; size = record { digits = 0; decimals = 0 } }
+
+-- "A refused one answers 0 in place of every count, level, book number and length."
+unfoldable pub zeros : Value → Value
+zeros nothing = nothing
+zeros (counts m n) = counts 0 0
+zeros (level l) = level noLevel
+zeros (amount n) = amount 0
+
+-- Level i is counted from 0 as best.
+unfoldable pub sideOf : Side → Reference → List PriceLevel
+sideOf Bids p = p .last .sides .bids
+sideOf Asks p = p .last .sides .asks
+
+-- The text of the book as a snapshot.
+unfoldable pub textIn : Dialect → Reference → List ℕ
+textIn K p = kSnapshot (p .config .depth) (p .config .name) (p .last .sides .bids) (p .last .sides .asks)
+textIn M p = mSnapshot (p .config .name) (p .last .sides .bids) (p .last .sides .asks) (checksumOf (rulesOf M) (p .last .sides)) (p .last .number)
+textIn Unknown p = []
+
+unfoldable pub snapshotText : Reference → List ℕ
+snapshotText p = textIn (p .config .dialect) p
+
+-- What is asked for: of the current or of the last good book, whether it lacks what is asked for, its value, and the text that is written.
+pub record Response : Type 0 where
+  pub scope : Scope
+  pub lacks : Answer
+  pub value : Value
+  pub text : List ℕ
+
+-- `room` is how long the lent buffer is.
+unfoldable pub respond : Reference → ℕ → Question → Response
+respond p room (howMany scope) = record { scope = scope; lacks = Taken; value = counts (length (sideOf Bids p)) (length (sideOf Asks p)); text = [] }
+respond p room (levelAt scope side i) =
+    record { scope = scope; lacks = cond (ltb i (length (sideOf side p))) Taken NoLevel; value = level (getD (sideOf side p) i noLevel); text = [] }
+respond p room (whichNumber scope) = record { scope = scope; lacks = Taken; value = amount (p .last .number); text = [] }
+respond p room (howManyUpdates scope) = record { scope = scope; lacks = Taken; value = amount (p .last .updates); text = [] }
+respond p room write =
+    record { scope = Current; lacks = cond (ltb room (length (snapshotText p))) NoRoom Taken; value = amount (length (snapshotText p)); text = snapshotText p }
+
+unfoldable pub stands : Scope → Reference → Bool
+stands Current p = isLive (p .status)
+stands LastGood p = p .had-snapshot
+
+unfoldable pub refusal : Reference → Response → Answer
+refusal p r = cond (isShut (p .status)) Shut (cond (stands (r .scope) p) (r .lacks) NoSnapshot)
+
+-- ---- calls: a message, or a question; and the lent buffer
+
 pub record Reply : Type 0 where
   pub after : Reference
   pub answer : Answer
   pub value : Value
   pub buffer : List ℕ
 
-unfoldable pub stands : Scope → Reference → Bool
-stands Current p = isLive (p .status)
-stands LastGood p = p .had-snapshot
-
--- Whether the book can be asked, of its current or its last good levels.
-unfoldable pub asked : Scope → Reference → Answer
-asked scope p = cond (isShut (p .status)) Shut (cond (stands scope p) Taken NoSnapshot)
-
--- The value where the question is answered, and zeros where it is not.
-unfoldable pub ifTaken : {A : Type 0} → Answer → A → A → A
-ifTaken a x z = cond (isTaken a) x z
-
-abbrev pub noLevel : PriceLevel
-noLevel = record { price = record { digits = 0; decimals = 0 }; size = record { digits = 0; decimals = 0 } }
-
-unfoldable pub sideOf : Side → Reference → List PriceLevel
-sideOf Bids p = p .bids
-sideOf Asks p = p .asks
-
--- Level i, counted from 0 as best.
-unfoldable pub askedLevel : Scope → Side → ℕ → Reference → Answer
-askedLevel scope side i p = ifTaken (asked scope p) (cond (ltb i (length (sideOf side p))) Taken NoLevel) (asked scope p)
-
-unfoldable pub levelAsked : Scope → Side → ℕ → Reference → PriceLevel
-levelAsked scope side i p = ifTaken (askedLevel scope side i p) (getD (sideOf side p) i noLevel) noLevel
-
--- The text of the book as a snapshot.
-unfoldable pub textIn : Dialect → Reference → List ℕ
-textIn K p = kSnapshot (p .config .depth) (p .config .name) (p .bids) (p .asks)
-textIn M p = mSnapshot (p .config .name) (p .bids) (p .asks) (mChecksum (p .bids) (p .asks)) (p .number)
-textIn Unknown p = []
-
-unfoldable pub snapshotText : Reference → List ℕ
-snapshotText p = textIn (p .config .dialect) p
-
-unfoldable pub askedWriting : Reference → List ℕ → Answer
-askedWriting p buffer = ifTaken (asked Current p) (cond (ltb (length buffer) (length (snapshotText p))) NoRoom Taken) (asked Current p)
-
--- ---- calls
+unfoldable pub replied : Reference → List ℕ → Response → Reply
+replied p buffer r =
+    record {
+      after = p;
+      answer = refusal p r;
+      value = cond (isTaken (refusal p r)) (r .value) (zeros (r .value));
+      buffer = cond (isTaken (refusal p r)) (overlaid buffer 0 (r .text)) buffer;
+    }
 
 pub data Ask : Type 0 where
   message : List ℕ → Ask
-  howMany : Scope → Ask
-  levelAt : Scope → Side → ℕ → Ask
-  whichNumber : Scope → Ask
-  howManyUpdates : Scope → Ask
-  write : Ask
-
-abbrev pub replied : Reference → Answer → Value → List ℕ → Reply
-replied p a value buffer = record { after = p; answer = a; value = value; buffer = buffer }
+  question : Question → Ask
 
 unfoldable pub does : Reference → Ask → List ℕ → Reply
-does p (message s) buffer = replied (receive p s .book) (receive p s .answer) nothing buffer
-does p (howMany scope) buffer = replied p (asked scope p) (ifTaken (asked scope p) (counts (length (p .bids)) (length (p .asks))) (counts 0 0)) buffer
-does p (levelAt scope side i) buffer = replied p (askedLevel scope side i p) (level (levelAsked scope side i p)) buffer
-does p (whichNumber scope) buffer = replied p (asked scope p) (amount (ifTaken (asked scope p) (p .number) 0)) buffer
-does p (howManyUpdates scope) buffer = replied p (asked scope p) (amount (ifTaken (asked scope p) (p .updates) 0)) buffer
-does p write buffer =
-    replied p (askedWriting p buffer) (amount (ifTaken (askedWriting p buffer) (length (snapshotText p)) 0))
-    (ifTaken (askedWriting p buffer) (overlaid buffer 0 (snapshotText p)) buffer)
-
--- ---- a list of calls: what is asked, and the lent buffer
+does p (message s) buffer = record { after = receive p s .book; answer = receive p s .answer; value = nothing; buffer = buffer }
+does p (question q) buffer = replied p buffer (respond p (length buffer) q)
 
 pub record Call : Type 0 where
   pub ask : Ask

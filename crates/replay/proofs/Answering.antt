@@ -18,7 +18,8 @@ use Rattle.book.specs.declared.Step.{Step}
 use Rattle.book.specs.declared.CountsReply.{CountsReply}
 use Rattle.book.specs.declared.LevelReply.{LevelReply}
 use Rattle.book.specs.declared.NumberReply.{NumberReply}
-use Rattle.reference.specs.Reference.{Reference, Reply, Value, Ask, message, howMany, levelAt, whichNumber, howManyUpdates, write, does, receive}
+use Rattle.reference.specs.Reference.{Reference, Reply, Value, Ask, message, question, replied, howMany, levelAt, whichNumber, howManyUpdates, write, does, receive}
+use Rattle.reference.proofs.Claims.{same-buffer}
 use Rattle.book.specs.Shown.{Good, shows, Received, AnswersCounts, AnswersLevel, AnswersAmount, Wrote}
 use Rattle.replay.specs.Format.{wordAt, opcode, scopeOf, sideOf, askOf, levelWords, valueWords, replyWords}
 use Rattle.replay.specs.Calls.{Answered, stepReplied, countsReplied, levelReplied, numberReplied}
@@ -31,24 +32,24 @@ module _ (c : List ℕ) {op : ℕ} (e : op ≡ opcode c) where
   unfolding askOf
   asks-message h = rw (sym e ∙ h)
 
-  pub asks-write : (op ≡ 0 → ⊥) → (op ≡ 1 → ⊥) → (op ≡ 2 → ⊥) → (op ≡ 3 → ⊥) → (op ≡ 4 → ⊥) → write ≡ askOf c
+  pub asks-write : (op ≡ 0 → ⊥) → (op ≡ 1 → ⊥) → (op ≡ 2 → ⊥) → (op ≡ 3 → ⊥) → (op ≡ 4 → ⊥) → question write ≡ askOf c
   unfolding askOf
   asks-write n0 n1 n2 n3 n4 = rw (sym e, ne-eqb op 0 n0, ne-eqb op 1 n1, ne-eqb op 2 n2, ne-eqb op 3 n3, ne-eqb op 4 n4)
 
   module _ {n : ℕ} {scope : Scope} (f : n ≡ wordAt c 8) (g : scope ≡ scopeOf n) where
-    pub asks-counts : op ≡ 1 → howMany scope ≡ askOf c
+    pub asks-counts : op ≡ 1 → question (howMany scope) ≡ askOf c
     unfolding askOf
     asks-counts h = rw (sym e ∙ h, g, f)
 
-    pub asks-level : op ≡ 2 → {m i : ℕ} {side : Side} → m ≡ wordAt c 16 → side ≡ sideOf m → i ≡ wordAt c 24 → levelAt scope side i ≡ askOf c
+    pub asks-level : op ≡ 2 → {m i : ℕ} {side : Side} → m ≡ wordAt c 16 → side ≡ sideOf m → i ≡ wordAt c 24 → question (levelAt scope side i) ≡ askOf c
     unfolding askOf
     asks-level h k l j = rw (sym e ∙ h, g, f, l, k, j)
 
-    pub asks-number : op ≡ 3 → whichNumber scope ≡ askOf c
+    pub asks-number : op ≡ 3 → question (whichNumber scope) ≡ askOf c
     unfolding askOf
     asks-number h = rw (sym e ∙ h, g, f)
 
-    pub asks-updates : op ≡ 4 → howManyUpdates scope ≡ askOf c
+    pub asks-updates : op ≡ 4 → question (howManyUpdates scope) ≡ askOf c
     unfolding askOf
     asks-updates h = rw (sym e ∙ h, g, f)
 
@@ -68,30 +69,30 @@ module _ (b : Book) (buffer : List ℕ) where
       record { good = t .good; same = t .same; words = ap (λ (a : Answer). answerNumber a ∷ 0 ∷ 0 ∷ 0 ∷ 0 ∷ []) (t .answer); buffer = refl }
 
   module _ (g : Good b) where
-    pub counts-answered : (scope : Scope) (s : CountsReply) → AnswersCounts b scope s → Answered (shows b) (howMany scope) buffer buffer (countsReplied s)
-    unfolding does countsReplied valueWords replyWords
+    pub counts-answered : (scope : Scope) (s : CountsReply) → AnswersCounts b scope s → Answered (shows b) (question (howMany scope)) buffer buffer (countsReplied s)
+    unfolding does replied countsReplied valueWords replyWords
     counts-answered scope s a =
-        record { good = subst Good (sym (a .book)) g; same = ap shows (a .book); words = worded (a .answer buffer) (a .value buffer); buffer = refl }
+        record { good = subst Good (sym (a .book)) g; same = ap shows (a .book); words = worded (a .answer buffer) (a .value buffer); buffer = same-buffer (shows b) (howMany scope) buffer (λ e. let z : _≡_ {A = ℕ} 0 1 = cc in omega arith) }
 
     pub level-answered : (scope : Scope) (side : Side) (i : ℕ) (s : LevelReply) → AnswersLevel b scope side i s →
-        Answered (shows b) (levelAt scope side i) buffer buffer (levelReplied s)
-    unfolding does levelReplied valueWords levelWords replyWords decimal.number
+        Answered (shows b) (question (levelAt scope side i)) buffer buffer (levelReplied s)
+    unfolding does replied levelReplied valueWords levelWords replyWords decimal.number
     level-answered scope side i s a =
-        record { good = subst Good (sym (a .book)) g; same = ap shows (a .book); words = worded (a .answer buffer) (a .value buffer); buffer = refl }
+        record { good = subst Good (sym (a .book)) g; same = ap shows (a .book); words = worded (a .answer buffer) (a .value buffer); buffer = same-buffer (shows b) (levelAt scope side i) buffer (λ e. let z : _≡_ {A = ℕ} 0 1 = cc in omega arith) }
 
     pub number-answered : (scope : Scope) (s : NumberReply) → AnswersAmount b (whichNumber scope) s →
-        Answered (shows b) (whichNumber scope) buffer buffer (numberReplied s)
-    unfolding does numberReplied valueWords replyWords
+        Answered (shows b) (question (whichNumber scope)) buffer buffer (numberReplied s)
+    unfolding does replied numberReplied valueWords replyWords
     number-answered scope s a =
-        record { good = subst Good (sym (a .book)) g; same = ap shows (a .book); words = worded (a .answer buffer) (a .value buffer); buffer = refl }
+        record { good = subst Good (sym (a .book)) g; same = ap shows (a .book); words = worded (a .answer buffer) (a .value buffer); buffer = same-buffer (shows b) (whichNumber scope) buffer (λ e. let z : _≡_ {A = ℕ} 0 1 = cc in omega arith) }
 
     pub updates-answered : (scope : Scope) (s : NumberReply) → AnswersAmount b (howManyUpdates scope) s →
-        Answered (shows b) (howManyUpdates scope) buffer buffer (numberReplied s)
-    unfolding does numberReplied valueWords replyWords
+        Answered (shows b) (question (howManyUpdates scope)) buffer buffer (numberReplied s)
+    unfolding does replied numberReplied valueWords replyWords
     updates-answered scope s a =
-        record { good = subst Good (sym (a .book)) g; same = ap shows (a .book); words = worded (a .answer buffer) (a .value buffer); buffer = refl }
+        record { good = subst Good (sym (a .book)) g; same = ap shows (a .book); words = worded (a .answer buffer) (a .value buffer); buffer = same-buffer (shows b) (howManyUpdates scope) buffer (λ e. let z : _≡_ {A = ℕ} 0 1 = cc in omega arith) }
 
-    pub write-answered : (after : List ℕ) (s : NumberReply) → Wrote b buffer after s → Answered (shows b) write buffer after (numberReplied s)
-    unfolding does numberReplied valueWords replyWords
+    pub write-answered : (after : List ℕ) (s : NumberReply) → Wrote b buffer after s → Answered (shows b) (question write) buffer after (numberReplied s)
+    unfolding does replied numberReplied valueWords replyWords
     write-answered after s a =
         record { good = subst Good (sym (a .book)) g; same = ap shows (a .book); words = worded (a .answer) (a .value); buffer = a .buffer }

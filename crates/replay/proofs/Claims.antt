@@ -16,7 +16,7 @@ use Rattle.level.specs.declared.Side.{Side}
 use Rattle.level.specs.declared.Side.the-variants.{Bids, Asks}
 use Rattle.reference.specs.declared.Scope.{Scope}
 use Rattle.reference.specs.declared.Scope.the-variants.{Current, LastGood}
-use Rattle.reference.specs.Reference.{Ask, message, howMany, levelAt, whichNumber, howManyUpdates, write, Call, repliesTo, opened}
+use Rattle.reference.specs.Reference.{Ask, message, question, howMany, levelAt, whichNumber, howManyUpdates, write, Call, repliesTo, opened}
 use Rattle.reference.specs.Claims.{call}
 use Rattle.reference.proofs.Claims.{from-snapshot}
 use Rattle.replay.specs.Format.{bytesOf, wordsOf, wordAt, isWhole, scopeOf, sideOf, askOf, callLength, replyLength, called, decode, script, laidIn}
@@ -71,34 +71,34 @@ side-back Asks = refl
 opcode-small : (ask : Ask) → opcodeOf ask ≤ 5
 unfolding opcodeOf
 opcode-small (message s) = omega arith
-opcode-small (howMany scope) = omega arith
-opcode-small (levelAt scope side i) = omega arith
-opcode-small (whichNumber scope) = omega arith
-opcode-small (howManyUpdates scope) = omega arith
-opcode-small write = omega arith
+opcode-small (question (howMany scope)) = omega arith
+opcode-small (question (levelAt scope side i)) = omega arith
+opcode-small (question (whichNumber scope)) = omega arith
+opcode-small (question (howManyUpdates scope)) = omega arith
+opcode-small (question write) = omega arith
 
 scope-small : (ask : Ask) → scopeIn ask ≤ 1
 unfolding scopeIn scopeNumber
 scope-small (message s) = omega arith
-scope-small (howMany Current) = omega arith
-scope-small (howMany LastGood) = omega arith
-scope-small (levelAt Current side i) = omega arith
-scope-small (levelAt LastGood side i) = omega arith
-scope-small (whichNumber Current) = omega arith
-scope-small (whichNumber LastGood) = omega arith
-scope-small (howManyUpdates Current) = omega arith
-scope-small (howManyUpdates LastGood) = omega arith
-scope-small write = omega arith
+scope-small (question (howMany Current)) = omega arith
+scope-small (question (howMany LastGood)) = omega arith
+scope-small (question (levelAt Current side i)) = omega arith
+scope-small (question (levelAt LastGood side i)) = omega arith
+scope-small (question (whichNumber Current)) = omega arith
+scope-small (question (whichNumber LastGood)) = omega arith
+scope-small (question (howManyUpdates Current)) = omega arith
+scope-small (question (howManyUpdates LastGood)) = omega arith
+scope-small (question write) = omega arith
 
 side-small : (ask : Ask) → sideIn ask ≤ 1
 unfolding sideIn sideNumber
 side-small (message s) = omega arith
-side-small (howMany scope) = omega arith
-side-small (levelAt scope Bids i) = omega arith
-side-small (levelAt scope Asks i) = omega arith
-side-small (whichNumber scope) = omega arith
-side-small (howManyUpdates scope) = omega arith
-side-small write = omega arith
+side-small (question (howMany scope)) = omega arith
+side-small (question (levelAt scope Bids i)) = omega arith
+side-small (question (levelAt scope Asks i)) = omega arith
+side-small (question (whichNumber scope)) = omega arith
+side-small (question (howManyUpdates scope)) = omega arith
+side-small (question write) = omega arith
 
 -- the words of a header, before any text
 module _ (c : Call) (h : Holds c) (r : List ℕ) where
@@ -135,11 +135,11 @@ asked-back : (ask : Ask) (c : List ℕ) → wordAt c 0 ≡ opcodeOf ask → word
     drop 48 c ≡ messageIn ask → askOf c ≡ ask
 unfolding askOf opcodeOf scopeIn sideIn indexIn messageIn
 asked-back (message s) c a b d e f = rw (a, f)
-asked-back (howMany scope) c a b d e f = rw (a, b) (ap howMany (scope-back scope))
-asked-back (levelAt scope side i) c a b d e f = rw (a, b, d, e) (ap₂ (λ (x : Scope) (y : Side). levelAt x y i) (scope-back scope) (side-back side))
-asked-back (whichNumber scope) c a b d e f = rw (a, b) (ap whichNumber (scope-back scope))
-asked-back (howManyUpdates scope) c a b d e f = rw (a, b) (ap howManyUpdates (scope-back scope))
-asked-back write c a b d e f = rw a
+asked-back (question (howMany scope)) c a b d e f = rw (a, b) (ap (λ (x : Scope). question (howMany x)) (scope-back scope))
+asked-back (question (levelAt scope side i)) c a b d e f = rw (a, b, d, e) (ap₂ (λ (x : Scope) (y : Side). question (levelAt x y i)) (scope-back scope) (side-back side))
+asked-back (question (whichNumber scope)) c a b d e f = rw (a, b) (ap (λ (x : Scope). question (whichNumber x)) (scope-back scope))
+asked-back (question (howManyUpdates scope)) c a b d e f = rw (a, b) (ap (λ (x : Scope). question (howManyUpdates x)) (scope-back scope))
+asked-back (question write) c a b d e f = rw a
 
 -- a script that begins with a call, and `out` for it
 abbrev zeroWords : List ℕ

@@ -10,11 +10,12 @@ use Rattle.settings.specs.Settings.{Config, kept}
 use Rattle.level.specs.Ranked.{All}
 use Rattle.level.specs.declared.Side.{Side}
 use Rattle.level.specs.declared.Side.the-variants.{Bids, Asks}
+use Rattle.layout.specs.declared.Kind.the-variants.{Snapshot}
 use Rattle.message.specs.Meaning.{Message, decodes, decode}
 use Rattle.answer.specs.declared.Answer.the-variants.{Taken}
 use Rattle.reference.specs.declared.Scope.{Scope}
 use Rattle.reference.specs.declared.Scope.the-variants.{Current, LastGood}
-use Rattle.reference.specs.Reference.{Ask, message, howMany, levelAt, whichNumber, howManyUpdates, write, Call, opened, receive, repliesTo, final}
+use Rattle.reference.specs.Reference.{Ask, message, question, howMany, levelAt, whichNumber, howManyUpdates, write, Call, opened, receive, repliesTo, final}
 use Rattle.reference.specs.Claims.{call}
 use Rattle.replay.specs.Format.{wordsOf, script, laidIn}
 use Rattle.replay.specs.Calls.{Replayed}
@@ -23,11 +24,11 @@ use Rattle.replay.specs.Calls.{Replayed}
 
 unfoldable pub opcodeOf : Ask → ℕ
 opcodeOf (message s) = 0
-opcodeOf (howMany scope) = 1
-opcodeOf (levelAt scope side i) = 2
-opcodeOf (whichNumber scope) = 3
-opcodeOf (howManyUpdates scope) = 4
-opcodeOf write = 5
+opcodeOf (question (howMany scope)) = 1
+opcodeOf (question (levelAt scope side i)) = 2
+opcodeOf (question (whichNumber scope)) = 3
+opcodeOf (question (howManyUpdates scope)) = 4
+opcodeOf (question write) = 5
 
 unfoldable pub scopeNumber : Scope → ℕ
 scopeNumber Current = 0
@@ -40,35 +41,31 @@ sideNumber Asks = 1
 -- What a call does not use is 0.
 unfoldable pub scopeIn : Ask → ℕ
 scopeIn (message s) = 0
-scopeIn (howMany scope) = scopeNumber scope
-scopeIn (levelAt scope side i) = scopeNumber scope
-scopeIn (whichNumber scope) = scopeNumber scope
-scopeIn (howManyUpdates scope) = scopeNumber scope
-scopeIn write = 0
+scopeIn (question (howMany scope)) = scopeNumber scope
+scopeIn (question (levelAt scope side i)) = scopeNumber scope
+scopeIn (question (whichNumber scope)) = scopeNumber scope
+scopeIn (question (howManyUpdates scope)) = scopeNumber scope
+scopeIn (question write) = 0
 
 unfoldable pub sideIn : Ask → ℕ
 sideIn (message s) = 0
-sideIn (howMany scope) = 0
-sideIn (levelAt scope side i) = sideNumber side
-sideIn (whichNumber scope) = 0
-sideIn (howManyUpdates scope) = 0
-sideIn write = 0
+sideIn (question (howMany scope)) = 0
+sideIn (question (levelAt scope side i)) = sideNumber side
+sideIn (question (whichNumber scope)) = 0
+sideIn (question (howManyUpdates scope)) = 0
+sideIn (question write) = 0
 
 unfoldable pub indexIn : Ask → ℕ
 indexIn (message s) = 0
-indexIn (howMany scope) = 0
-indexIn (levelAt scope side i) = i
-indexIn (whichNumber scope) = 0
-indexIn (howManyUpdates scope) = 0
-indexIn write = 0
+indexIn (question (howMany scope)) = 0
+indexIn (question (levelAt scope side i)) = i
+indexIn (question (whichNumber scope)) = 0
+indexIn (question (howManyUpdates scope)) = 0
+indexIn (question write) = 0
 
 unfoldable pub messageIn : Ask → List ℕ
 messageIn (message s) = s
-messageIn (howMany scope) = []
-messageIn (levelAt scope side i) = []
-messageIn (whichNumber scope) = []
-messageIn (howManyUpdates scope) = []
-messageIn write = []
+messageIn (question q) = []
 
 unfoldable pub headerWords : Call → List ℕ
 headerWords c =
@@ -114,7 +111,7 @@ Replayed-list = (t : Config) (cs : List Call) (after : List ℕ) (calls : ℕ) �
 -- From a taken snapshot on, the replies are those of a book that was opened just before it.
 abbrev pub Replayed-snapshot : Type 0
 Replayed-snapshot = (t : Config) (cs ds : List Call) (s buffer : List ℕ) (m : Message) (after : List ℕ) (calls : ℕ) →
-    All Holds (cs ++ (call (message s) buffer ∷ ds)) → decode (kept t) s ≡ decodes m → m .snapshot ≡ true → receive (final (opened t) cs) s .answer ≡ Taken →
+    All Holds (cs ++ (call (message s) buffer ∷ ds)) → decode (kept t) s ≡ decodes m → m .kind ≡ Snapshot → receive (final (opened t) cs) s .answer ≡ Taken →
     Replayed t (scriptOf (cs ++ (call (message s) buffer ∷ ds))) (outOf (cs ++ (call (message s) buffer ∷ ds))) after calls →
     after ≡
     laidIn (repliesTo (opened t) cs ++ repliesTo (opened t) (call (message s) buffer ∷ ds)) (outOf (cs ++ (call (message s) buffer ∷ ds)))

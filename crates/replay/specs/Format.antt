@@ -13,7 +13,7 @@ use Rattle.level.specs.declared.Side.the-variants.{Bids, Asks}
 use Rattle.answer.specs.Answers.{answerNumber}
 use Rattle.reference.specs.declared.Scope.{Scope}
 use Rattle.reference.specs.declared.Scope.the-variants.{Current, LastGood}
-use Rattle.reference.specs.Reference.{Reply, Value, nothing, counts, level, amount, Ask, message, howMany, levelAt, whichNumber, howManyUpdates, write, Call}
+use Rattle.reference.specs.Reference.{Reply, Value, nothing, counts, level, amount, Ask, message, question, howMany, levelAt, whichNumber, howManyUpdates, write, Call}
 
 -- ---- words: 8 bytes, the lowest first
 
@@ -56,10 +56,10 @@ sideOf n = cond (eqb n 0) Bids Asks
 unfoldable pub askOf : List ℕ → Ask
 askOf c =
     cond (eqb (opcode c) 0) (message (drop headerLength c))
-    (cond (eqb (opcode c) 1) (howMany (scopeOf (wordAt c 8)))
-    (cond (eqb (opcode c) 2) (levelAt (scopeOf (wordAt c 8)) (sideOf (wordAt c 16)) (wordAt c 24))
-    (cond (eqb (opcode c) 3) (whichNumber (scopeOf (wordAt c 8)))
-    (cond (eqb (opcode c) 4) (howManyUpdates (scopeOf (wordAt c 8))) write))))
+    (cond (eqb (opcode c) 1) (question (howMany (scopeOf (wordAt c 8))))
+    (cond (eqb (opcode c) 2) (question (levelAt (scopeOf (wordAt c 8)) (sideOf (wordAt c 16)) (wordAt c 24)))
+    (cond (eqb (opcode c) 3) (question (whichNumber (scopeOf (wordAt c 8))))
+    (cond (eqb (opcode c) 4) (question (howManyUpdates (scopeOf (wordAt c 8)))) (question write)))))
 
 -- ---- a reply: five words, then the lent buffer as it is afterwards
 

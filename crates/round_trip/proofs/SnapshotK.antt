@@ -14,7 +14,9 @@ use Rattle.json_tokens.specs.Ends.{unescaped}
 use Rattle.json.specs.Json.{Span, Pair}
 use Rattle.entries.specs.Places.{andThen, all, arrayAt, objectAt, valuesOf, wholeAt}
 use Rattle.entries.specs.Rows.{entryK}
+use Rattle.settings.specs.Rules.{rulesOf}
 use Rattle.layout.specs.Layout.{unprinted, laid}
+use Rattle.layout.specs.declared.Kind.the-variants.{Snapshot}
 use Rattle.message_k.specs.LayoutK.{Frame, frameOf, escapedK, oursK, times, together, isSnapshot, listedOf, listedIn, objectsLayout, layoutK, envelopeK}
 use Rattle.message.specs.Meaning.{envelopeIn, decode, decodes}
 use Rattle.settings.specs.Settings.{Config, good}
@@ -195,8 +197,8 @@ module _ (depth : ℕ) (name : List ℕ) (bids asks : List PriceLevel) (g : good
       (omega (arith, length-quoted name, name-short terms g))
 
   pub said-k : decode terms (kSnapshot depth name bids asks)
-      ≡ decodes (record { snapshot = true; bids = map levelChangeOf bids; asks = map levelChangeOf asks; checksum = unprinted; number = 0 })
-  unfolding envelopeIn
+      ≡ decodes (record { kind = Snapshot; bids = map levelChangeOf bids; asks = map levelChangeOf asks; checksum = unprinted; number = 0 })
+  unfolding envelopeIn rulesOf
   said-k =
       ap (decode terms) snapshot-spelled
       ∙ says-tree terms the-text (array (tree bids asks depth name))

@@ -15,8 +15,10 @@ use Rattle.json_tokens.specs.Ends.{unescaped}
 use Rattle.json.specs.Json.{Span, Pair}
 use Rattle.entries.specs.Places.{andThen, objectAt, valuesOf, only, wholeAt, checksumAt}
 use Rattle.entries.specs.Rows.{entryM}
+use Rattle.settings.specs.Rules.{rulesOf}
 use Rattle.layout.specs.Layout.{printed, laid}
-use Rattle.message_m.specs.LayoutM.{someName, someString, escapedM, someMeans, oursM, isSnapshotAt, listedIn, layoutM, envelopeM}
+use Rattle.layout.specs.declared.Kind.the-variants.{Snapshot}
+use Rattle.message_m.specs.LayoutM.{someName, someString, escapedM, someMeans, oursM, kindAt, listedIn, layoutM, envelopeM}
 use Rattle.message.specs.Meaning.{envelopeIn, decode, decodes}
 use Rattle.settings.specs.Settings.{Config, good}
 use Rattle.settings.specs.declared.Dialect.the-variants.{M}
@@ -169,8 +171,8 @@ module _ (s : List ℕ) (bids asks : List PriceLevel) (fine-bids : Each ValidLev
     ours = rw (means-one s (ascii "book") channel, means-one s name product)
 
     -- check 6
-    a-snapshot : isSnapshotAt s (kind .the) ≡ reads true
-    unfolding isSnapshotAt
+    a-snapshot : kindAt s (kind .the) ≡ reads Snapshot
+    unfolding kindAt
     a-snapshot = rw (means-it (ascii "snapshot") (kind .is-it))
 
     the-sum : checksumAt s (sum-in .the) ≡ reads checksum
@@ -246,8 +248,8 @@ module _ (name : List ℕ) (bids asks : List PriceLevel) (checksum number : ℕ)
       (length-written 18 number few)
 
   pub said-m : decode terms (mSnapshot name bids asks checksum number)
-      ≡ decodes (record { snapshot = true; bids = map levelChangeOf bids; asks = map levelChangeOf asks; checksum = printed checksum; number = number })
-  unfolding envelopeIn
+      ≡ decodes (record { kind = Snapshot; bids = map levelChangeOf bids; asks = map levelChangeOf asks; checksum = printed checksum; number = number })
+  unfolding envelopeIn rulesOf
   said-m =
       ap (decode terms) snapshot-spelled
       ∙ says-tree terms the-text (object (tree bids asks name checksum number))

@@ -13,9 +13,11 @@ use Rattle.json_tokens.specs.Tokens.{At, skipWhile, blanks, ended}
 use Rattle.json.specs.Json.{Span, value}
 use Rattle.json.specs.Json as json·
 use Rattle.json.proofs.Laws.{text-ends}
+use Rattle.settings.specs.Rules.{rulesOf}
 use Rattle.settings.specs.Settings.{Config}
 use Rattle.entries.specs.Places.{top}
-use Rattle.layout.specs.Layout.{Printed, Listed, Layout, Envelope}
+use Rattle.layout.specs.Layout.{isSnapshot, Printed, Listed, Layout, Envelope}
+use Rattle.layout.specs.declared.Kind.the-variants.{Snapshot}
 use Rattle.message.specs.Meaning.{fails, passes, decodes, tooMany, counted, laidOut, addressed, envelopeIn, framed, bad, decimals, alsoDecimals, checked, messageOf, decodedOf, decode}
 use Rattle.answer.specs.declared.Answer.the-variants.{TooManyEntries}
 use Rattle.level.specs.Level.{PriceLevel}
@@ -54,7 +56,7 @@ module _ (s : List ℕ) (r : Reads 16 s) where
 -- ---- the checks, in their order
 
 abbrev pub laidAs : Listed → Listed → Printed → ℕ → Layout
-laidAs bids asks sum number = record { snapshot = true; bids = bids; asks = asks; checksum = sum; number = number }
+laidAs bids asks sum number = record { kind = Snapshot; bids = bids; asks = asks; checksum = sum; number = number }
 
 -- it is this book's, and has the layout of a snapshot of these levels
 pub record HeardAs (s : List ℕ) (bids asks : List PriceLevel) (sum : Printed) (number : ℕ) (x : Reading Envelope) : Type 0 where
@@ -64,38 +66,38 @@ pub record HeardAs (s : List ℕ) (bids asks : List PriceLevel) (sum : Printed) 
   pub bids-are : Matched (IsLevel s) (the-bids .rows) bids
   pub asks-are : Matched (IsLevel s) (the-asks .rows) asks
 
-module _ (t : Config) (s : List ℕ) (short : length s ≤ 32768) (r : Reads 16 s) (bids asks : List PriceLevel) (sum : Printed) (number : ℕ)
-    (h : HeardAs s bids asks sum number (envelopeIn (t .dialect) t s (top s))) (few-bids : length bids ≤ 100) (few-asks : length asks ≤ 100) where
+module _ (t : Config) (s : List ℕ) (short : length s ≤ rulesOf (t .dialect) .longest) (r : Reads 16 s) (bids asks : List PriceLevel) (sum : Printed) (number : ℕ)
+    (h : HeardAs s bids asks sum number (envelopeIn (t .dialect) t s (top s))) (few-bids : length bids ≤ rulesOf (t .dialect) .entries) (few-asks : length asks ≤ rulesOf (t .dialect) .entries) where
   l : Layout
   l = laidAs (h .the-bids) (h .the-asks) sum number
 
-  not-many : tooMany l ≡ false
+  not-many : tooMany (rulesOf (t .dialect) .entries) l ≡ false
   unfolding tooMany l
   not-many =
       let b = matched-length (h .bids-are) in
       let a = matched-length (h .asks-are) in
-      rw (le-ltb 100 (length (h .the-bids .rows)) (omega arith), le-ltb 100 (length (h .the-asks .rows)) (omega arith))
+      rw (le-ltb (rulesOf (t .dialect) .entries) (length (h .the-bids .rows)) (omega arith), le-ltb (rulesOf (t .dialect) .entries) (length (h .the-asks .rows)) (omega arith))
 
   is-framed : framed t s ≡ passes l
   unfolding framed addressed laidOut counted l
-  is-framed = rw (le-ltb 32768 (length s) short, text-yes s r) (ap addressed (h .is-heard) ∙ ap (λ (b : Bool). cond b (fails TooManyEntries) (passes l)) not-many)
+  is-framed = rw (le-ltb (rulesOf (t .dialect) .longest) (length s) short, text-yes s r) (ap (addressed (rulesOf (t .dialect) .entries)) (h .is-heard) ∙ ap (λ (b : Bool). cond b (fails TooManyEntries) (passes l)) not-many)
 
   no-bad : bad s l ≡ []
-  unfolding bad l
+  unfolding bad l isSnapshot
   no-bad = rw (none-bad (h .bids-are), none-bad (h .asks-are))
 
   is-checked : checked t s ≡ passes l
   unfolding checked alsoDecimals decimals
   is-checked = ap (alsoDecimals s) is-framed ∙ rw (no-bad, decimals)
 
-  says-them : decode t s ≡ decodes (record { snapshot = true; bids = map levelChangeOf bids; asks = map levelChangeOf asks; checksum = sum; number = number })
+  says-them : decode t s ≡ decodes (record { kind = Snapshot; bids = map levelChangeOf bids; asks = map levelChangeOf asks; checksum = sum; number = number })
   unfolding decode decodedOf messageOf l
   says-them = ap (decodedOf s) is-checked ∙ rw (quotes-are (h .bids-are), quotes-are (h .asks-are))
 
 -- the same of a text that is a tree of values
-pub says-tree : (t : Config) (s tree : List ℕ) → s ≡ tree → length s ≤ 32768 → Reads 16 tree → (bids asks : List PriceLevel) (sum : Printed) (number : ℕ)
-    → ((a : Span) → Is s a tree → HeardAs s bids asks sum number (envelopeIn (t .dialect) t s a)) → length bids ≤ 100 → length asks ≤ 100
-    → decode t s ≡ decodes (record { snapshot = true; bids = map levelChangeOf bids; asks = map levelChangeOf asks; checksum = sum; number = number })
+pub says-tree : (t : Config) (s tree : List ℕ) → s ≡ tree → length s ≤ rulesOf (t .dialect) .longest → Reads 16 tree → (bids asks : List PriceLevel) (sum : Printed) (number : ℕ)
+    → ((a : Span) → Is s a tree → HeardAs s bids asks sum number (envelopeIn (t .dialect) t s a)) → length bids ≤ rulesOf (t .dialect) .entries → length asks ≤ rulesOf (t .dialect) .entries
+    → decode t s ≡ decodes (record { kind = Snapshot; bids = map levelChangeOf bids; asks = map levelChangeOf asks; checksum = sum; number = number })
 says-tree t s tree e short r bids asks sum number h few-bids few-asks =
     let q : Reads 16 s = subst (Reads 16) (sym e) r in
     says-them t s short q bids asks sum number (h (top s) (subst (Is s (top s)) e (top-is s q))) few-bids few-asks

@@ -10,6 +10,7 @@ use Rattle.level.specs.Level.{PriceLevel}
 use Rattle.settings.specs.Settings.{good}
 use Rattle.settings.specs.declared.Dialect.the-variants.{K, M}
 use Rattle.layout.specs.Layout.{printed, unprinted}
+use Rattle.layout.specs.declared.Kind.the-variants.{Snapshot}
 use Rattle.message.specs.Meaning.{LevelChange, decode, decodes}
 use Rattle.writer.specs.Snapshot.{kSnapshot, mSnapshot}
 
@@ -41,10 +42,10 @@ pub record Valid (levels : List PriceLevel) : Type 0 where
 abbrev pub K-round-trip : Type 0
 K-round-trip = (depth : ℕ) (name : List ℕ) (bids asks : List PriceLevel) → good (record { dialect = K; depth = depth; name = name }) ≡ true → Valid bids → Valid asks
     → decode (record { dialect = K; depth = depth; name = name }) (kSnapshot depth name bids asks)
-    ≡ decodes (record { snapshot = true; bids = map levelChangeOf bids; asks = map levelChangeOf asks; checksum = unprinted; number = 0 })
+    ≡ decodes (record { kind = Snapshot; bids = map levelChangeOf bids; asks = map levelChangeOf asks; checksum = unprinted; number = 0 })
 
 abbrev pub M-round-trip : Type 0
 M-round-trip = (name : List ℕ) (bids asks : List PriceLevel) (checksum number : ℕ) → good (record { dialect = M; depth = 100; name = name }) ≡ true → Valid bids → Valid asks
     → checksum ≤ 4294967295 → number < 10 ^ 19
     → decode (record { dialect = M; depth = 100; name = name }) (mSnapshot name bids asks checksum number)
-    ≡ decodes (record { snapshot = true; bids = map levelChangeOf bids; asks = map levelChangeOf asks; checksum = printed checksum; number = number })
+    ≡ decodes (record { kind = Snapshot; bids = map levelChangeOf bids; asks = map levelChangeOf asks; checksum = printed checksum; number = number })

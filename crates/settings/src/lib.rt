@@ -1,4 +1,4 @@
-// The settings of a book: dialect, depth and product name.
+// The settings of a book: dialect, depth and product name; and the rules that a dialect has.
 //
 // Good settings are kept as they are given; any others are kept as none, of dialect `Unknown`, and a book of them is shut.
 //
@@ -8,6 +8,7 @@ ghost use mathlib.Core.Path.{_≡_};
 ghost use Prim.Native.Nat.{_≤_};
 ghost use lib.ListN.{length, take};
 ghost use Rattle.settings.specs.Settings.{isM, goodDepth, nameByte, nameBytes, goodName, good};
+ghost use Rattle.settings.specs.Rules.{rulesOf};
 ghost use Rattle.settings.specs.Kept.{Chosen, Copied};
 
 // The longest name.
@@ -17,6 +18,31 @@ pub enum Dialect {
     K,
     M,
     Unknown,
+}
+
+// Which text a checksum is made of.
+pub enum SumText {
+    // The asks and then the bids, digits without a point and leading zeros.
+    Stripped,
+    // Bids and asks in turn, as they were sent, with colons between.
+    Interleaved,
+}
+
+// What one dialect has other than another.
+pub struct Rules {
+    // The longest message.
+    pub longest: usize,
+    // The most entries of a side in one message.
+    pub entries: usize,
+    // The most levels that may stand on a side after a message.
+    pub levels: usize,
+    // How many levels a side are summed.
+    pub summed: usize,
+    pub text: SumText,
+    // Whether a side is cut to the book's depth after a message.
+    pub cut: bool,
+    // Whether messages have sequence numbers.
+    pub numbered: bool,
 }
 
 // The name is the first `length` bytes of `name`.
@@ -53,6 +79,40 @@ pub fn is_good(dialect: Dialect, depth: usize, name: &[u8]) -> bool
         return is_good_name(name);
     }
     false
+}
+
+pub fn rules_of(dialect: Dialect) -> Rules
+    ensures { λ r. ⌜ r ≡ rulesOf dialect ⌝ }
+{
+    match dialect {
+        Dialect::K => Rules {
+            longest: 32768,
+            entries: 100,
+            levels: 100,
+            summed: 10,
+            text: SumText::Stripped,
+            cut: true,
+            numbered: false,
+        },
+        Dialect::M => Rules {
+            longest: 32768,
+            entries: 100,
+            levels: 100,
+            summed: 100,
+            text: SumText::Interleaved,
+            cut: false,
+            numbered: true,
+        },
+        Dialect::Unknown => Rules {
+            longest: 0,
+            entries: 0,
+            levels: 0,
+            summed: 0,
+            text: SumText::Stripped,
+            cut: false,
+            numbered: false,
+        },
+    }
 }
 
 pub fn is_m(dialect: Dialect) -> bool

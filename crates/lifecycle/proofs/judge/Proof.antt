@@ -1,10 +1,10 @@
 -- `judge` meets its contract: a shut book, the checks of the text, then those of an update.
 use mathlib.Core.Path.{_≡_, sym, ap, _∙_}
-use mathlib.Core.Bool.{Bool}
 use denote.Ref.{now}
 use native.Mathlib.Omega.{arith}
 use lib.ListN.{length-take}
 use Rattle.settings.specs.Kept.{configOf}
+use Rattle.settings.specs.declared.Rules.{Rules}
 use Rattle.message.specs.declared.Verdict.{Verdict}
 use Rattle.lifecycle.specs.Lifecycle.{judgedUpdate, afterText, judged}
 use Rattle.lifecycle.proofs.Laws.{judged-shut, judged-open}
@@ -46,7 +46,7 @@ returns-3 c =
     let u = sym (c .before .before .before .before .before .before .before .before .before .is-shut .ensures) ∙ c .before .before .before .before .before .before .before .before .if1 .left in
     let r = c .before .before .before .before .before .read-open in
     let o = c .before .before .before .outline .given in
-    c .judge-update .ensures ∙ ap (λ (x : Bool). judgedUpdate (a .lifecycle .state) x (a .number) (o .0 .0)) (c .before .is-m .ensures)
+    c .judge-update .ensures ∙ ap (λ (x : Rules). judgedUpdate (a .lifecycle .state) (x .numbered) (a .number) (o .0 .0)) (c .before .rules-of .ensures)
     ∙ judged-open (a .settings) (a .lifecycle) (a .number) (now (a .s)) u _ (sym (r .ensures) ∙ o .1)
 
 pub judge-spec : {M : Type 1} → statement M

@@ -6,7 +6,7 @@ use Rattle.lifecycle.proofs.live.Tie as tie
 
 returns : tie.Need-returns
 unfolding liveLifecycle
-returns c = rw (c .either .ensures)
+returns c = rw (c .either .ensures, c .before .is-snapshot .ensures)
 
 pub live-spec : {M : Type 1} → statement M
-live-spec = tie.close (tie.spec (λ c κs. search needs) returns)
+live-spec = tie.close (tie.spec (λ c κs. search needs) (λ c κs. search needs) returns)

@@ -10,19 +10,22 @@ use Rattle.message.proofs.read_frame.Tie as tie
 
 returns : tie.Need-returns
 returns c =
-    let a = c .before .before .before .args in
-    frame-long (record { dialect = a .dialect; depth = a .depth; name = now (a .name) }) (now (a .s)) (c .if1 .taken)
+    let a = c .before .before .before .before .before .args in
+    let u = c .before .before .rules-of in
+    frame-long (record { dialect = a .dialect; depth = a .depth; name = now (a .name) }) (now (a .s)) (u .result) (u .ensures) (c .if1 .taken)
 
 returns-2 : tie.Need-returns-2
 returns-2 c =
-    let a = c .before .before .before .before .before .before .before .args in
+    let a = c .before .before .before .before .before .before .before .before .before .args in
+    let u = c .before .before .before .before .before .before .rules-of in
     let k = c .before .before .before .skip-blanks .ensures in
-    c .decide .ensures ∙ frame-rest (record { dialect = a .dialect; depth = a .depth; name = now (a .name) }) (now (a .s)) (c .before .before .before .before .if1 .left) (c .before .before .scan-at .result) (c .before .before .scan-at .ensures ∙ ap (scanAt (envelopeIn (a .dialect) (record { dialect = a .dialect; depth = a .depth; name = now (a .name) })) (now (a .s))) k) (c .before .is-ended .result) (c .before .is-ended .ensures)
+    c .decide .ensures ∙ frame-rest (record { dialect = a .dialect; depth = a .depth; name = now (a .name) }) (now (a .s)) (u .result) (u .ensures) (c .before .before .before .before .if1 .left) (c .before .before .scan-at .result) (c .before .before .scan-at .ensures ∙ ap (scanAt (envelopeIn (a .dialect) (record { dialect = a .dialect; depth = a .depth; name = now (a .name) })) (now (a .s))) k) (c .before .is-ended .result) (c .before .is-ended .ensures)
 
 pub read-frame-spec : {M : Type 1} → statement M
 read-frame-spec =
     tie.close
     (tie.spec
+    (λ c κs. search needs)
     returns
     (λ c κs. search needs)
     (λ c κs. search needs)

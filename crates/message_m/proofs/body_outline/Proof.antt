@@ -13,15 +13,15 @@ returns : tie.Need-returns
 returns c =
     let a = c .before .before .before .before .before .before .args in
     let s = now (a .s) in
-    c .no-outline .ensures ∙ body-not-once s (a .snapshot) (a .met) (c .before .if1 .taken)
+    c .no-outline .ensures ∙ body-not-once s (a .kind) (a .met) (c .before .if1 .taken)
 
 returns-2 : tie.Need-returns-2
 returns-2 c =
     let a = c .before .before .before .before .before .before .before .before .args in
     let s = now (a .s) in
     let m = a .met in
-    c .numbers-outline .ensures ∙ ap₂ (λ (x y : EntryArray). numbersIn s (a .snapshot) x y (m .checksum) (m .gsn)) (c .before .before .once-listed .ensures) (c .before .once-listed2 .ensures)
-    ∙ body-once s (a .snapshot) (a .met) (c .before .before .before .if1 .left)
+    c .numbers-outline .ensures ∙ ap₂ (λ (x y : EntryArray). numbersIn s (a .kind) x y (m .checksum) (m .gsn)) (c .before .before .once-listed .ensures) (c .before .once-listed2 .ensures)
+    ∙ body-once s (a .kind) (a .met) (c .before .before .before .if1 .left)
 
 pub body-outline-spec : {M : Type 1} → statement M
 body-outline-spec =

@@ -5,7 +5,7 @@ use mathlib.Core.List.{List}
 use Prim.Native.Nat.{ℕ}
 use denote.Ref.{now}
 use Rattle.lifecycle.specs.Lifecycle.{judgedUpdate}
-use Rattle.settings.specs.Settings.{isM}
+use Rattle.settings.specs.Rules.{rulesOf}
 use Rattle.sides.specs.Worked.{SideAfter, sideAfter}
 use Rattle.layout.specs.declared.Outline.{Outline}
 use Rattle.message.specs.declared.Verdict.the-variants.{Passes}
@@ -32,7 +32,7 @@ passed : (s : tie.Start) → Passed (bookAt s) (textAt s) (outlineAt s)
 unfolding Judged
 passed s = s .pre .0 .0
 
-early : (s : tie.Start) → judgedUpdate (bookAt s .lifecycle .state) (isM (bookAt s .settings .dialect)) (bookAt s .number) (outlineAt s) ≡ Passes (outlineAt s)
+early : (s : tie.Start) → judgedUpdate (bookAt s .lifecycle .state) (rulesOf (bookAt s .settings .dialect) .numbered) (bookAt s .number) (outlineAt s) ≡ Passes (outlineAt s)
 unfolding Judged
 early s = s .pre .0 .1
 

@@ -3,15 +3,15 @@
 use mathlib.Core.Path.{_≡_, sym, ap, ap₂, _∙_, subst}
 use mathlib.Core.List.{List}
 use Prim.Native.Nat.{ℕ, suc, _+_, _-_, _*_, _/_, _%_, _^_, _≤_, _<_}
-use native.Mathlib.Nat.{add-zero, add-suc, le-refl, lt-of-lt-of-le}
+use native.Mathlib.Nat.{le-refl, lt-of-lt-of-le}
 use native.Mathlib.Omega.{arith}
 use lib.Pow.{high, pow-mono}
-use lib.Dec.{lit<}
 use lib.Bits.{bitXor}
 use lib.ListN.{length, getD, take, drop, length-take, length-drop, take-append-drop, drop-of-length-le}
 use lib.Seq.{take-all, drop-cons, drop-drop}
+use Rattle.text.specs.Words.{word, wordAt}
 use Rattle.crc32_spec.specs.Crc.{bits, run}
-use Rattle.crc32_spec.specs.Text.{Bytes, bytes-drop, bytes-take, word, word-append, word-lt, run-append, run-absorbed, run-word}
+use Rattle.crc32_spec.specs.Text.{Bytes, bytes-drop, bytes-take, word-append, word-lt, run-append, run-absorbed, run-word}
 
 pub at-end : (t : List ℕ) (s i : ℕ) → length t ≤ i → s ≡ run s (drop i t)
 unfolding run
@@ -20,22 +20,8 @@ at-end t s i h = ap (run s) (sym (drop-of-length-le t h))
 -- ---- eight bytes
 
 module _ (t : List ℕ) (i : ℕ) (room : i + 8 ≤ length t) where
-  first : (n k : ℕ) → k < 8 → word (take (suc n) (drop (i + k) t)) ≡ word (take n (drop (i + suc k) t)) * 256 + getD t (i + k) 0
-  unfolding word
-  first n k h =
-      let l : i + k < length t = omega arith in
-      ap (λ (xs : List ℕ). word (take (suc n) xs)) (drop-cons t (i + k) 0 l)
-      ∙ ap (λ (j : ℕ). word (take n (drop j t)) * 256 + getD t (i + k) 0) (sym (add-suc i k))
-
-  pub eight-bytes : word (take 8 (drop i t)) ≡
-      getD t i 0 + getD t (i + 1) 0 * 256 + getD t (i + 2) 0 * 65536 + getD t (i + 3) 0 * 16777216 + getD t (i + 4) 0 * 4294967296
-      + getD t (i + 5) 0 * 1099511627776 + getD t (i + 6) 0 * 281474976710656 + getD t (i + 7) 0 * 72057594037927936
-  unfolding word
-  eight-bytes =
-      let e0 : word (take 8 (drop i t)) ≡ word (take 7 (drop (i + 1) t)) * 256 + getD t i 0 = rw (add-zero) at (first 7 0 (lit< tt)) in
-      omega (arith, first 6 1 (lit< tt), first 5 2 (lit< tt), first 4 3 (lit< tt), first 3 4 (lit< tt), first 2 5 (lit< tt), first 1 6 (lit< tt), first 0 7 (lit< tt))
-
-  pub eight-absorbed : (s w r : ℕ) → Bytes t → w ≡ word (take 8 (drop i t)) → r ≡ bits 64 (bitXor s w) → run r (drop (i + 8) t) ≡ run s (drop i t)
+  pub eight-absorbed : (s w r : ℕ) → Bytes t → w ≡ wordAt t i → r ≡ bits 64 (bitXor s w) → run r (drop (i + 8) t) ≡ run s (drop i t)
+  unfolding wordAt
   eight-absorbed s w r h e f =
       let l : length (take 8 (drop i t)) ≡ 8 = simp (length-take, length-drop) (omega arith) in
       ap₂ run
@@ -62,8 +48,9 @@ module _ (t : List ℕ) (i : ℕ) (bs : Bytes t) where
       f ∙ ap (λ (n : ℕ). bits (8 * n) (bitXor s (w % 2 ^ (8 * n)))) (sym (length-drop i t)) ∙ run-absorbed (drop i t) s w (bytes-drop i t bs) e
 
   -- fewer than eight, from the last eight
-  pub last-load : (w : ℕ) → i ≤ length t → length t < i + 8 → 8 ≤ length t → w ≡ word (take 8 (drop (length t - 8) t)) →
+  pub last-load : (w : ℕ) → i ≤ length t → length t < i + 8 → 8 ≤ length t → w ≡ wordAt t (length t - 8) →
       w / 2 ^ (64 - 8 * (length t - i)) ≡ word (drop i t)
+  unfolding wordAt
   last-load w within few long e =
       let n : length (drop (length t - 8) t) ≡ 8 = length-drop (length t - 8) t ∙ whole in
       let m : length (take (8 - (length t - i)) (drop (length t - 8) t)) ≡ 8 - (length t - i) = simp (length-take) (omega arith) in

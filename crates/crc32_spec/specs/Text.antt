@@ -11,6 +11,7 @@ use lib.Bits.{bitXor, xor-zero-l, xor-zero-r, xor-comm, xor-lt, xor-shifted}
 use lib.ListN.{length, getD, take, drop}
 use lib.Seq.{getD-drop}
 use lib.Dec.{lit<}
+use Rattle.text.specs.Words.{word}
 use Rattle.crc32_spec.specs.Crc.{polynomial, bit, bits, step, run, start, finish, crc}
 use Rattle.crc32_spec.specs.Laws.{mod-two-lt, xor-assoc, bits-xor, bits-add, bits-even}
 
@@ -27,10 +28,6 @@ bytes-take (suc n) (x ∷ xs) h zero = h 0
 bytes-take (suc n) (x ∷ xs) h (suc i) = bytes-take n xs (λ k. h (suc k)) i
 
 -- ---- a text as one number, the first byte lowest
-
-unfoldable pub word : List ℕ → ℕ
-word [] = 0
-word (b ∷ bs) = word bs * 256 + b
 
 -- 2 ^ (8 * n), one byte more
 pow-byte : (n : ℕ) → 2 ^ (8 * n) * 256 ≡ 2 ^ (8 * suc n)

@@ -78,8 +78,8 @@ module _ {A S R : Type 0} (o : Loop A S R) where
       no-comma : l ≡ 0 → separator 44 (o .text) e ≡ Broken
       no-comma z = end-broken l (omega arith) (separator-in (o .text) 44 e (omega arith)) c z
 
-      pub fold-further : (l ≡ 0 → ⊥) → (i < l) × (i < length (o .text))
-      fold-further n = let q = past-comma n .0 in let b = h .some in let m = h .inside in (omega arith, omega arith)
+      pub fold-further : (l ≡ 0 → ⊥) → (i < e) × (e ≤ l) × (i < length (o .text))
+      fold-further n = let m = h .inside in (h .some, past-comma n .0, omega arith)
 
       -- the next item is to begin at l
       pub fold-on : (l ≡ 0 → ⊥) → {next : S} → next ≡ o .step st a → Left next l r

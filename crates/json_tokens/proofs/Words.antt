@@ -12,9 +12,11 @@ use lib.Count.{trailingZeros, trailing-of-zero}
 use lib.Dec.{leb, eqb}
 use borrow.Author.Tests.{eqb-true, eqb-false, leb-true, not-true, ne-eqb, le-leb}
 use Rattle.text.specs.Text.{byteAt}
+use Rattle.text.specs.Words.{wordAt}
+use Rattle.text.proofs.Words.{eight-bytes}
 use Rattle.json_tokens.specs.Ends.{unescaped}
 use Rattle.json_tokens.specs.Tokens.{Broken, stringRest}
-use Rattle.json_tokens.specs.Words.{twoAt, fourAt, wordAt, specialBytes, CharEnd}
+use Rattle.json_tokens.specs.Words.{specialBytes, CharEnd}
 use Rattle.json_tokens.proofs.Laws.{in-kind, rest-plain}
 
 -- ---- bytes that stand for themselves
@@ -264,28 +266,28 @@ module _ (s : List ℕ) (small : (k : ℕ) → byteAt s k < 256) where
   module _ (i : ℕ) where
     eight : List ℕ
     eight =
-        byteAt s i ∷ byteAt s (i + 1) ∷ byteAt s (i + 2) ∷ byteAt s (i + 2 + 1)
-        ∷ byteAt s (i + 4) ∷ byteAt s (i + 4 + 1) ∷ byteAt s (i + 4 + 2) ∷ byteAt s (i + 4 + 2 + 1) ∷ []
+        byteAt s i ∷ byteAt s (i + 1) ∷ byteAt s (i + 2) ∷ byteAt s (i + 3)
+        ∷ byteAt s (i + 4) ∷ byteAt s (i + 5) ∷ byteAt s (i + 6) ∷ byteAt s (i + 7) ∷ []
 
     eight-held : Holds i eight
     unfolding eight
     eight-held =
         a-byte i (i + 1) _ refl (a-byte (i + 1) (i + 2) _ (omega arith)
-        (a-byte (i + 2) (i + 2 + 1) _ refl (a-byte (i + 2 + 1) (i + 4) _ (omega arith)
-        (a-byte (i + 4) (i + 4 + 1) _ refl (a-byte (i + 4 + 1) (i + 4 + 2) _ (omega arith)
-        (a-byte (i + 4 + 2) (i + 4 + 2 + 1) _ refl (a-byte (i + 4 + 2 + 1) (i + 8) _ (omega arith) (no-byte (i + 8)))))))))
+        (a-byte (i + 2) (i + 3) _ (omega arith) (a-byte (i + 3) (i + 4) _ (omega arith)
+        (a-byte (i + 4) (i + 5) _ (omega arith) (a-byte (i + 5) (i + 6) _ (omega arith)
+        (a-byte (i + 6) (i + 7) _ (omega arith) (a-byte (i + 7) (i + 8) _ (omega arith) (no-byte (i + 8)))))))))
 
-    eight-word : wordAt s i ≡ lanes same eight
-    unfolding eight lanes same wordAt fourAt twoAt
-    eight-word = omega arith
+    eight-word : i + 8 ≤ length s → wordAt s i ≡ lanes same eight
+    unfolding eight lanes same byteAt
+    eight-word room = omega (arith, eight-bytes s i room)
 
     eight-marks : specialBytes (lanes same eight) ≡ lanes marks eight
     unfolding eight lanes always specialBytes
     eight-marks = is-marks eight (held-bytes eight-held)
 
-    pub rest-special : stringRest s (i + trailingZeros 64 (specialBytes (wordAt s i)) / 8) ≡ stringRest s i
+    pub rest-special : i + 8 ≤ length s → stringRest s (i + trailingZeros 64 (specialBytes (wordAt s i)) / 8) ≡ stringRest s i
     unfolding eight width
-    rest-special = ap (λ m. stringRest s (i + trailingZeros 64 m / 8)) (ap specialBytes eight-word ∙ eight-marks) ∙ rest-marked eight-held
+    rest-special room = ap (λ m. stringRest s (i + trailingZeros 64 m / 8)) (ap specialBytes (eight-word room) ∙ eight-marks) ∙ rest-marked eight-held
 
 -- ---- where a character ends
 module _ (s : List ℕ) (i : ℕ) where

@@ -9,16 +9,6 @@ use Rattle.text.specs.Text.{byteAt}
 use Rattle.json_tokens.specs.Bytes.{quote}
 use Rattle.json_tokens.specs.Tokens.{Broken, stringRest}
 
--- two, four and eight bytes from i on as one number, the first the lowest
-unfoldable pub twoAt : List ℕ → ℕ → ℕ
-twoAt s i = byteAt s i + byteAt s (i + 1) * 256
-
-unfoldable pub fourAt : List ℕ → ℕ → ℕ
-fourAt s i = twoAt s i + twoAt s (i + 2) * 65536
-
-unfoldable pub wordAt : List ℕ → ℕ → ℕ
-wordAt s i = fourAt s i + fourAt s (i + 4) * 4294967296
-
 -- Eight times the same byte: 127, 128, 96, a quote, a backslash.
 abbrev pub low : ℕ
 low = 9187201950435737471

@@ -9,7 +9,7 @@
 // colon past it at 5 (`colon_end(s, 4) == 5`), and the number there at 9 (`number_end(s, 5) == 9`).
 pub use text::byte_at;
 use text::is_digit;
-use text::wide;
+use text::word_at;
 ghost use mathlib.Core.Path.{_≡_};
 ghost use Prim.Native.Nat.{_+_, _≤_, _<_};
 ghost use lib.ListN.{length};
@@ -18,7 +18,7 @@ ghost use Rattle.json_tokens.specs.Bytes.{comma, closeArray, closeObject
 ghost use Rattle.json_tokens.specs.Ends.{unescaped};
 ghost use Rattle.json_tokens.specs.Tokens.{blanks, digits, someDigits, closing, separator, stringRest, string, minus, sign, int, fraction, exponent, jsonNumber, literal, scalar, ended};
 ghost use Rattle.json_tokens.specs.Ends.{endOf, fourHex};
-ghost use Rattle.json_tokens.specs.Words.{twoAt, fourAt, wordAt, specialBytes, CharEnd};
+ghost use Rattle.json_tokens.specs.Words.{specialBytes, CharEnd};
 
 pub const QUOTE: u8 = 34;
 
@@ -203,28 +203,6 @@ fn is_unescaped(c: u8) -> bool
     } else {
         true
     }
-}
-
-// Two bytes from i on as one number, and then four and eight: together a single load.
-fn two_at(s: &[u8], i: usize) -> u64
-    requires { ⌜ i + 2 ≤ length (now s) ⌝ }
-    ensures { λ r. ⌜ (r ≡ twoAt (now (s .entry)) i) × (r < 65536) ⌝ }
-{
-    wide(s[i]) + wide(s[i + 1]) * 256
-}
-
-fn four_at(s: &[u8], i: usize) -> u64
-    requires { ⌜ i + 4 ≤ length (now s) ⌝ }
-    ensures { λ r. ⌜ (r ≡ fourAt (now (s .entry)) i) × (r < 4294967296) ⌝ }
-{
-    two_at(s, i) + two_at(s, i + 2) * 65536
-}
-
-fn word_at(s: &[u8], i: usize) -> u64
-    requires { ⌜ i + 8 ≤ length (now s) ⌝ }
-    ensures { λ r. ⌜ r ≡ wordAt (now (s .entry)) i ⌝ }
-{
-    four_at(s, i) + four_at(s, i + 4) * 4294967296
 }
 
 // Eight times the byte 127, 128, 96, a quote, a backslash.

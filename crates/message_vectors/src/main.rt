@@ -10,6 +10,7 @@
 use answer::number_of;
 use decimal::ParsedWhole;
 use layout::Outline;
+use layout::is_snapshot;
 use libc::STDIN_FILENO;
 use libc::STDOUT_FILENO;
 use lines::LINE_END;
@@ -202,7 +203,8 @@ fn tell_bad(dialect: Dialect, depth: usize, name: &[u8], text: &[u8]) {
 }
 
 fn tell_outline(outline: Outline) {
-    if outline.snapshot {
+    let kind = outline.kind;
+    if is_snapshot(kind) {
         write(b"0 snapshot");
     } else {
         write(b"0 update");

@@ -21,7 +21,8 @@ use Rattle.book.specs.declared.NumberReply.{NumberReply}
 use Rattle.reference.specs.Reference.{Reference, Reply, Value, Ask, message, question, replied, howMany, levelAt, whichNumber, howManyUpdates, write, does, receive}
 use Rattle.reference.proofs.Claims.{same-buffer}
 use Rattle.book.specs.Shown.{Good, shows, Received, AnswersCounts, AnswersLevel, AnswersAmount, Wrote}
-use Rattle.replay.specs.Format.{wordAt, opcode, scopeOf, sideOf, askOf, levelWords, valueWords, replyWords}
+use Rattle.text.specs.Words.{wordAt}
+use Rattle.replay.specs.Format.{opcode, scopeOf, sideOf, askOf, levelWords, valueWords, replyWords}
 use Rattle.replay.specs.Calls.{Answered, stepReplied, countsReplied, levelReplied, numberReplied}
 use Rattle.replay.specs.declared.asking.Replied.{Replied}
 

@@ -10,7 +10,8 @@ use lib.Dec.{lit<}
 use lib.ListN.{length, getD, take, drop, length-append}
 use lib.Pow.{shr-lt, split}
 use lib.Seq.{drop-drop, take-at, drop-at}
-use Rattle.crc32_spec.specs.Text.{Bytes, word}
+use Rattle.text.specs.Words.{word, wordAt}
+use Rattle.crc32_spec.specs.Text.{Bytes}
 use Rattle.level.specs.Ranked.{All}
 use Rattle.level.specs.declared.Side.{Side}
 use Rattle.level.specs.declared.Side.the-variants.{Bids, Asks}
@@ -19,7 +20,7 @@ use Rattle.reference.specs.declared.Scope.the-variants.{Current, LastGood}
 use Rattle.reference.specs.Reference.{Ask, message, question, howMany, levelAt, whichNumber, howManyUpdates, write, Call, repliesTo, opened}
 use Rattle.reference.specs.Claims.{call}
 use Rattle.reference.proofs.Claims.{from-snapshot}
-use Rattle.replay.specs.Format.{bytesOf, wordsOf, wordAt, isWhole, scopeOf, sideOf, askOf, callLength, replyLength, called, decode, script, laidIn}
+use Rattle.replay.specs.Format.{bytesOf, wordsOf, isWhole, scopeOf, sideOf, askOf, callLength, replyLength, called, decode, script, laidIn}
 use Rattle.replay.specs.Claims.{opcodeOf, scopeNumber, sideNumber, scopeIn, sideIn, indexIn, messageIn, headerWords, scriptOf, outOf, Holds, Plain, Every-list, Every-script, Listed, Replayed-list, Replayed-snapshot}
 use Rattle.replay.proofs.Fields.{length-bytes, whole-by}
 use Rattle.replay.proofs.Laying.{length-words}

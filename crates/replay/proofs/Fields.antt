@@ -7,7 +7,7 @@ use native.Mathlib.Omega.{arith}
 use borrow.Author.Tests.{leb-true, le-leb, lt-leb}
 use lib.Dec.{leb}
 use lib.ListN.{length, length-append}
-use Rattle.replay.specs.Format.{bytesOf, wordsOf, wordAt, opcode, messageLength, bufferLength, isWhole, callLength, replyLength}
+use Rattle.replay.specs.Format.{bytesOf, wordsOf, opcode, messageLength, bufferLength, isWhole, callLength, replyLength}
 
 pub length-bytes : (k n : ℕ) → length (bytesOf k n) ≡ k
 unfolding bytesOf

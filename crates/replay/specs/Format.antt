@@ -4,7 +4,7 @@ use mathlib.Core.Bool.{Bool, true, false, _&&_, cond}
 use mathlib.Core.List.{List, [], _∷_, _++_}
 use lib.Dec.{leb, eqb}
 use lib.ListN.{length, take, drop}
-use Rattle.crc32_spec.specs.Text.{word}
+use Rattle.text.specs.Words.{wordAt}
 use Rattle.settings.specs.declared.Dialect.{Dialect}
 use Rattle.settings.specs.declared.Dialect.the-variants.{K, M, Unknown}
 use Rattle.level.specs.Level.{PriceLevel}
@@ -24,9 +24,6 @@ bytesOf (suc k) n = n % 256 ∷ bytesOf k (n / 256)
 unfoldable pub wordsOf : List ℕ → List ℕ
 wordsOf [] = []
 wordsOf (n ∷ ns) = bytesOf 8 n ++ wordsOf ns
-
-unfoldable pub wordAt : List ℕ → ℕ → ℕ
-wordAt s at = word (take 8 (drop at s))
 
 -- ---- a call of a script: a header of six words, then the message
 

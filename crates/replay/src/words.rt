@@ -1,11 +1,11 @@
 // The words of a script and of its replies: eight bytes each, the lowest first.
-use text::wide;
+use text::word_at;
 ghost use mathlib.Core.Path.{_≡_};
 ghost use mathlib.Core.Bool.{true};
 ghost use Prim.Native.Nat.{_+_, _-_, _≤_, _<_};
 ghost use lib.ListN.{length};
 ghost use Rattle.writer.specs.Parts.{Put};
-ghost use Rattle.replay.specs.Format.{wordAt, bytesOf, isWhole, callLength, replyLength};
+ghost use Rattle.replay.specs.Format.{bytesOf, isWhole, callLength, replyLength};
 
 // A call's header is six words: what is asked, scope, side, index, the lengths of the lent buffer and of the message.
 pub const HEADER: usize = 48;
@@ -26,21 +26,6 @@ const LAST_OPCODE: u64 = 5;
 
 // A reply begins with five words.
 pub const REPLY_WORDS: usize = 40;
-
-// The word at a position.
-pub fn word_at(s: &[u8], at: usize) -> u64
-    requires { ⌜ at + 8 ≤ length (now s) ⌝ }
-    ensures { λ r. ⌜ r ≡ wordAt (now (s .entry)) at ⌝ }
-{
-    wide(s[at])
-        + wide(s[at + 1]) * 256
-        + wide(s[at + 2]) * 65536
-        + wide(s[at + 3]) * 16777216
-        + wide(s[at + 4]) * 4294967296
-        + wide(s[at + 5]) * 1099511627776
-        + wide(s[at + 6]) * 281474976710656
-        + wide(s[at + 7]) * 72057594037927936
-}
 
 // Lays a word at a position, and answers the position past it.
 pub fn lay_word(n: u64, part: &mut [u8], at: usize) -> usize

@@ -1,28 +1,52 @@
 -- `entries::entries_at` meets its contract: wherever the loop stands, what was counted with what the entries left will add is the answer.
 -- Assumes nothing.
-use Prim.Native.Nat.{_-_, _≤_}
+use Prim.Native.Nat.{ℕ, _+_, _-_, _≤_}
 use borrow.Author.Needs.{needs}
 use denote.Ref.{now}
 use lib.ListN.{length}
-use mathlib.Core.Path.{_≡_, _∙_, ap, refl, sym}
+use mathlib.Core.List.{List}
+use mathlib.Core.Path.{_≡_, _∙_, ap, sym}
 use native.Mathlib.Omega.{arith}
-use Rattle.json_tokens.proofs.Bounds.{closing-in, end-broken, separator-in}
-use Rattle.json_tokens.proofs.Laws.{end-at, in-byte}
-use Rattle.json_tokens.specs.Tokens.{closing, separator}
-use Rattle.json.proofs.Walk.{Walk}
-use Rattle.entries.proofs.Counting.{counted-end}
-use Rattle.entries.proofs.Summary.{each, each-broken, each-few, each-further, each-last, each-on, each-wrong, found-past, summary-empty, summary-other, summary-start, summaryIn}
-use Rattle.entries.specs.Rows.{entryFor}
-use Rattle.entries.specs.Summary.{entryPlaceAt, noEntries, summaryAt}
+use Rattle.decimal.specs.Digits.{Reading}
+use Rattle.json_tokens.proofs.Laws.{in-byte}
+use Rattle.json_tokens.specs.Ends.{endOf}
+use Rattle.json.specs.Json.{Span, elements, value}
+use Rattle.json.proofs.Fold.{Left, Stands, element-stands, no-element, fold-empty, fold-start, fold-wrong, fold-further, fold-on, fold-last, fold-broken}
+use Rattle.entries.proofs.Summary.{each, oneMore, over, nothing, each-end, each-step, each-few, summary-other, summary-fold}
+use Rattle.entries.specs.Rows.{Row, entryDepth, entryFor}
+use Rattle.entries.specs.Summary.{noEntries, summaryAt}
 use Rattle.entries.specs.declared.Entries.{Entries}
 use Rattle.entries.proofs.entries_at.Statement.{statement}
 use Rattle.entries.proofs.entries_at.Tie as tie
 
 abbrev Inv-loop : tie.InvT-loop
-Inv-loop s at m none i₀ sum₀ i sum = Walk (each s) 93 s (summaryIn (entryFor m) s sum) i (each s i) (summaryAt (entryFor m) s at) × (sum .count ≤ i)
+Inv-loop s at m none i₀ sum₀ i sum = Left (over (entryFor m) s) sum i (summaryAt (entryFor m) s at) × (sum .count ≤ i)
 
 abbrev μ-loop : tie.MeasureT-loop
 μ-loop s at m none i₀ sum₀ i sum = length s - i
+
+-- the entry where the loop stands was counted
+module _ (c : tie.After-next-entry Inv-loop μ-loop) where
+  abbrev at : tie.At-loop Inv-loop μ-loop
+  at = c .before
+
+  abbrev text : List ℕ
+  text = now (at .before .before .before .before .before .before .before .before .args .s)
+
+  abbrev entry : List ℕ → Span → Reading Row
+  entry = entryFor (at .before .before .before .before .before .before .before .before .args .m)
+
+  abbrev more : Entries
+  more = c .next-entry .result
+
+  abbrev ends : more .end ≡ endOf (value entryDepth text (at .loop .i))
+  ends = each-end entry text (at .loop .i) (at .loop .sum) more (c .next-entry .ensures)
+
+  abbrev stands : (more .end ≡ 0 → ⊥) → Stands (each text) text (at .loop .i) (record { from = at .loop .i; to = more .end }) (more .end)
+  stands = element-stands entryDepth text (at .loop .i) (more .end) ends
+
+  abbrev steps : (more .end ≡ 0 → ⊥) → more ≡ oneMore entry text (at .loop .sum) (record { from = at .loop .i; to = more .end })
+  steps = each-step entry text (at .loop .i) (at .loop .sum) more (c .next-entry .ensures)
 
 returns : tie.Need-returns Inv-loop μ-loop
 returns c =
@@ -37,11 +61,13 @@ add-array-close-end c =
     omega arith
 
 returns-2 : tie.Need-returns-2 Inv-loop μ-loop
+unfolding elements
 returns-2 c =
     let a = c .before .before .before .before .before .before .args in
     let s = now (a .s) in
-    let e = c .before .before .array-close-end .result in
-    c .empty .ensures ∙ summary-empty (entryFor (a .m)) s (a .at) (sym (c .before .before .before .before .byte-at .ensures) ∙ c .before .before .before .if1 .left) e (c .before .before .array-close-end .ensures) (c .before .if2 .taken)
+    let o = over (entryFor (a .m)) s in
+    c .empty .ensures ∙ fold-empty o (nothing 0) (a .at + 1) (c .before .before .array-close-end .result) (c .before .before .array-close-end .ensures) (λ z. omega arith)
+    ∙ summary-fold (entryFor (a .m)) s (a .at) (sym (c .before .before .before .before .byte-at .ensures) ∙ c .before .before .before .if1 .left)
 
 add-skip-blanks : tie.Need-add-skip-blanks Inv-loop μ-loop
 add-skip-blanks c =
@@ -50,101 +76,56 @@ add-skip-blanks c =
     omega arith
 
 loop-holds : tie.Need-loop-holds Inv-loop μ-loop
+unfolding elements
 loop-holds c =
     let a = c .before .before .before .before .before .before .before .args in
     let s = now (a .s) in
-    let e = c .before .before .before .array-close-end .result in
-    let k = c .before .skip-blanks .result in
+    let o = over (entryFor (a .m)) s in
     let h = c .empty2 .ensures in
-    let w = summary-start (entryFor (a .m)) s (a .at) (sym (c .before .before .before .before .before .byte-at .ensures) ∙ c .before .before .before .before .if1 .left) e (c .before .before .before .array-close-end .ensures) k (omega arith) (c .before .skip-blanks .ensures) in
+    let w = fold-start o (nothing 0) (a .at + 1) (c .before .before .before .array-close-end .result) (c .before .before .before .array-close-end .ensures) (omega arith) (c .before .skip-blanks .result) (c .before .skip-blanks .ensures) in
+    let x = summary-fold (entryFor (a .m)) s (a .at) (sym (c .before .before .before .before .before .byte-at .ensures) ∙ c .before .before .before .before .if1 .left) in
     let n = ap (λ (x : Entries). x .count) h in
-    (rw h w, omega arith)
+    (rw h (rw x at w), omega arith)
 
 next-entry-requires : tie.Need-next-entry-requires Inv-loop μ-loop
 next-entry-requires c κs = c .loop .inv .1
 
 returns-3 : tie.Need-returns-3 Inv-loop μ-loop
 returns-3 c =
-    let a = c .before .before .before .before .before .before .before .before .before .before .before .args in
-    let s = now (a .s) in
-    let i = c .before .before .before .loop .i in
-    let sum = c .before .before .before .loop .sum in
-    let w = c .before .before .before .loop .inv in
-    let g = entryPlaceAt (entryFor (a .m)) s i in
-    let e = c .before .before .next-entry .ensures in
-    let y = ap (λ (x : Entries). x .end) e ∙ counted-end s sum g in
-    c .refused2 .ensures ∙ each-wrong (entryFor (a .m)) s i g refl sum (summaryAt (entryFor (a .m)) s (a .at)) (w .0) (sym y ∙ c .before .if3 .taken)
+    let m = c .before .before in
+    let a = at m .loop in
+    c .refused2 .ensures ∙ fold-wrong (over (entry m) (text m)) (a .sum) (a .inv .0) (no-element entryDepth (text m) (a .i) (more m .end) (ends m) (c .before .if3 .taken))
 
 returns-4 : tie.Need-returns-4 Inv-loop μ-loop
 returns-4 c =
-    let a = c .before .before .before .before .before .before .before .before .before .before .before .before .before .before .before .args in
-    let s = now (a .s) in
-    let i = c .before .before .before .before .before .before .before .loop .i in
-    let sum = c .before .before .before .before .before .before .before .loop .sum in
-    let w = c .before .before .before .before .before .before .before .loop .inv in
-    let g = entryPlaceAt (entryFor (a .m)) s i in
-    let m = c .before .before .before .before .before .before .next-entry .result in
-    let e = c .before .before .before .before .before .before .next-entry .ensures in
-    let y = ap (λ (x : Entries). x .end) e ∙ counted-end s sum g in
-    let n : (g .end ≡ 0 → ⊥) = λ z. c .before .before .before .before .before .if3 .left (y ∙ z) in
-    let j = c .before .before .before .before .comma-end .result in
-    let q = ap (separator 44 s) (sym y) ∙ end-broken j (omega arith) (separator-in s 44 (m .end) (omega arith)) (c .before .before .before .before .comma-end .ensures) (c .before .before .before .if4 .taken) in
-    let d = ap (closing 93 s) (sym y) ∙ end-broken (c .before .before .array-close-end2 .result) (omega arith) (closing-in s 93 (m .end) (omega arith)) (c .before .before .array-close-end2 .ensures) (c .before .if5 .taken) in
-    c .refused3 .ensures ∙ each-broken (entryFor (a .m)) s i g refl sum (summaryAt (entryFor (a .m)) s (a .at)) (w .0) n m e q d
+    let m = c .before .before .before .before .before .before in
+    c .refused3 .ensures
+    ∙ fold-broken (over (entry m) (text m)) (at m .loop .sum) (at m .loop .inv .0) (stands m (c .before .before .before .before .before .if3 .left))
+    (c .before .before .before .before .comma-end .result) (c .before .before .before .before .comma-end .ensures) (c .before .before .before .if4 .taken)
+    (c .before .before .array-close-end2 .result) (c .before .before .array-close-end2 .ensures) (c .before .if5 .taken)
 
 returns-5 : tie.Need-returns-5 Inv-loop μ-loop
 returns-5 c =
-    let a = c .before .before .before .before .before .before .before .before .before .before .before .before .before .before .before .args in
-    let s = now (a .s) in
-    let i = c .before .before .before .before .before .before .before .loop .i in
-    let sum = c .before .before .before .before .before .before .before .loop .sum in
-    let w = c .before .before .before .before .before .before .before .loop .inv in
-    let g = entryPlaceAt (entryFor (a .m)) s i in
-    let m = c .before .before .before .before .before .before .next-entry .result in
-    let e = c .before .before .before .before .before .before .next-entry .ensures in
-    let y = ap (λ (x : Entries). x .end) e ∙ counted-end s sum g in
-    let n : (g .end ≡ 0 → ⊥) = λ z. c .before .before .before .before .before .if3 .left (y ∙ z) in
-    let j = c .before .before .before .before .comma-end .result in
-    let q = ap (separator 44 s) (sym y) ∙ end-broken j (omega arith) (separator-in s 44 (m .end) (omega arith)) (c .before .before .before .before .comma-end .ensures) (c .before .before .before .if4 .taken) in
-    let k = c .before .before .array-close-end2 .result in
-    let d = ap (closing 93 s) (sym y) ∙ end-at (closing 93 s (m .end)) k (c .before .before .array-close-end2 .ensures) (c .before .if5 .left) in
-    c .closed .ensures ∙ each-last (entryFor (a .m)) s i g refl sum (summaryAt (entryFor (a .m)) s (a .at)) (w .0) n m e q k d
+    let m = c .before .before .before .before .before .before in
+    let some = c .before .before .before .before .before .if3 .left in
+    c .closed .ensures
+    ∙ fold-last (over (entry m) (text m)) (at m .loop .sum) (at m .loop .inv .0) (stands m some)
+    (c .before .before .before .before .comma-end .result) (c .before .before .before .before .comma-end .ensures) (c .before .before .before .if4 .taken)
+    (c .before .before .array-close-end2 .result) (c .before .before .array-close-end2 .ensures) (c .before .if5 .left) (steps m some)
 
 loop-less : tie.Need-loop-less Inv-loop μ-loop
 loop-less c =
-    let a = c .before .before .before .before .before .before .before .before .before .before .before .before .args in
-    let s = now (a .s) in
-    let i = c .before .before .before .before .loop .i in
-    let sum = c .before .before .before .before .loop .sum in
-    let w = c .before .before .before .before .loop .inv in
-    let g = entryPlaceAt (entryFor (a .m)) s i in
-    let m = c .before .before .before .next-entry .result in
-    let e = c .before .before .before .next-entry .ensures in
-    let y = ap (λ (x : Entries). x .end) e ∙ counted-end s sum g in
-    let n : (g .end ≡ 0 → ⊥) = λ z. c .before .before .if3 .left (y ∙ z) in
-    let j = c .before .comma-end .result in
-    let q = ap (separator 44 s) (sym y) ∙ end-at (separator 44 s (m .end)) j (c .before .comma-end .ensures) (c .if4 .left) in
-    let p = found-past (entryFor (a .m)) s i g refl n in
-    let f = each-further (entryFor (a .m)) s i g refl sum (summaryAt (entryFor (a .m)) s (a .at)) (w .0) n m e j q in
+    let m = c .before .before .before in
+    let f = fold-further (over (entry m) (text m)) (at m .loop .sum) (at m .loop .inv .0) (stands m (c .before .before .if3 .left)) (c .before .comma-end .result) (c .before .comma-end .ensures) (c .if4 .left) in
     omega arith
 
 loop-again : tie.Need-loop-again Inv-loop μ-loop
 loop-again c =
-    let a = c .before .before .before .before .before .before .before .before .before .before .before .before .args in
-    let s = now (a .s) in
-    let i = c .before .before .before .before .loop .i in
-    let sum = c .before .before .before .before .loop .sum in
-    let w = c .before .before .before .before .loop .inv in
-    let g = entryPlaceAt (entryFor (a .m)) s i in
-    let m = c .before .before .before .next-entry .result in
-    let e = c .before .before .before .next-entry .ensures in
-    let y = ap (λ (x : Entries). x .end) e ∙ counted-end s sum g in
-    let n : (g .end ≡ 0 → ⊥) = λ z. c .before .before .if3 .left (y ∙ z) in
-    let j = c .before .comma-end .result in
-    let q = ap (separator 44 s) (sym y) ∙ end-at (separator 44 s (m .end)) j (c .before .comma-end .ensures) (c .if4 .left) in
-    let f = each-further (entryFor (a .m)) s i g refl sum (summaryAt (entryFor (a .m)) s (a .at)) (w .0) n m e j q in
-    let b = each-few (entryFor (a .m)) s i g refl sum (summaryAt (entryFor (a .m)) s (a .at)) (w .0) n m e (w .1) in
-    (each-on (entryFor (a .m)) s i g refl sum (summaryAt (entryFor (a .m)) s (a .at)) (w .0) n m e j q, omega arith)
+    let m = c .before .before .before in
+    let some = c .before .before .if3 .left in
+    let few = each-few (entry m) (text m) (at m .loop .i) (at m .loop .sum) (more m) (m .next-entry .ensures) some (at m .loop .inv .1) in
+    let b = fold-further (over (entry m) (text m)) (at m .loop .sum) (at m .loop .inv .0) (stands m some) (c .before .comma-end .result) (c .before .comma-end .ensures) (c .if4 .left) in
+    (fold-on (over (entry m) (text m)) (at m .loop .sum) (at m .loop .inv .0) (stands m some) (c .before .comma-end .result) (c .before .comma-end .ensures) (c .if4 .left) (steps m some), omega arith)
 
 pub entries-at-spec : {M : Type 1} → statement M
 entries-at-spec =

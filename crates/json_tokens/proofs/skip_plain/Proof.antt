@@ -10,8 +10,9 @@ use mathlib.Core.Path.{_∙_, _≡_, ap, refl}
 use native.Mathlib.Omega.{arith}
 use Rattle.json_tokens.proofs.Words.{rest-special}
 use Rattle.text.specs.Text.{byteAt}
+use Rattle.text.specs.Words.{wordAt}
 use Rattle.json_tokens.specs.Tokens.{stringRest}
-use Rattle.json_tokens.specs.Words.{specialBytes, wordAt}
+use Rattle.json_tokens.specs.Words.{specialBytes}
 use Rattle.json_tokens.proofs.skip_plain.Statement.{statement}
 use Rattle.json_tokens.proofs.skip_plain.Tie as tie
 
@@ -22,9 +23,9 @@ abbrev μ-loop : tie.MeasureT-loop
 μ-loop s at i₀ i = length s - i
 
 -- past the bytes of a word below its lowest mark
-past : (s : List ℕ) → ((k : ℕ) → getD s k 0 < 256) → (i w m : ℕ) → w ≡ wordAt s i → m ≡ specialBytes w → stringRest s (i + trailingZeros 64 m / 8) ≡ stringRest s i
+past : (s : List ℕ) → ((k : ℕ) → getD s k 0 < 256) → (i w m : ℕ) → i + 8 ≤ length s → w ≡ wordAt s i → m ≡ specialBytes w → stringRest s (i + trailingZeros 64 m / 8) ≡ stringRest s i
 unfolding byteAt
-past s small i w m e f = ap (λ n. stringRest s (i + trailingZeros 64 n / 8)) (f ∙ ap specialBytes e) ∙ rest-special s small i
+past s small i w m room e f = ap (λ n. stringRest s (i + trailingZeros 64 n / 8)) (f ∙ ap specialBytes e) ∙ rest-special s small i room
 
 loop-holds : tie.Need-loop-holds Inv-loop μ-loop
 loop-holds c = (omega arith, refl)
@@ -39,14 +40,14 @@ returns : tie.Need-returns Inv-loop μ-loop
 returns c =
     let s = now (c .before .before .before .before .before .before .args .s) in
     let i = c .before .before .before .before .loop .i in
-    let p = past s (λ k. omega (arith, c .before .before .before .before .before .shared-slice-known .given k)) i (c .before .before .word-at .result) (c .before .special-bytes .result) (c .before .before .word-at .ensures) (c .before .special-bytes .ensures) in
+    let p = past s (λ k. omega (arith, c .before .before .before .before .before .shared-slice-known .given k)) i (c .before .before .word-at .result) (c .before .special-bytes .result) (omega arith) (c .before .before .word-at .ensures) (c .before .special-bytes .ensures) in
     p ∙ c .before .before .before .before .loop .inv .1
 
 loop-again : tie.Need-loop-again Inv-loop μ-loop
 loop-again c =
     let s = now (c .before .before .before .before .before .before .args .s) in
     let i = c .before .before .before .before .loop .i in
-    let p = past s (λ k. omega (arith, c .before .before .before .before .before .shared-slice-known .given k)) i (c .before .before .word-at .result) (c .before .special-bytes .result) (c .before .before .word-at .ensures) (c .before .special-bytes .ensures) in
+    let p = past s (λ k. omega (arith, c .before .before .before .before .before .shared-slice-known .given k)) i (c .before .before .word-at .result) (c .before .special-bytes .result) (omega arith) (c .before .before .word-at .ensures) (c .before .special-bytes .ensures) in
     let z : 8 ≡ trailingZeros 64 (c .before .special-bytes .result) / 8 = omega (arith, ap (trailingZeros 64) (c .if1 .left), trailing-of-zero 64) in
     (omega arith, ap (λ k. stringRest s (i + k)) z ∙ p ∙ c .before .before .before .before .loop .inv .1)
 

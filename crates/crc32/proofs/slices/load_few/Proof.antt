@@ -5,7 +5,7 @@ use borrow.Author.Needs.{needs}
 use lib.ListN.{length, drop}
 use mathlib.Core.Path.{_≡_, _∙_, ap}
 use native.Mathlib.Omega.{arith}
-use Rattle.crc32_spec.specs.Text.{word}
+use Rattle.text.specs.Words.{word}
 use Rattle.crc32.proofs.Texts.{byte-before, few-lt, no-bytes-left}
 use Rattle.crc32.proofs.slices.load_few.Statement.{statement}
 use Rattle.crc32.proofs.slices.load_few.Tie as tie

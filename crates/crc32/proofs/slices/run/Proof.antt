@@ -22,8 +22,8 @@ loop-holds c = (omega arith, refl)
 loop-again : tie.Need-loop-again Inv-loop μ-loop
 loop-again c = (
   omega arith,
-  eight-absorbed (c .before .before .before .before .before .args .t .now) (c .before .before .before .loop .i) (omega arith) (c .before .before .before .loop .state) (c .before .load8 .result) (c .absorb8 .result)
-      (λ k. c .before .before .before .before .shared-slice-known .given k .fits) (c .before .load8 .ensures) (c .absorb8 .ensures)
+  eight-absorbed (c .before .before .before .before .before .args .t .now) (c .before .before .before .loop .i) (omega arith) (c .before .before .before .loop .state) (c .before .word-at .result) (c .absorb8 .result)
+      (λ k. c .before .before .before .before .shared-slice-known .given k .fits) (c .before .word-at .ensures) (c .absorb8 .ensures)
       ∙ c .before .before .before .loop .inv .1,
 )
 

@@ -12,7 +12,7 @@ returns c = at-end (c .before .before .args .t .now) (c .before .before .args .s
 returns-2 : tie.Need-returns-2
 returns-2 c =
     last-absorbed (c .before .before .before .before .before .args .t .now) (c .before .before .before .before .before .args .at) (λ k. c .before .before .before .before .shared-slice-known .given k .fits) (c .before .before .before .before .before .args .s) _ _
-    (last-load (c .before .before .before .before .before .args .t .now) (c .before .before .before .before .before .args .at) (λ k. c .before .before .before .before .shared-slice-known .given k .fits) (c .before .load8 .result) (omega arith) (omega arith) (omega arith) (c .before .load8 .ensures))
+    (last-load (c .before .before .before .before .before .args .t .now) (c .before .before .before .before .before .args .at) (λ k. c .before .before .before .before .shared-slice-known .given k .fits) (c .before .word-at .result) (omega arith) (omega arith) (omega arith) (c .before .word-at .ensures))
     (c .absorb .ensures)
 
 returns-3 : tie.Need-returns-3

@@ -1,13 +1,12 @@
--- `word_at` meets its contract: a word is its bytes times powers of 256.
-use Rattle.replay.specs.Format.{wordAt}
-use Rattle.crc32.proofs.Texts.{eight-bytes}
-use native.Mathlib.Omega.{arith}
+-- `text::word_at` meets its contract: a word is its bytes times powers of 256.
+-- Assumes nothing.
 use borrow.Author.Needs.{needs}
-use Rattle.replay.proofs.words.word_at.Statement.{statement}
-use Rattle.replay.proofs.words.word_at.Tie as tie
+use native.Mathlib.Omega.{arith}
+use Rattle.text.proofs.Words.{eight-bytes}
+use Rattle.text.proofs.word_at.Statement.{statement}
+use Rattle.text.proofs.word_at.Tie as tie
 
 returns : tie.Need-returns
-unfolding wordAt
 returns c = omega (arith, eight-bytes (c .before .before .before .before .before .before .before .before .before .before .before .before .before .before .before .before .before .args .s .now) (c .before .before .before .before .before .before .before .before .before .before .before .before .before .before .before .before .before .args .at) (omega arith))
 
 pub word-at-spec : {M : Type 1} → statement M

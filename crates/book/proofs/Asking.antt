@@ -37,11 +37,12 @@ use Rattle.reference.specs.Reference as r·
 use Rattle.reference.specs.Reference.{Status, shut as shut′, waiting, live, isShut, Reference, opened, stands, asked, ifTaken, noLevel, sideOf, askedLevel, levelAsked, counts, level, amount, does, howMany, levelAt, whichNumber, howManyUpdates}
 use Rattle.settings.specs.Settings.{isM}
 use Rattle.book.specs.Shown.{shows, Good, Opened, AnswersCounts, AnswersLevel, AnswersAmount}
-use Rattle.book.specs.Asking.{levelIn}
+use Rattle.book.specs.Asking.{levelIn, WithoutLevel}
 use Rattle.reference.specs.declared.Scope.{Scope}
 use Rattle.reference.specs.declared.Scope.the-variants.{Current, LastGood}
 use Rattle.lifecycle.specs.declared.State.{State}
 use Rattle.book.specs.declared.Book.{Book}
+use Rattle.book.specs.declared.LevelReply.{LevelReply}
 
 -- ---- whether a question is answered
 
@@ -186,27 +187,28 @@ module _ (b : Book) (scope : Scope) (side : Side) (i : ℕ) where
         value = λ y. ap level (ap₂ (λ (u v : Number). record { price = u; size = v }) x z ∙ sym (if-yes (askedLevel scope side i q) _ _ a ∙ w .1));
       }
 
-  pub level-none : open′ ≡ true → levelIn b side i ≡ Nothing
-      → AnswersLevel b scope side i (record { book = b; answer = NoLevel; price = record { digits = 0; decimals = 0 }; size = record { digits = 0; decimals = 0 } })
-  unfolding does levelAsked number shows isTaken numberOf
-  level-none h e =
+  no-level : {a : Answer} {r : LevelReply} → WithoutLevel b a r → record { price = number (r .price); size = number (r .size) } ≡ noLevel
+  no-level w = ap₂ (λ (u v : Number). record { price = u; size = v }) (w .price) (w .size)
+
+  pub level-none : open′ ≡ true → levelIn b side i ≡ Nothing → {r : LevelReply} → WithoutLevel b NoLevel r → AnswersLevel b scope side i r
+  unfolding does levelAsked shows isTaken numberOf
+  level-none h e w =
       let a = answered h false (in-none side e) in
       record {
-        book = refl;
-        answer = λ y. sym a;
-        value = λ y. ap level (sym (if-refused (askedLevel scope side i q) _ _ (rw (a, isTaken, numberOf))));
+        book = w .book;
+        answer = λ y. w .answer ∙ sym a;
+        value = λ y. ap level (no-level w ∙ sym (if-refused (askedLevel scope side i q) _ _ (rw (a, isTaken, numberOf))));
       }
 
-  pub level-no : open′ ≡ false → (a : Answer) → a ≡ refusalOf (statusOf (b .lifecycle .state))
-      → AnswersLevel b scope side i (record { book = b; answer = a; price = record { digits = 0; decimals = 0 }; size = record { digits = 0; decimals = 0 } })
-  unfolding does askedLevel levelAsked number shows
-  level-no h a e =
+  pub level-no : open′ ≡ false → (a : Answer) → a ≡ refusalOf (statusOf (b .lifecycle .state)) → {r : LevelReply} → WithoutLevel b a r → AnswersLevel b scope side i r
+  unfolding does askedLevel levelAsked shows
+  level-no h a e w =
       let n = asked-no q scope h in
       let m : askedLevel scope side i q ≡ refusalOf (statusOf (b .lifecycle .state)) = if-no (asked scope q) (statusOf (b .lifecycle .state)) _ _ n ∙ n in
       record {
-        book = refl;
-        answer = λ y. e ∙ sym m;
-        value = λ y. ap level (sym (if-no (askedLevel scope side i q) (statusOf (b .lifecycle .state)) _ _ m));
+        book = w .book;
+        answer = λ y. w .answer ∙ e ∙ sym m;
+        value = λ y. ap level (no-level w ∙ sym (if-no (askedLevel scope side i q) (statusOf (b .lifecycle .state)) _ _ m));
       }
 
 -- ---- opening

@@ -19,6 +19,7 @@ use crate::Header;
 use answer::Answer;
 use answer::is_taken;
 use layout::Outline;
+use level::MAX_LEVELS;
 use level::MAX_WORDS;
 use level::Side;
 use lifecycle::count_before;
@@ -34,8 +35,6 @@ use side::Applied;
 use sides::apply_entries;
 use text::both;
 use text::either;
-
-const MAX_LEVELS: usize = 100;
 
 // The book after a message, in the words of its sides that are lent. A refusal gives the words back as they were.
 pub fn receive(

@@ -37,11 +37,12 @@ use Rattle.reference.specs.Reference as r·
 use Rattle.reference.specs.Reference.{Status, shut as shut′, waiting, live, isShut, Reference, opened, stands, noLevel, sideOf, Question, howMany, levelAt, whichNumber, howManyUpdates, counts, level, amount, zeros, Response, respond, refusal, replied, question, does}
 use Rattle.settings.specs.Settings.{isM}
 use Rattle.book.specs.Shown.{shows, Good, Opened, AnswersCounts, AnswersLevel, AnswersAmount}
-use Rattle.book.specs.Asking.{levelIn}
+use Rattle.book.specs.Asking.{levelIn, WithoutLevel}
 use Rattle.reference.specs.declared.Scope.{Scope}
 use Rattle.reference.specs.declared.Scope.the-variants.{Current, LastGood}
 use Rattle.lifecycle.specs.declared.State.{State}
 use Rattle.book.specs.declared.Book.{Book}
+use Rattle.book.specs.declared.LevelReply.{LevelReply}
 
 -- ---- what a question is answered
 
@@ -224,25 +225,26 @@ module _ (b : Book) (scope : Scope) (side : Side) (i : ℕ) where
         value = λ y. ap level (ap₂ (λ (u v : Number). record { price = u; size = v }) x z ∙ sym (w .1)) ∙ sym (reply-taken q y (asked y) Taken (answered h true (w .0) y) refl .0);
       }
 
-  pub level-none : open′ ≡ true → levelIn b side i ≡ Nothing
-      → AnswersLevel b scope side i (record { book = b; answer = NoLevel; price = record { digits = 0; decimals = 0 }; size = record { digits = 0; decimals = 0 } })
-  unfolding does respond replied number zeros isTaken numberOf
-  level-none h e =
+  no-level : {a : Answer} {r : LevelReply} → WithoutLevel b a r → record { price = number (r .price); size = number (r .size) } ≡ noLevel
+  no-level w = ap₂ (λ (u v : Number). record { price = u; size = v }) (w .price) (w .size)
+
+  pub level-none : open′ ≡ true → levelIn b side i ≡ Nothing → {r : LevelReply} → WithoutLevel b NoLevel r → AnswersLevel b scope side i r
+  unfolding does respond replied zeros isTaken numberOf
+  level-none h e w =
       let n = in-none side e in
       record {
-        book = refl;
-        answer = λ y. sym (answered h false n y);
-        value = λ y. sym (reply-refused q y (asked y) NoLevel (answered h false n y) refl .0);
+        book = w .book;
+        answer = λ y. w .answer ∙ sym (answered h false n y);
+        value = λ y. ap level (no-level w) ∙ sym (reply-refused q y (asked y) NoLevel (answered h false n y) refl .0);
       }
 
-  pub level-no : open′ ≡ false → (a : Answer) → a ≡ refusalOf (statusOf (b .lifecycle .state))
-      → AnswersLevel b scope side i (record { book = b; answer = a; price = record { digits = 0; decimals = 0 }; size = record { digits = 0; decimals = 0 } })
-  unfolding does respond replied number zeros
-  level-no h a e =
+  pub level-no : open′ ≡ false → (a : Answer) → a ≡ refusalOf (statusOf (b .lifecycle .state)) → {r : LevelReply} → WithoutLevel b a r → AnswersLevel b scope side i r
+  unfolding does respond replied zeros
+  level-no h a e w =
       record {
-        book = refl;
-        answer = λ y. no-refused b scope (asked y) refl h a e y .0;
-        value = λ y. sym (no-refused b scope (asked y) refl h a e y .1);
+        book = w .book;
+        answer = λ y. w .answer ∙ no-refused b scope (asked y) refl h a e y .0;
+        value = λ y. ap level (no-level w) ∙ sym (no-refused b scope (asked y) refl h a e y .1);
       }
 
 -- ---- opening

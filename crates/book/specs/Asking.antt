@@ -1,6 +1,8 @@
 -- What the methods of a book ask on their way. Assumes nothing: these are definitions.
 use Prim.Native.Nat.{ℕ}
+use mathlib.Core.Path.{_≡_}
 use mathlib.Core.Bool.{Bool, true, false}
+use Rattle.decimal.specs.Decimal.{number, noNumber}
 use Rattle.settings.specs.declared.Dialect.{Dialect}
 use Rattle.settings.specs.declared.Dialect.the-variants.{K, M, Unknown}
 use Rattle.level.specs.Kept.{held}
@@ -17,6 +19,14 @@ use Rattle.reference.specs.declared.Scope.the-variants.{Current, LastGood}
 use Rattle.lifecycle.specs.declared.State.{State}
 use Rattle.lifecycle.specs.declared.State.the-variants.{Shut, Waiting, Live}
 use Rattle.book.specs.declared.Book.{Book}
+use Rattle.book.specs.declared.LevelReply.{LevelReply}
+
+-- A reply with an answer and no level.
+pub record WithoutLevel (b : Book) (a : Answer) (r : LevelReply) : Type 0 where
+  pub book : r .book ≡ b
+  pub answer : r .answer ≡ a
+  pub price : number (r .price) ≡ noNumber
+  pub size : number (r .size) ≡ noNumber
 
 unfoldable pub levelIn : Book → Side → ℕ → MaybeLevel
 levelIn b Bids i = kept·.levelAt i (held (b .bids))

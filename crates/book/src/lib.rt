@@ -32,7 +32,7 @@ ghost use Rattle.lifecycle.specs.Lifecycle.{statusOf, firstState, answers, refu
 ghost use Rattle.crc32.specs.Table.{ShiftTable};
 ghost use Rattle.reference.specs.Reference.{receive, whichNumber, howManyUpdates};
 ghost use Rattle.book.specs.Shown.{shows, bookOf, headerOf, stepOf, Good, Opened, Received, CountsAnswered, AnswersCounts, AnswersLevel, AnswersAmount, Wrote};
-ghost use Rattle.book.specs.Asking.{levelIn};
+ghost use Rattle.book.specs.Asking.{levelIn, WithoutLevel};
 
 pub struct Book {
     pub bids: Levels,
@@ -310,19 +310,13 @@ fn level_in(book: Book, side: Side, i: usize) -> MaybeLevel
 }
 
 fn no_level(book: Book, answer: Answer) -> LevelReply
-    ensures { λ r. ⌜ r ≡ record { book = book; answer = answer; price = record { digits = 0; decimals = 0 }; size = record { digits = 0; decimals = 0 } } ⌝ }
+    ensures { λ r. ⌜ WithoutLevel book answer r ⌝ }
 {
     LevelReply {
         book,
         answer,
-        price: Decimal {
-            digits: 0,
-            decimals: 0,
-        },
-        size: Decimal {
-            digits: 0,
-            decimals: 0,
-        },
+        price: decimal::zero(),
+        size: decimal::zero(),
     }
 }
 

@@ -18,7 +18,7 @@ use Rattle.crc32_spec.specs.Text.{run-append, run-from}
 use Rattle.piece.specs.Piece.{kPiece, mPiece, SumsTo}
 use Rattle.piece.specs.declared.Piece.{Piece}
 use Rattle.level.specs.Level.{PriceLevel}
-use Rattle.level.specs.Words.{levelPrice, levelSize, shown}
+use Rattle.level.specs.Words.{levelPrice, levelSize, levelSum, levelLength, maxLength, MadeOf, shown}
 use Rattle.level.specs.Ranked.{All}
 use Rattle.level.specs.Words.{levelsIn, noLevel}
 use Rattle.level.specs.Kept.{maxLevels, maxWords}
@@ -26,23 +26,23 @@ use Rattle.level.proofs.Stored.{length-levels}
 use Rattle.level.specs.declared.Level.{Level}
 use Rattle.text.specs.Text.{joined, colon}
 use Rattle.checksum.specs.Text.{kLevel, kChecksumText, kLevels, kChecksum, mLevel, interleaved, colonJoined, mChecksumText, mLevels, mChecksum}
-use Rattle.checksum.specs.Carried.{Carries, Made, MadeOf, summed}
+use Rattle.checksum.specs.Carried.{Carries, Made, summed}
 
 -- ---- a level that was made carries its piece
 
 pub made-carries : (piece : Number → Number → List ℕ) (price size : Decimal) {p : Piece} {level : Level} →
-    SumsTo (piece (number price) (number size)) p → MadeOf price size p level → Made piece price size level
+    SumsTo (piece (number price) (number size)) p → MadeOf (number price) (number size) (p .sum) (p .length) level → Made piece price size level
 unfolding shown
 made-carries piece price size {p} {level} h m = record {
-  shows = m .shows;
+  shows = ap₂ (λ (x y : Number). record { price = x; size = y }) (m .price-is) (m .size-is);
   carries = record {
-    sum = m .sum ∙ h .sum ∙ ap (run 0) same;
-    long = m .long ∙ h .long ∙ ap length same;
+    sum = m .sum-is ∙ h .sum ∙ ap (run 0) same;
+    long = m .length-is ∙ h .long ∙ ap length same;
   };
 }
   where
     same : piece (number price) (number size) ≡ piece (levelPrice level) (levelSize level)
-    same = sym (ap (λ (l : PriceLevel). piece (l .price) (l .size)) (m .shows))
+    same = sym (ap₂ piece (m .price-is) (m .size-is))
 
 -- ---- the state after the pieces of levels
 
@@ -55,7 +55,7 @@ module _ (piece : Number → Number → List ℕ) where
   unfolding summed joined run All shown
   summed-run [] s h = refl
   summed-run (l ∷ levels) s h =
-      summed-run levels (bitXor (bits (8 * l .length) s) (l .sum)) (h .1)
+      summed-run levels (bitXor (bits (8 * levelLength l) s) (levelSum l)) (h .1)
       ∙ ap (λ (x : ℕ). run x (joined (map pieceOf (map shown levels))))
       (ap₂ (λ (n x : ℕ). bitXor (bits (8 * n) s) x) (h .0 .long) (h .0 .sum) ∙ sym (run-from (piece (levelPrice l) (levelSize l)) s))
       ∙ sym (run-append (piece (levelPrice l) (levelSize l)) (joined (map pieceOf (map shown levels))) s)
@@ -63,18 +63,18 @@ module _ (piece : Number → Number → List ℕ) where
 pub summed-append : (xs ys : List Level) (s : ℕ) → summed s (xs ++ ys) ≡ summed (summed s xs) ys
 unfolding summed
 summed-append [] ys s = refl
-summed-append (x ∷ xs) ys s = summed-append xs ys (bitXor (bits (8 * x .length) s) (x .sum))
+summed-append (x ∷ xs) ys s = summed-append xs ys (bitXor (bits (8 * levelLength x) s) (levelSum x))
 
 -- two pieces put together first
 pub summed-pair : (bid ask : Level) (s : ℕ) →
-    bitXor (bits (8 * (bid .length + ask .length)) s) (bitXor (bits (8 * ask .length) (bid .sum)) (ask .sum)) ≡ summed s (bid ∷ (ask ∷ []))
+    bitXor (bits (8 * (levelLength bid + levelLength ask)) s) (bitXor (bits (8 * levelLength ask) (levelSum bid)) (levelSum ask)) ≡ summed s (bid ∷ (ask ∷ []))
 unfolding summed
 summed-pair bid ask s =
-    sym (xor-assoc (bits (8 * (bid .length + ask .length)) s) (bits (8 * ask .length) (bid .sum)) (ask .sum))
-    ∙ ap (λ (x : ℕ). bitXor x (ask .sum))
-    (ap (λ (x : ℕ). bitXor x (bits (8 * ask .length) (bid .sum)))
-    (ap (λ (n : ℕ). bits n s) (mul-add 8 (bid .length) (ask .length)) ∙ bits-add (8 * bid .length) (8 * ask .length) s)
-    ∙ sym (bits-xor (8 * ask .length) (bits (8 * bid .length) s) (bid .sum)))
+    sym (xor-assoc (bits (8 * (levelLength bid + levelLength ask)) s) (bits (8 * levelLength ask) (levelSum bid)) (levelSum ask))
+    ∙ ap (λ (x : ℕ). bitXor x (levelSum ask))
+    (ap (λ (x : ℕ). bitXor x (bits (8 * levelLength ask) (levelSum bid)))
+    (ap (λ (n : ℕ). bits n s) (mul-add 8 (levelLength bid) (levelLength ask)) ∙ bits-add (8 * levelLength bid) (8 * levelLength ask) s)
+    ∙ sym (bits-xor (8 * levelLength ask) (bits (8 * levelLength bid) s) (levelSum bid)))
 
 -- ---- the levels of a side, one more at a time, and two sides in turn
 
@@ -154,7 +154,7 @@ level-left items i to l h =
     ∙ ap₂ (λ (x : Level) (k : ℕ). x ∷ drop k (take to items)) (getD-take to items i noLevel l) (sym (add-one i))
 
 pub summed-turn : (items : List Level) (i to s r : ℕ) → i < to → to ≤ length items →
-    r ≡ bitXor (bits (8 * getD items i noLevel .length) s) (getD items i noLevel .sum) → summed r (drop (i + 1) (take to items)) ≡ summed s (drop i (take to items))
+    r ≡ bitXor (bits (8 * levelLength (getD items i noLevel)) s) (levelSum (getD items i noLevel)) → summed r (drop (i + 1) (take to items)) ≡ summed s (drop i (take to items))
 unfolding summed
 summed-turn items i to s r l h e =
     ap (λ (x : ℕ). summed x (drop (i + 1) (take to items))) e ∙ sym (ap (summed s) (level-left items i to l h))
@@ -166,15 +166,15 @@ summed-done items i to s l h =
     ap (summed s) (drop-of-length-le (take to items) {i = i} (omega arith))
 
 pub pairs-turn : (bids asks : List Level) (i n s r p : ℕ) → i < n → n ≤ length bids → n ≤ length asks →
-    p ≡ bitXor (bits (8 * getD asks i noLevel .length) (getD bids i noLevel .sum)) (getD asks i noLevel .sum) →
-    r ≡ bitXor (bits (8 * (getD bids i noLevel .length + getD asks i noLevel .length)) s) p →
+    p ≡ bitXor (bits (8 * levelLength (getD asks i noLevel)) (levelSum (getD bids i noLevel))) (levelSum (getD asks i noLevel)) →
+    r ≡ bitXor (bits (8 * (levelLength (getD bids i noLevel) + levelLength (getD asks i noLevel))) s) p →
     summed r (interleaved (n - (i + 1)) (drop (i + 1) (take n bids)) (drop (i + 1) (take n asks)))
     ≡ summed s (interleaved (n - i) (drop i (take n bids)) (drop i (take n asks)))
 unfolding summed interleaved
 pairs-turn bids asks i n s r p l hb ha e f =
     let k : n - i ≡ suc (n - (i + 1)) = omega arith in
     ap (λ (x : ℕ). summed x (interleaved (n - (i + 1)) (drop (i + 1) (take n bids)) (drop (i + 1) (take n asks))))
-    (f ∙ ap (bitXor (bits (8 * (getD bids i noLevel .length + getD asks i noLevel .length)) s)) e ∙ summed-pair (getD bids i noLevel) (getD asks i noLevel) s)
+    (f ∙ ap (bitXor (bits (8 * (levelLength (getD bids i noLevel) + levelLength (getD asks i noLevel))) s)) e ∙ summed-pair (getD bids i noLevel) (getD asks i noLevel) s)
     ∙ sym (ap (summed s)
     (ap (λ (m : ℕ). interleaved m (drop i (take n bids)) (drop i (take n asks))) k
     ∙ ap₂ (interleaved (suc (n - (i + 1)))) (level-left bids i n l hb) (level-left asks i n l ha)))
@@ -199,7 +199,7 @@ some-right n (x ∷ xs) (y ∷ ys) h = zero-lt-suc (suc (length (interleaved n x
 
 -- ---- the length of a piece
 
-pub k-short : (price size : Number) → Within price → Within size → length (kPiece price size) < 2 ^ 16
+pub k-short : (price size : Number) → Within price → Within size → length (kPiece price size) ≤ maxLength
 unfolding kPiece
 k-short price size p s =
     let a : length (stripped price) ≤ 19 = length-stripped price p in
@@ -207,7 +207,7 @@ k-short price size p s =
     let e : length (stripped price ++ stripped size) ≡ length (stripped price) + length (stripped size) = length-append (stripped price) (stripped size) in
     omega arith
 
-pub m-short : (price size : Number) → Within price → Within size → length (mPiece price size) < 2 ^ 16
+pub m-short : (price size : Number) → Within price → Within size → length (mPiece price size) ≤ maxLength
 unfolding mPiece
 m-short price size p s =
     let a : length (text price) ≤ 20 = length-text price p in

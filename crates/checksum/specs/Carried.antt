@@ -7,28 +7,21 @@ use lib.Bits.{bitXor}
 use Rattle.decimal.specs.Decimal.{Number, number}
 use Rattle.decimal.specs.declared.Decimal.{Decimal}
 use Rattle.crc32_spec.specs.Crc.{bits, run}
-use Rattle.piece.specs.declared.Piece.{Piece}
 use Rattle.level.specs.Level.{PriceLevel}
-use Rattle.level.specs.Words.{levelPrice, levelSize, shown}
+use Rattle.level.specs.Words.{levelPrice, levelSize, levelSum, levelLength, shown}
 use Rattle.level.specs.declared.Level.{Level}
 
 -- The piece is K's (`kPiece`) or M's (`mPiece`).
 pub record Carries (piece : Number → Number → List ℕ) (level : Level) : Type 0 where
-  pub sum : level .sum ≡ run 0 (piece (levelPrice level) (levelSize level))
-  pub long : level .length ≡ length (piece (levelPrice level) (levelSize level))
+  pub sum : levelSum level ≡ run 0 (piece (levelPrice level) (levelSize level))
+  pub long : levelLength level ≡ length (piece (levelPrice level) (levelSize level))
 
 -- A level made of a price and a size.
 pub record Made (piece : Number → Number → List ℕ) (price size : Decimal) (level : Level) : Type 0 where
   pub shows : shown level ≡ record { price = number price; size = number size }
   pub carries : Carries piece level
 
--- .. and of the sum and the length of its piece.
-pub record MadeOf (price size : Decimal) (piece : Piece) (level : Level) : Type 0 where
-  pub shows : shown level ≡ record { price = number price; size = number size }
-  pub sum : level .sum ≡ piece .sum
-  pub long : level .length ≡ piece .length
-
 -- The state after the pieces of levels, from their sums and lengths.
 unfoldable pub summed : ℕ → List Level → ℕ
 summed state [] = state
-summed state (level ∷ levels) = summed (bitXor (bits (8 * level .length) state) (level .sum)) levels
+summed state (level ∷ levels) = summed (bitXor (bits (8 * levelLength level) state) (levelSum level)) levels

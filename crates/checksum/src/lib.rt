@@ -9,7 +9,7 @@
 //     checksum::k_checksum(&bids.words, bids.count, &asks.words, asks.count, table)  // of the ten best asks, then the ten best bids
 ghost use mathlib.Core.Path.{_≡_};
 ghost use mathlib.Core.List.{map};
-ghost use Prim.Native.Nat.{_≤_, _<_, _^_, min};
+ghost use Prim.Native.Nat.{_≤_, min};
 ghost use lib.ListN.{length, take, drop};
 ghost use Rattle.decimal.specs.Decimal.{number};
 ghost use Rattle.decimal.specs.Limits.{Within};
@@ -21,11 +21,10 @@ ghost use Rattle.level.specs.Ranked.{All};
 ghost use Rattle.level.specs.Words.{levelsIn};
 ghost use Rattle.level.specs.Kept.{keptIn, maxLevels, maxWords, held, Good};
 ghost use Rattle.checksum.specs.Text.{kChecksum, mChecksum, interleaved};
-ghost use Rattle.checksum.specs.Carried.{Carries, Made, MadeOf, summed};
+ghost use Rattle.checksum.specs.Carried.{Carries, Made, summed};
 use decimal::Decimal;
 use level::Level;
 use level::MAX_WORDS;
-use piece::Piece;
 
 // How many levels a side K sums.
 const K_LEVELS: usize = 10;
@@ -38,7 +37,8 @@ pub fn k_level(price: Decimal, size: Decimal) -> Level
     requires { ⌜ Within (number price) × Within (number size) ⌝ }
     ensures { λ r. ⌜ Made kPiece price size r ⌝ }
 {
-    level_of(price, size, piece::k_piece(price, size))
+    let piece = piece::k_piece(price, size);
+    level::make(price, size, piece.sum, piece.length)
 }
 
 // A level of an M book.
@@ -46,22 +46,8 @@ pub fn m_level(price: Decimal, size: Decimal) -> Level
     requires { ⌜ Within (number price) × Within (number size) ⌝ }
     ensures { λ r. ⌜ Made mPiece price size r ⌝ }
 {
-    level_of(price, size, piece::m_piece(price, size))
-}
-
-// A level of a price, a size and the sum and length of its piece.
-fn level_of(price: Decimal, size: Decimal, piece: Piece) -> Level
-    requires { ⌜ Within (number price) × Within (number size) × (piece .length < 2 ^ 16) ⌝ }
-    ensures { λ r. ⌜ MadeOf price size piece r ⌝ }
-{
-    Level {
-        price: price.digits,
-        size: size.digits,
-        sum: piece.sum,
-        length: piece.length as u16,
-        price_decimals: price.decimals as u8,
-        size_decimals: size.decimals as u8,
-    }
+    let piece = piece::m_piece(price, size);
+    level::make(price, size, piece.sum, piece.length)
 }
 
 // The checksum of a K book.
@@ -122,7 +108,12 @@ fn sum_levels<'a>(
     let mut i = from;
     while i < to {
         let level = level::level_in(words, i);
-        sum = crc32::combine_with(table, sum, level.sum, level.length as usize);
+        sum = crc32::combine_with(
+            table,
+            sum,
+            level::sum_of(level),
+            level::length_of(level) as usize,
+        );
         i += 1;
     }
     sum
@@ -145,9 +136,9 @@ fn sum_pairs<'a>(
     while i < n {
         let bid = level::level_in(bids, i);
         let ask = level::level_in(asks, i);
-        let bid_length = bid.length as usize;
-        let ask_length = ask.length as usize;
-        let pair = crc32::combine_with(table, bid.sum, ask.sum, ask_length);
+        let bid_length = level::length_of(bid) as usize;
+        let ask_length = level::length_of(ask) as usize;
+        let pair = crc32::combine_with(table, level::sum_of(bid), level::sum_of(ask), ask_length);
         sum = crc32::combine_with(table, sum, pair, bid_length + ask_length);
         i += 1;
     }

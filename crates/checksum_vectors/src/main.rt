@@ -9,6 +9,7 @@ ghost use Prim.Native.Nat.{_≤_};
 ghost use lib.ListN.{length};
 ghost use Rattle.decimal.specs.Decimal.{number};
 ghost use Rattle.decimal.specs.Limits.{Within};
+ghost use Rattle.level.specs.Kept.{maxLevels, maxWords};
 ghost use Rattle.checksum.specs.Carried.{Made};
 ghost use Rattle.checksum_vectors.specs.Book.{pieceFor, Valid, ValidSide, Readable, Stored};
 use decimal::Decimal;
@@ -198,9 +199,10 @@ fn read_entries(
         let size_end = find(s, size_from, BLANK);
         match read_level(&s[price_from..price_end], &s[size_from..size_end], m) {
             MaybeLevel::At(level) => {
-                prices[k] = level.price;
-                sizes[k] = level.size;
-                packs[k] = level::pack(level);
+                let words = level::words_of(level);
+                prices[k] = words.price;
+                sizes[k] = words.size;
+                packs[k] = words.rest;
                 k += 1;
                 at = size_end;
             }
@@ -267,7 +269,7 @@ fn sum_of(book: Book) -> u32
 }
 
 fn show_levels(levels: Levels)
-    requires { ⌜ (levels .count ≤ 100) × (length (levels .words) ≡ 300) ⌝ }
+    requires { ⌜ (levels .count ≤ maxLevels) × (length (levels .words) ≡ maxWords) ⌝ }
 {
     let mut i = 0;
     while i < levels.count {
@@ -279,13 +281,15 @@ fn show_levels(levels: Levels)
 // Digits and decimals of the price, digits and decimals of the size.
 fn show_level(level: Level) {
     say(b" ");
-    say_number(level.price);
-    say(b"/");
-    say_number(level.price_decimals as u64);
+    show_decimal(level::price_of(level));
     say(b":");
-    say_number(level.size);
+    show_decimal(level::size_of(level));
+}
+
+fn show_decimal(d: Decimal) {
+    say_number(decimal::digits_of(d));
     say(b"/");
-    say_number(level.size_decimals as u64);
+    say_number(decimal::decimals_of(d));
 }
 
 fn say(text: &[u8]) {

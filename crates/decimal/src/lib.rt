@@ -11,7 +11,7 @@ mod writing;
 
 ghost use mathlib.Core.Path.{_≡_};
 ghost use Prim.Native.Nat.{_≤_, _^_};
-ghost use Rattle.decimal.specs.Decimal.{number, isZero, maxDecimals};
+ghost use Rattle.decimal.specs.Decimal.{number, noNumber, isZero, maxDecimals};
 ghost use Rattle.decimal.specs.Limits.{order, orderOf, Within};
 pub use reading::parse;
 pub use reading::parse_at;
@@ -27,8 +27,8 @@ pub use writing::write_whole;
 
 // The digits as one whole number, and how many of them stand after the point.
 pub struct Decimal {
-    pub digits: u64,
-    pub decimals: u64,
+    digits: u64,
+    decimals: u64,
 }
 
 pub enum Parsed {
@@ -82,6 +82,37 @@ pub struct Tail {
 pub enum Step {
     Byte(u8, Tail),
     End,
+}
+
+// 0 with no decimals.
+pub fn zero() -> Decimal
+    ensures { λ r. ⌜ number r ≡ noNumber ⌝ }
+{
+    Decimal {
+        digits: 0,
+        decimals: 0,
+    }
+}
+
+// A decimal of these digits, so many of which stand after the point.
+pub fn of_digits(digits: u64, decimals: u64) -> Decimal
+    ensures { λ r. ⌜ number r ≡ record { digits = digits; decimals = decimals } ⌝ }
+{
+    Decimal { digits, decimals }
+}
+
+// The digits as one whole number.
+pub fn digits_of(a: Decimal) -> u64
+    ensures { λ r. ⌜ r ≡ number a .digits ⌝ }
+{
+    a.digits
+}
+
+// How many of the digits stand after the point.
+pub fn decimals_of(a: Decimal) -> u64
+    ensures { λ r. ⌜ r ≡ number a .decimals ⌝ }
+{
+    a.decimals
 }
 
 // The order of two decimals by value.

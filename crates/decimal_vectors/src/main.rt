@@ -76,9 +76,9 @@ fn run_decimal(s: &[u8]) {
 fn say_decimal(d: Decimal)
     requires { ⌜ Within (number d) ⌝ }
 {
-    say_number(d.digits);
+    say_number(decimal::digits_of(d));
     say(b" ");
-    say_number(d.decimals);
+    say_number(decimal::decimals_of(d));
     say(b" ");
     say_text(d, 2);
     say(b" ");

@@ -2,7 +2,7 @@
 -- entry that begins with two such strings, and the numbers of any entry.
 -- Assumes nothing.
 use Prim.Native.Nat.{ℕ, _+_, _-_, _≤_, _<_}
-use mathlib.Core.Path.{_≡_, refl, sym, ap, _∙_}
+use mathlib.Core.Path.{_≡_, refl, sym, ap, _∙_, subst}
 use mathlib.Core.Bool.{Bool, true, false, _&&_, cond, and-eq-true-iff}
 use mathlib.Core.List.{List, _∷_, _++_, append-assoc}
 use native.Mathlib.Omega.{arith}
@@ -12,7 +12,8 @@ use lib.ListN.{length, getD, take, drop, length-append, length-drop, take-append
 use lib.Seq.{drop-drop, length-take-le}
 use Rattle.text.specs.Text.{isDigit, byteAt}
 use Rattle.decimal.specs.Digits.{Reading, reads, refused, leading}
-use Rattle.decimal.specs.Decimal.{Number, number, Prefix, prefixed, isWhole, fractional, prefix, read, maxWhole, maxDecimals}
+use Rattle.decimal.specs.Decimal.{Number, number, noNumber, Prefix, prefixed, isWhole, fractional, prefix, read, maxWhole, maxDecimals}
+use Rattle.decimal.specs.Limits.{Within}
 use Rattle.decimal.specs.declared.Decimal.{Decimal}
 use Rattle.decimal.proofs.Digits.{Digits, none, one, digit-in}
 use Rattle.decimal.proofs.Scan.{prefix-refused, prefix-pointed, pointed-plain, pointed-fraction, read-all}
@@ -194,9 +195,9 @@ module _ (s : List ℕ) (a : Span) where
   unfolding numberAt
   number-read d h = record { is = rw (h, numberAt); within = read-within (inner s a) (number d) h }
 
-  pub number-none : read (inner s a) ≡ refused → NumberOf s a (record { digits = 0; decimals = 0 })
-  unfolding numberAt number
-  number-none h = record { is = rw (h, numberAt); within = record { few = omega arith; low = lit< tt } }
+  pub number-none : (d : Decimal) → number d ≡ noNumber → read (inner s a) ≡ refused → NumberOf s a d
+  unfolding numberAt
+  number-none d e h = record { is = rw (h, numberAt) e; within = subst Within (sym e) (record { few = omega arith; low = lit< tt }) }
 
 pub entry-numbers : (m : Bool) (s : List ℕ) (at : ℕ) (a : Amounts) (d : TwoDecimals s at a) (e : ℕ) (fits : EntryEnd (entryFor m) s (a .end) e) (more : e ≡ 0 → ⊥)
     → EntryAt m s at (record { price = a .price; size = a .size; end = e })

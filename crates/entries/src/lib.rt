@@ -453,10 +453,7 @@ fn number_at(s: &[u8], from: usize, to: usize) -> Decimal
 {
     match parse_quoted(s, from, to) {
         Parsed::Number(d) => d,
-        Parsed::Refused => Decimal {
-            digits: 0,
-            decimals: 0,
-        },
+        Parsed::Refused => decimal::zero(),
     }
 }
 
@@ -511,14 +508,8 @@ fn no_amounts() -> Amounts
     ensures { λ r. ⌜ r .end ≡ 0 ⌝ }
 {
     Amounts {
-        price: Decimal {
-            digits: 0,
-            decimals: 0,
-        },
-        size: Decimal {
-            digits: 0,
-            decimals: 0,
-        },
+        price: decimal::zero(),
+        size: decimal::zero(),
         end: 0,
     }
 }
@@ -528,10 +519,7 @@ fn no_decimal() -> QuotedDecimal
     ensures { λ r. ⌜ r .end ≡ 0 ⌝ }
 {
     QuotedDecimal {
-        decimal: Decimal {
-            digits: 0,
-            decimals: 0,
-        },
+        decimal: decimal::zero(),
         end: 0,
     }
 }

@@ -1,20 +1,17 @@
 -- A level that was packed comes back out of its three words, and entries are put after each other. Assumes nothing.
 use Prim.Native.Nat.{ℕ, zero, suc, _+_, _*_, _/_, _%_, _^_, _<_, _≤_}
 use mathlib.Core.Path.{_≡_, refl, sym, ap, _∙_}
-use mathlib.Core.Bool.{Bool, true, false, cond}
+use mathlib.Core.Bool.{true, false}
 use mathlib.Core.List.{List, [], _∷_, _++_}
 use native.Mathlib.Nat.{zero-add, mod-eq-of-lt, div-eq-of-lt, add-mul-mod-self-left, add-mul-div-left, div-div-eq-div-mul}
 use native.Mathlib.Omega.{arith}
-use borrow.Author.Tests.{eq-eqb, ne-eqb}
-use lib.Dec.{eqb, lit<}
+use lib.Dec.{lit<}
 use lib.ListN.{length}
-use Rattle.decimal.specs.Decimal.{number}
+use Rattle.decimal.specs.Decimal.{Number, isZero}
 use Rattle.level.specs.declared.Level.{Level}
-use Rattle.level.specs.declared.Change.{Change}
-use Rattle.level.specs.declared.Change.the-variants.{Set, Remove}
-use Rattle.level.specs.Words.{levelPrice}
+use Rattle.level.specs.declared.words.LevelWords.{LevelWords}
 use Rattle.level.specs.Side.{Edit, sets, removes}
-use Rattle.level.specs.Words.{Fits, packed, levelOf, decimalPrice, changeOf, edit, editOf, entriesOf}
+use Rattle.level.specs.Words.{levelPrice, levelSize, levelSum, levelLength, MadeOf, Fits, packed, Holds, levelOf, editFor, editOf, entriesOf}
 
 -- the low part of a number, and what is above it
 low : (m : ℕ) (x y : ℕ) → x < m → (x + m * y) % m ≡ x
@@ -62,15 +59,38 @@ module _ (level : Level) (fits : Fits level) where
   unfolding levelOf
   level-packed = rw (sum-out, length-out, price-decimals-out, size-decimals-out)
 
-  -- the words of a level with a size set it
-  pub edit-packed : (level .size ≡ 0 → ⊥) → editOf (level .price) (level .size) (packed level) ≡ sets level
-  unfolding editOf changeOf edit
-  edit-packed n = rw (ne-eqb (level .size) 0 n) (ap sets level-packed)
+abbrev whole : ℕ → ℕ → ℕ → ℕ → ℕ → ℕ → Level
+whole price size sum length p s = record { price = price; size = size; sum = sum; length = length; «price_decimals» = p; «size_decimals» = s }
 
-  -- and the same words with a size of 0 remove its price
-  pub edit-removal : editOf (level .price) 0 (packed level) ≡ removes (levelPrice level)
-  unfolding editOf changeOf edit levelOf decimalPrice number levelPrice
-  edit-removal = rw price-decimals-out
+-- the price, the size, the sum and the length make one level
+pub made-one : {price size : Number} {sum length : ℕ} {a b : Level} → MadeOf price size sum length a → MadeOf price size sum length b → a ≡ b
+unfolding levelPrice levelSize levelSum levelLength
+made-one {a = a} {b = b} h k =
+    let p : levelPrice a ≡ levelPrice b = h .price-is ∙ sym (k .price-is) in
+    let s : levelSize a ≡ levelSize b = h .size-is ∙ sym (k .size-is) in
+    let e : a .price ≡ b .price = ap (λ (n : Number). n .digits) p in
+    let f : a .size ≡ b .size = ap (λ (n : Number). n .digits) s in
+    let g : a .«price_decimals» ≡ b .«price_decimals» = ap (λ (n : Number). n .decimals) p in
+    let i : a .«size_decimals» ≡ b .«size_decimals» = ap (λ (n : Number). n .decimals) s in
+    let j : a .sum ≡ b .sum = h .sum-is ∙ sym (k .sum-is) in
+    let l : a .length ≡ b .length = h .length-is ∙ sym (k .length-is) in
+    let same : whole (a .price) (a .size) (a .sum) (a .length) (a .«price_decimals») (a .«size_decimals»)
+    ≡ whole (b .price) (b .size) (b .sum) (b .length) (b .«price_decimals») (b .«size_decimals») = rw (e, f, j, l, g, i) in
+    same
+
+-- words that hold a level say what the level says
+pub edit-held : {words : LevelWords} {level : Level} → Holds words level → editOf (words .price) (words .size) (words .rest) ≡ editFor level
+unfolding editOf
+edit-held h = ap editFor (h .same)
+
+-- a level with a size sets itself, and one with none removes its price
+pub edit-set : (level : Level) → isZero (levelSize level) ≡ false → editFor level ≡ sets level
+unfolding editFor
+edit-set level e = rw e
+
+pub edit-removal : (level : Level) → isZero (levelSize level) ≡ true → editFor level ≡ removes (levelPrice level)
+unfolding editFor
+edit-removal level e = rw e
 
 -- ---- the lists of words
 

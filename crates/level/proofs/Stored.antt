@@ -5,7 +5,7 @@ use mathlib.Core.List.{List, [], _∷_}
 use native.Mathlib.Omega.{arith}
 use lib.ListN.{length, getD, set}
 use Rattle.level.specs.declared.Level.{Level}
-use Rattle.level.specs.Words.{levelOf, levelsIn, noLevel}
+use Rattle.level.specs.Words.{levelWords, levelOf, levelsIn, noLevel}
 
 -- the place of the next level's words
 next : (i k : ℕ) → 3 * suc i + k ≡ suc (suc (suc (3 * i + k)))
@@ -14,7 +14,7 @@ next i k = omega arith
 next-first : (i : ℕ) → 3 * suc i ≡ suc (suc (suc (3 * i)))
 next-first i = omega arith
 
-pub length-levels : (n : ℕ) (words : List ℕ) → length words ≡ 3 * n → length (levelsIn words) ≡ n
+pub length-levels : (n : ℕ) (words : List ℕ) → length words ≡ levelWords * n → length (levelsIn words) ≡ n
 unfolding levelsIn
 length-levels zero [] h = refl
 length-levels zero (p ∷ words) h = absurd (omega arith)

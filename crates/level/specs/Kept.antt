@@ -1,5 +1,5 @@
 -- The side that the code keeps. Assumes nothing: these are definitions.
-use Prim.Native.Nat.{ℕ, zero, suc, _≤_}
+use Prim.Native.Nat.{ℕ, zero, suc, _*_, _≤_}
 use mathlib.Core.Path.{_≡_}
 use mathlib.Core.List.{List, [], _∷_}
 use lib.ListN.{length, take, set}
@@ -11,15 +11,15 @@ use Rattle.level.specs.declared.Levels.{Levels}
 use Rattle.level.specs.declared.MaybeLevel.{MaybeLevel}
 use Rattle.level.specs.declared.MaybeLevel.the-variants.{At, Nothing}
 use Rattle.level.specs.Ranked.{All, Sorted}
-use Rattle.level.specs.Words.{levelPrice, levelsIn}
+use Rattle.level.specs.Words.{levelWords, levelPrice, levelsIn}
 
 -- How many levels a side keeps, at the most.
 abbrev pub maxLevels : ℕ
 maxLevels = 100
 
--- How many words a side is kept in: three a level.
+-- How many words a side is kept in.
 abbrev pub maxWords : ℕ
-maxWords = 300
+maxWords = levelWords * maxLevels
 
 -- The levels of a side that is kept, best first.
 unfoldable pub held : Levels → List Level

@@ -1,15 +1,14 @@
 -- The words that a side is kept in and that entries are handed over in: a word each for the price's digits, the size's digits and the rest. An
--- entry's size of 0 removes.
+-- entry's size of zero removes. What is above this crate knows a level by its price, size, sum and length alone.
 -- Assumes nothing: these are definitions.
 use Prim.Native.Nat.{ℕ, _+_, _*_, _/_, _%_, _^_, _<_}
 use mathlib.Core.Path.{_≡_}
 use mathlib.Core.Bool.{Bool, true, false, cond}
 use mathlib.Core.List.{List, [], _∷_}
-use lib.Dec.{eqb}
-use Rattle.decimal.specs.Decimal.{Number, number}
-use Rattle.decimal.specs.declared.Decimal.{Decimal}
+use Rattle.decimal.specs.Decimal.{Number, number, isZero}
 use Rattle.level.specs.declared.Side.{Side}
 use Rattle.level.specs.declared.Level.{Level}
+use Rattle.level.specs.declared.words.LevelWords.{LevelWords}
 use Rattle.level.specs.declared.Change.{Change}
 use Rattle.level.specs.declared.Change.the-variants.{Set, Remove}
 use Rattle.level.specs.declared.Entry.{Entry}
@@ -22,6 +21,24 @@ levelPrice level = record { digits = level .price; decimals = level .«price_dec
 
 unfoldable pub levelSize : Level → Number
 levelSize level = record { digits = level .size; decimals = level .«size_decimals» }
+
+-- The sum and the length of its piece of checksum text.
+unfoldable pub levelSum : Level → ℕ
+levelSum level = level .sum
+
+unfoldable pub levelLength : Level → ℕ
+levelLength level = level .length
+
+-- The longest piece of checksum text that a level carries the length of.
+abbrev pub maxLength : ℕ
+maxLength = 255
+
+-- The level of a price and a size, and of the sum and the length of its piece.
+pub record MadeOf (price size : Number) (sum length : ℕ) (level : Level) : Type 0 where
+  pub price-is : levelPrice level ≡ price
+  pub size-is : levelSize level ≡ size
+  pub sum-is : levelSum level ≡ sum
+  pub length-is : levelLength level ≡ length
 
 -- What a level of the code shows. Its sum and length are those of its piece of checksum text, and are not shown.
 unfoldable pub shown : Level → PriceLevel
@@ -54,7 +71,15 @@ levelOf price size rest = record {
   «size_decimals» = rest / 2 ^ 56 % 2 ^ 8;
 }
 
--- The levels that a list of words holds, three words each.
+-- Words that hold a level.
+pub record Holds (words : LevelWords) (level : Level) : Type 0 where
+  pub same : levelOf (words .price) (words .size) (words .rest) ≡ level
+
+-- How many words a level takes.
+abbrev pub levelWords : ℕ
+levelWords = 3
+
+-- The levels that a list of words holds.
 unfoldable pub levelsIn : List ℕ → List Level
 levelsIn (price ∷ size ∷ rest ∷ words) = levelOf price size rest ∷ levelsIn words
 levelsIn [] = []
@@ -65,24 +90,22 @@ levelsIn (price ∷ size ∷ []) = []
 abbrev pub noLevel : Level
 noLevel = record { price = 0; size = 0; sum = 0; length = 0; «price_decimals» = 0; «size_decimals» = 0 }
 
--- The code's decimal for a level's price.
-unfoldable pub decimalPrice : Level → Decimal
-decimalPrice level = record { digits = level .price; decimals = level .«price_decimals» }
-
--- The change that three words hold, and the code's entry.
-unfoldable pub changeOf : ℕ → ℕ → ℕ → Change
-changeOf price size rest = cond (eqb size 0) (Remove (decimalPrice (levelOf price size rest))) (Set (levelOf price size rest))
-
-unfoldable pub entryOf : Side → ℕ → ℕ → ℕ → Entry
-entryOf side price size rest = record { side = side; change = changeOf price size rest }
-
 -- What a change of the code says of its side.
 unfoldable pub edit : Change → Edit Level
 edit (Set level) = sets level
 edit (Remove price) = removes (number price)
 
+-- What an entry of a level's price and size says: a size of zero removes the price.
+unfoldable pub editFor : Level → Edit Level
+editFor level = cond (isZero (levelSize level)) (removes (levelPrice level)) (sets level)
+
+-- What three words say, and the code's entry that says it.
 unfoldable pub editOf : ℕ → ℕ → ℕ → Edit Level
-editOf price size rest = edit (changeOf price size rest)
+editOf price size rest = editFor (levelOf price size rest)
+
+pub record EntryOf (side : Side) (price size rest : ℕ) (entry : Entry) : Type 0 where
+  pub for-side : entry .side ≡ side
+  pub says : edit (entry .change) ≡ editOf price size rest
 
 -- The entries that three lists of words hold, one at each place.
 unfoldable pub entriesOf : List ℕ → List ℕ → List ℕ → List (Edit Level)

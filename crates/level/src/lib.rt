@@ -1,29 +1,36 @@
-// Price levels: a level as a side keeps it, in three words, and the entries of a message that set or remove one. A side has up to
+// Price levels: a level as a side keeps it, in words, and the entries of a message that set or remove one. A side has up to
 // 100 levels, best first: bids from high to low, asks from low to high, at most one level a price, prices compared by value.
+// What a level's words are is known here alone.
 //
-//     let rest = level::pack(level);                              // a level's price, size and rest: three words
-//     level::level_at(Levels { words: bids, count: n }, 0)        // the best bid
+//     let level = level::make(price, size, sum, length);
+//     level::put_level(&mut bids, 0, level);
+//     level::price_of(level::level_in(&bids, 0))                  // the price of the best bid
 mod words;
 
 ghost use mathlib.Core.Path.{_≡_};
 ghost use Prim.Native.Nat.{_≤_};
-ghost use Rattle.decimal.specs.Decimal.{number};
+ghost use Rattle.decimal.specs.Decimal.{number, isZero};
+ghost use Rattle.decimal.specs.Limits.{Within};
 ghost use Rattle.level.specs.Ranked.{named};
 ghost use Rattle.level.specs.Order.{aheadOf, equalOf};
-ghost use Rattle.level.specs.Words.{levelPrice, levelSize, edit};
+ghost use Rattle.level.specs.Words.{maxLength, levelPrice, levelSize, levelSum, levelLength, MadeOf, edit};
 ghost use Rattle.level.specs.Kept.{maxLevels, held, levelAt, Empty};
 use decimal::Decimal;
 use decimal::Order;
+pub use words::LevelWords;
 pub use words::entry_at;
 pub use words::level_in;
-pub use words::pack;
 pub use words::put_level;
+pub use words::words_of;
 
 // How many levels a side keeps.
 pub const MAX_LEVELS: usize = 100;
 
-// The words of a side that is kept: three a level.
-pub const MAX_WORDS: usize = 300;
+// How many words a level takes.
+const LEVEL_WORDS: usize = 3;
+
+// The words of a side that is kept.
+pub const MAX_WORDS: usize = LEVEL_WORDS * MAX_LEVELS;
 
 pub enum Side {
     Bids,
@@ -33,12 +40,12 @@ pub enum Side {
 // A price and a size as they were sent: the digits as one whole number, and how many of them stand after the point.
 // `sum` and `length` are the CRC of the level's own piece of checksum text and its length, made by whoever makes the level.
 pub struct Level {
-    pub price: u64,
-    pub size: u64,
-    pub sum: u32,
-    pub length: u16,
-    pub price_decimals: u8,
-    pub size_decimals: u8,
+    price: u64,
+    size: u64,
+    sum: u32,
+    length: u16,
+    price_decimals: u8,
+    size_decimals: u8,
 }
 
 pub enum Change {
@@ -52,7 +59,7 @@ pub struct Entry {
     pub change: Change,
 }
 
-// A side that is kept: `count` levels at the front of `words`, best first. A level is three words, since an array of numbers can
+// A side that is kept: `count` levels at the front of `words`, best first. A level is kept in words, since an array of numbers can
 // be lent, and one of structs cannot.
 pub struct Levels {
     pub words: [u64; MAX_WORDS],
@@ -95,22 +102,50 @@ pub fn level_at(kept: Levels, i: usize) -> MaybeLevel
     MaybeLevel::Nothing
 }
 
+// The level of a price and a size, with the sum and the length of its piece of checksum text.
+pub fn make(price: Decimal, size: Decimal, sum: u32, length: u64) -> Level
+    requires { ⌜ Within (number price) × Within (number size) × (length ≤ maxLength) ⌝ }
+    ensures { λ r. ⌜ MadeOf (number price) (number size) sum length r ⌝ }
+{
+    Level {
+        price: decimal::digits_of(price),
+        size: decimal::digits_of(size),
+        sum,
+        length: length as u16,
+        price_decimals: decimal::decimals_of(price) as u8,
+        size_decimals: decimal::decimals_of(size) as u8,
+    }
+}
+
 pub fn price_of(level: Level) -> Decimal
     ensures { λ r. ⌜ number r ≡ levelPrice level ⌝ }
 {
-    Decimal {
-        digits: level.price,
-        decimals: level.price_decimals as u64,
-    }
+    decimal::of_digits(level.price, level.price_decimals as u64)
 }
 
 pub fn size_of(level: Level) -> Decimal
     ensures { λ r. ⌜ number r ≡ levelSize level ⌝ }
 {
-    Decimal {
-        digits: level.size,
-        decimals: level.size_decimals as u64,
-    }
+    decimal::of_digits(level.size, level.size_decimals as u64)
+}
+
+pub fn sum_of(level: Level) -> u32
+    ensures { λ r. ⌜ r ≡ levelSum level ⌝ }
+{
+    level.sum
+}
+
+pub fn length_of(level: Level) -> u16
+    ensures { λ r. ⌜ r ≡ levelLength level ⌝ }
+{
+    level.length
+}
+
+// A size of zero removes.
+fn removes(level: Level) -> bool
+    ensures { λ r. ⌜ r ≡ isZero (levelSize level) ⌝ }
+{
+    level.size == 0
 }
 
 // The price that a change names.

@@ -1,16 +1,18 @@
-// Levels and entries as words: the price's digits, the size's digits, and one word for the rest of a level. An entry's size of 0
+// Levels and entries as words: the price's digits, the size's digits, and one word for the rest of a level. An entry's size of zero
 // removes.
 ghost use mathlib.Core.Path.{_≡_};
 ghost use Prim.Native.Nat.{_<_};
 ghost use lib.ListN.{length, getD};
-ghost use Rattle.level.specs.Words.{Packed, levelOf, levelsIn, noLevel, entryOf};
+ghost use Rattle.level.specs.Words.{Packed, Holds, levelOf, levelsIn, noLevel, EntryOf};
 ghost use Rattle.level.specs.Kept.{maxLevels, maxWords, PutAt};
 use crate::Change;
 use crate::Entry;
+use crate::LEVEL_WORDS;
 use crate::Level;
 use crate::MAX_WORDS;
 use crate::Side;
-use decimal::Decimal;
+use crate::price_of;
+use crate::removes;
 
 // Where a level's length, price decimals and size decimals begin in the word; its sum begins at 1.
 const LENGTH: u64 = 4_294_967_296;
@@ -19,8 +21,26 @@ const PRICE_DECIMALS: u64 = 281_474_976_710_656;
 
 const SIZE_DECIMALS: u64 = 72_057_594_037_927_936;
 
+// The words of a level.
+pub struct LevelWords {
+    pub price: u64,
+    pub size: u64,
+    pub rest: u64,
+}
+
+// The words that hold a level.
+pub fn words_of(level: Level) -> LevelWords
+    ensures { λ r. ⌜ Holds r level ⌝ }
+{
+    LevelWords {
+        price: level.price,
+        size: level.size,
+        rest: pack(level),
+    }
+}
+
 // The rest of a level, in one word.
-pub fn pack(level: Level) -> u64
+fn pack(level: Level) -> u64
     ensures { λ r. ⌜ Packed level r ⌝ }
 {
     let decimals = level.price_decimals as u64 + 256 * (level.size_decimals as u64);
@@ -46,7 +66,11 @@ pub fn level_in(words: &[u64; MAX_WORDS], i: usize) -> Level
     requires { ⌜ (i < maxLevels) × (length (now words) ≡ maxWords) ⌝ }
     ensures { λ r. ⌜ r ≡ getD (levelsIn (now (words .entry))) i noLevel ⌝ }
 {
-    level_of(words[3 * i], words[3 * i + 1], words[3 * i + 2])
+    level_of(
+        words[LEVEL_WORDS * i],
+        words[LEVEL_WORDS * i + 1],
+        words[LEVEL_WORDS * i + 2],
+    )
 }
 
 // Puts a level at place i of the words of a side.
@@ -55,23 +79,20 @@ pub fn put_level(words: &mut [u64; MAX_WORDS], i: usize, level: Level)
     ensures { λ r. ⌜ PutAt (now (words .entry)) i level (now (words .exit)) ⌝ }
 {
     let rest = pack(level);
-    words[3 * i] = level.price;
-    words[3 * i + 1] = level.size;
-    words[3 * i + 2] = rest;
+    words[LEVEL_WORDS * i] = level.price;
+    words[LEVEL_WORDS * i + 1] = level.size;
+    words[LEVEL_WORDS * i + 2] = rest;
 }
 
 // The entry that three words hold.
 pub fn entry_at(side: Side, price: u64, size: u64, rest: u64) -> Entry
-    ensures { λ r. ⌜ r ≡ entryOf side price size rest ⌝ }
+    ensures { λ r. ⌜ EntryOf side price size rest r ⌝ }
 {
     let level = level_of(price, size, rest);
-    if size == 0 {
+    if removes(level) {
         return Entry {
             side: side,
-            change: Change::Remove(Decimal {
-                digits: level.price,
-                decimals: level.price_decimals as u64,
-            }),
+            change: Change::Remove(price_of(level)),
         };
     }
     Entry {

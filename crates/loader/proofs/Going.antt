@@ -17,8 +17,9 @@ use Rattle.entries.specs.declared.EntryPlace.{EntryPlace}
 use Rattle.entries.proofs.Strings.{Sound}
 use Rattle.entries.proofs.Summary.{found-laid}
 use Rattle.entries.proofs.Rows.{Left, first-left, Here, left-here}
-use Rattle.level.specs.Words.{Packed}
+use Rattle.level.specs.Words.{Holds}
 use Rattle.level.specs.declared.Level.{Level}
+use Rattle.level.specs.declared.words.LevelWords.{LevelWords}
 use Rattle.loader.specs.Loaded.{Room, Loaded}
 use Rattle.loader.proofs.Words.{LevelAt, rowOf, loaded-none, loaded-more}
 
@@ -66,9 +67,9 @@ module _ (entry : List ℕ → Span → Reading Row) {piece : Number → Number 
     unfolding entryPlaceOf
     row-is = sym (ap rowOf (here .is-row))
 
-    pub going-more : (level : Level) (rest : ℕ) → Packed level rest → LevelAt piece s f level → (end j : ℕ) → end ≡ f .end → j ≡ endOf (separator 44 s end)
-        → Going entry piece s (set prices k (level .price)) (set sizes k (level .size)) (set packs k rest) j (k + 1)
-    going-more level rest p l end j e h =
+    pub going-more : (level : Level) (words : LevelWords) → Holds words level → LevelAt piece s f level → (end j : ℕ) → end ≡ f .end → j ≡ endOf (separator 44 s end)
+        → Going entry piece s (set prices k (words .price)) (set sizes k (words .size)) (set packs k (words .rest)) j (k + 1)
+    going-more level words p l end j e h =
         let o = here .onwards j (h ∙ ap (λ (i : ℕ). endOf (separator 44 s i)) e) in
         record {
           done = g .done ++ (rowOf f ∷ []);
@@ -77,7 +78,7 @@ module _ (entry : List ℕ → Span → Reading Row) {piece : Number → Number 
               g .whole ∙ ap (λ (x : List Row). g .done ++ x) (here .both ∙ ap (λ (r : Row). r ∷ here .later) row-is)
               ∙ sym (append-assoc (g .done) (rowOf f ∷ []) (here .later));
           few = g .few;
-          loaded = loaded-more (g .loaded) going-below f level rest p l;
+          loaded = loaded-more (g .loaded) going-below f level words p l;
           over = o .0;
           on = o .1;
         }

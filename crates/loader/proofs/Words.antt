@@ -5,8 +5,6 @@ use mathlib.Core.Bool.{Bool, true, false}
 use mathlib.Core.List.{List, [], _∷_, _++_, map}
 use native.Mathlib.Omega.{arith}
 use native.Mathlib.Numerals.{add-one}
-use borrow.Author.Tests.{eqb-true, eqb-false}
-use lib.Dec.{eqb}
 use lib.ListN.{length, take, set, length-append, length-set}
 use lib.Seq.{take-suc-set, length-take-le}
 use Rattle.decimal.specs.Decimal.{Number, isZero}
@@ -20,12 +18,14 @@ use Rattle.level.specs.Level.{PriceLevel}
 use Rattle.level.specs.Words.{levelPrice, levelSize, shown}
 use Rattle.level.specs.Side.{Edit, sets, removes}
 use Rattle.level.specs.Ranked.{mapEdit, All, IfSet, named}
-use Rattle.level.specs.Words.{Packed, editOf, entriesOf}
+use Rattle.level.specs.Words.{Holds, editOf, entriesOf}
 use Rattle.level.specs.declared.Level.{Level}
+use Rattle.level.specs.declared.words.LevelWords.{LevelWords}
 use Rattle.level.proofs.All.{all-append}
-use Rattle.level.proofs.Packing.{edit-packed, edit-removal, entries-snoc}
+use Rattle.level.proofs.Packing.{edit-held, edit-set, edit-removal, entries-snoc}
 use Rattle.checksum.specs.Carried.{Carries, Made}
-use Rattle.loader.specs.Loaded.{editFor, editAt, Room, Loaded}
+use Rattle.loader.specs.Loaded.{editAt, Room, Loaded}
+use Rattle.loader.specs.Loaded as loaded·
 
 -- ---- the level of an entry
 
@@ -50,36 +50,34 @@ level-made s f p z m =
 abbrev pub rowOf : EntryPlace → Row
 rowOf f = record { price = priceSpan f; size = sizeSpan f }
 
-record Holds (piece : Number → Number → List ℕ) (s : List ℕ) (f : EntryPlace) (e : Edit Level) : Type 0 where
+record OfRow (piece : Number → Number → List ℕ) (s : List ℕ) (f : EntryPlace) (e : Edit Level) : Type 0 where
   within : Within (named levelPrice e)
   says : mapEdit shown e ≡ editAt s (rowOf f)
   carried : IfSet (Carries piece) e
 
-module _ {piece : Number → Number → List ℕ} (s : List ℕ) (f : EntryPlace) (level : Level) (rest : ℕ) (p : Packed level rest) (l : LevelAt piece s f level) where
-  says-level : editFor (levelPrice level) (levelSize level) ≡ editAt s (rowOf f)
+module _ {piece : Number → Number → List ℕ} (s : List ℕ) (f : EntryPlace) (level : Level) (words : LevelWords) (p : Holds words level) (l : LevelAt piece s f level) where
+  says-level : loaded·.editFor (levelPrice level) (levelSize level) ≡ editAt s (rowOf f)
   unfolding editAt shown
-  says-level = ap₂ editFor (ap (λ (x : PriceLevel). x .price) (l .shows)) (ap (λ (x : PriceLevel). x .size) (l .shows))
+  says-level = ap₂ loaded·.editFor (ap (λ (x : PriceLevel). x .price) (l .shows)) (ap (λ (x : PriceLevel). x .size) (l .shows))
 
-  for-removal : eqb (level .size) 0 ≡ true → editFor (levelPrice level) (levelSize level) ≡ removes (levelPrice level)
-  unfolding editFor isZero levelSize
+  for-removal : isZero (levelSize level) ≡ true → loaded·.editFor (levelPrice level) (levelSize level) ≡ removes (levelPrice level)
+  unfolding loaded·.editFor
   for-removal e = rw e
 
-  for-set : eqb (level .size) 0 ≡ false → editFor (levelPrice level) (levelSize level) ≡ sets (shown level)
-  unfolding editFor isZero levelSize shown
+  for-set : isZero (levelSize level) ≡ false → loaded·.editFor (levelPrice level) (levelSize level) ≡ sets (shown level)
+  unfolding loaded·.editFor shown
   for-set e = rw e
 
-  holds : Holds piece s f (editOf (level .price) (level .size) rest)
+  of-row : OfRow piece s f (editOf (words .price) (words .size) (words .rest))
   unfolding named mapEdit IfSet
-  holds = go (eqb (level .size) 0) refl
+  of-row = go (isZero (levelSize level)) refl
     where
-      go : (b : Bool) → eqb (level .size) 0 ≡ b → Holds piece s f (editOf (level .price) (level .size) rest)
+      go : (b : Bool) → isZero (levelSize level) ≡ b → OfRow piece s f (editOf (words .price) (words .size) (words .rest))
       go true e =
-          subst (Holds piece s f)
-          (sym (ap (λ (z : ℕ). editOf (level .price) z rest) (eqb-true (level .size) 0 e) ∙ ap (editOf (level .price) 0) (p .word) ∙ edit-removal level (p .fits)))
+          subst (OfRow piece s f) (sym (edit-held p ∙ edit-removal level e))
           (record { within = l .within; says = sym (for-removal e) ∙ says-level; carried = tt })
       go false e =
-          subst (Holds piece s f)
-          (sym (ap (editOf (level .price) (level .size)) (p .word) ∙ edit-packed level (p .fits) (eqb-false (level .size) 0 e)))
+          subst (OfRow piece s f) (sym (edit-held p ∙ edit-set level e))
           (record { within = l .within; says = sym (for-set e) ∙ says-level; carried = l .carries })
 
 -- ---- the lists of words
@@ -93,9 +91,9 @@ unfolding All entriesOf
 loaded-none r = record { room = r; count = refl; few = omega arith; prices-count = refl; sizes-count = refl; packs-count = refl; given = record { few = omega arith; sizes-long = refl; packs-long = refl; within = tt }; edits = refl; carried = tt }
 
 module _ {piece : Number → Number → List ℕ} {s : List ℕ} {rows : List Row} {prices sizes packs : List ℕ} {k : ℕ} (h : Loaded piece s rows prices sizes packs k)
-    (below : k < 100) (f : EntryPlace) (level : Level) (rest : ℕ) (p : Packed level rest) (l : LevelAt piece s f level) where
+    (below : k < 100) (f : EntryPlace) (level : Level) (words : LevelWords) (p : Holds words level) (l : LevelAt piece s f level) where
   abbrev e : Edit Level
-  e = editOf (level .price) (level .size) rest
+  e = editOf (words .price) (words .size) (words .rest)
 
   abbrev stored : List (Edit Level)
   stored = entriesOf (take k prices) (take k sizes) (take k packs)
@@ -109,32 +107,32 @@ module _ {piece : Number → Number → List ℕ} {s : List ℕ} {rows : List Ro
   front : (xs : List ℕ) (x : ℕ) → length xs ≡ 100 → take (k + 1) (set xs k x) ≡ take k xs ++ (x ∷ [])
   front xs x n = ap (λ (n : ℕ). take n (set xs k x)) (add-one k) ∙ take-suc-set xs k x (omega arith)
 
-  more : entriesOf (take (k + 1) (set prices k (level .price))) (take (k + 1) (set sizes k (level .size))) (take (k + 1) (set packs k rest)) ≡ stored ++ (e ∷ [])
+  more : entriesOf (take (k + 1) (set prices k (words .price))) (take (k + 1) (set sizes k (words .size))) (take (k + 1) (set packs k (words .rest))) ≡ stored ++ (e ∷ [])
   more =
       let lp = h .room .prices-long in
       let lz = h .room .sizes-long in
       let lr = h .room .packs-long in
-      ap (λ (x : List ℕ). entriesOf x (take (k + 1) (set sizes k (level .size))) (take (k + 1) (set packs k rest))) (front prices (level .price) lp)
-      ∙ ap (λ (x : List ℕ). entriesOf (take k prices ++ (level .price ∷ [])) x (take (k + 1) (set packs k rest))) (front sizes (level .size) lz)
-      ∙ ap (entriesOf (take k prices ++ (level .price ∷ [])) (take k sizes ++ (level .size ∷ []))) (front packs rest lr)
-      ∙ entries-snoc (take k prices) (take k sizes) (take k packs) (level .price) (level .size) rest (long sizes lz ∙ sym (long prices lp)) (long packs lr ∙ sym (long prices lp))
+      ap (λ (x : List ℕ). entriesOf x (take (k + 1) (set sizes k (words .size))) (take (k + 1) (set packs k (words .rest)))) (front prices (words .price) lp)
+      ∙ ap (λ (x : List ℕ). entriesOf (take k prices ++ (words .price ∷ [])) x (take (k + 1) (set packs k (words .rest)))) (front sizes (words .size) lz)
+      ∙ ap (entriesOf (take k prices ++ (words .price ∷ [])) (take k sizes ++ (words .size ∷ []))) (front packs (words .rest) lr)
+      ∙ entries-snoc (take k prices) (take k sizes) (take k packs) (words .price) (words .size) (words .rest) (long sizes lz ∙ sym (long prices lp)) (long packs lr ∙ sym (long prices lp))
 
   each-edit : (P : Edit Level → Type 0) → P e → All P stored →
-      All P (entriesOf (take (k + 1) (set prices k (level .price))) (take (k + 1) (set sizes k (level .size))) (take (k + 1) (set packs k rest)))
+      All P (entriesOf (take (k + 1) (set prices k (words .price))) (take (k + 1) (set sizes k (words .size))) (take (k + 1) (set packs k (words .rest))))
   unfolding All
   each-edit P a b = subst (All P) (sym more) (all-append P stored (e ∷ []) b (a, tt))
 
-  pub loaded-more : Loaded piece s (rows ++ (rowOf f ∷ [])) (set prices k (level .price)) (set sizes k (level .size)) (set packs k rest) (k + 1)
+  pub loaded-more : Loaded piece s (rows ++ (rowOf f ∷ [])) (set prices k (words .price)) (set sizes k (words .size)) (set packs k (words .rest)) (k + 1)
   loaded-more =
-      let b = holds s f level rest p l in
+      let b = of-row s f level words p l in
       let lp = h .room .prices-long in
       let lz = h .room .sizes-long in
       let lr = h .room .packs-long in
-      let gp = grown prices (level .price) lp in
-      let gz = grown sizes (level .size) lz in
-      let gr = grown packs rest lr in
+      let gp = grown prices (words .price) lp in
+      let gz = grown sizes (words .size) lz in
+      let gr = grown packs (words .rest) lr in
       record {
-        room = record { prices-long = length-set prices k (level .price) ∙ lp; sizes-long = length-set sizes k (level .size) ∙ lz; packs-long = length-set packs k rest ∙ lr };
+        room = record { prices-long = length-set prices k (words .price) ∙ lp; sizes-long = length-set sizes k (words .size) ∙ lz; packs-long = length-set packs k (words .rest) ∙ lr };
         count = let n = h .count in let m = length-append rows (rowOf f ∷ []) in omega arith;
         few = omega arith;
         prices-count = gp;

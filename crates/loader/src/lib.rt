@@ -33,9 +33,10 @@ pub fn load(
     while 0 < at {
         let entry = read_entry(s, at, m);
         let level = level_of(entry.price, entry.size, m);
-        prices[k] = level.price;
-        sizes[k] = level.size;
-        packs[k] = level::pack(level);
+        let words = level::words_of(level);
+        prices[k] = words.price;
+        sizes[k] = words.size;
+        packs[k] = words.rest;
         k += 1;
         at = comma_end(s, entry.end);
     }

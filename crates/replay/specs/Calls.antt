@@ -3,6 +3,7 @@ use Prim.Native.Nat.{ℕ, _≤_}
 use mathlib.Core.Path.{_≡_}
 use mathlib.Core.List.{List, [], _∷_}
 use lib.ListN.{length, drop}
+use Rattle.decimal.specs.Decimal.{number}
 use Rattle.settings.specs.Settings.{Config}
 use Rattle.answer.specs.Answers.{answerNumber}
 use Rattle.reference.specs.Reference.{Reference, Ask, opened, does, repliesTo}
@@ -28,10 +29,10 @@ levelReplied s =
     record {
       book = s .book;
       answer = answerNumber (s .answer);
-      first = s .price .digits;
-      second = s .price .decimals;
-      third = s .size .digits;
-      fourth = s .size .decimals;
+      first = number (s .price) .digits;
+      second = number (s .price) .decimals;
+      third = number (s .size) .digits;
+      fourth = number (s .size) .decimals;
     }
 
 unfoldable pub numberReplied : NumberReply → Replied

@@ -129,10 +129,10 @@ fn level_replied(level: LevelReply) -> Replied
     Replied {
         book,
         answer: number_of(answer),
-        first: price.digits,
-        second: price.decimals,
-        third: size.digits,
-        fourth: size.decimals,
+        first: decimal::digits_of(price),
+        second: decimal::decimals_of(price),
+        third: decimal::digits_of(size),
+        fourth: decimal::decimals_of(size),
     }
 }
 

@@ -1,12 +1,12 @@
 -- `sum_levels` meets its contract: what is left to sum, from a turn on, gives what the whole gives.
-use Prim.Native.Nat.{_*_, _-_, _≤_}
-use mathlib.Core.Path.{_≡_, refl, sym, ap, _∙_}
+use Prim.Native.Nat.{ℕ, _*_, _-_, _≤_}
+use mathlib.Core.Path.{_≡_, refl, sym, ap, ap₂, _∙_}
 use native.Mathlib.Omega.{arith}
 use lib.Bits.{bitXor}
 use lib.ListN.{take, drop}
 use Rattle.crc32_spec.specs.Crc.{bits}
 use Rattle.level.specs.declared.Level.{Level}
-use Rattle.level.specs.Words.{levelsIn}
+use Rattle.level.specs.Words.{levelSum, levelLength, levelsIn}
 use Rattle.checksum.specs.Carried.{summed}
 use Rattle.checksum.proofs.Pieces.{enough, summed-turn, summed-done}
 use borrow.Author.Needs.{needs}
@@ -25,11 +25,14 @@ loop-holds c = (refl, c .before .pre .0)
 
 loop-again : tie.Need-loop-again Inv-loop μ-loop
 loop-again c =
-    let w = c .before .before .before .before in
+    let w = c .before .before .before .before .before in
     let s = w .before .before in
-    let l = c .before .before .before .loop-test .taken in (
+    let level = c .before .before .before .level-in in
+    let l = c .before .before .before .before .loop-test .taken in (
       summed-turn (levelsIn (s .args .words .now)) (w .loop .i) (s .args .to) (w .loop .sum) (c .combine-with .result) l (enough (s .args .to) (s .args .words .now) (s .pre .1) (s .pre .2))
-          (c .combine-with .ensures ∙ ap (λ (level : Level). bitXor (bits (8 * level .length) (w .loop .sum)) (level .sum)) (c .before .before .level-in .ensures))
+          (c .combine-with .ensures
+          ∙ ap₂ (λ (n x : ℕ). bitXor (bits (8 * n) (w .loop .sum)) x) (c .before .length-of .ensures) (c .before .before .sum-of .ensures)
+          ∙ ap (λ (x : Level). bitXor (bits (8 * levelLength x) (w .loop .sum)) (levelSum x)) (level .ensures))
           ∙ w .loop .inv .0,
       omega arith,
     )
@@ -47,6 +50,8 @@ sum-levels-spec =
     Inv-loop
     μ-loop
     loop-holds
+    (λ c κs. search needs)
+    (λ c κs. search needs)
     (λ c κs. search needs)
     (λ c. search needs)
     (λ c κs. search needs)

@@ -4,10 +4,9 @@ use mathlib.Core.Path.{_≡_, sym, ap, ap₂, _∙_}
 use native.Mathlib.Nat.{sub-zero}
 use native.Mathlib.Omega.{arith}
 use lib.Bits.{bitXor}
-use lib.ListN.{take, drop}
+use lib.ListN.{getD, take, drop}
 use Rattle.crc32_spec.specs.Crc.{bits}
-use Rattle.level.specs.declared.Level.{Level}
-use Rattle.level.specs.Words.{levelsIn}
+use Rattle.level.specs.Words.{levelSum, levelLength, levelsIn, noLevel}
 use Rattle.checksum.specs.Text.{interleaved}
 use Rattle.checksum.specs.Carried.{summed}
 use Rattle.checksum.proofs.Pieces.{enough, pairs-turn, pairs-done}
@@ -31,17 +30,25 @@ loop-holds c =
 
 loop-again : tie.Need-loop-again Inv-loop μ-loop
 loop-again c =
-    let w = c .before .before .before .before .before .before .before in
+    let sums = c .before .before in
+    let lengths = sums .before .before in
+    let levels = lengths .before .before in
+    let w = levels .before .before .before in
     let s = w .before .before in
     let a = s .args in
-    let l = c .before .before .before .before .before .before .loop-test .taken in
-    let bid = c .before .before .before .before .before .level-in .ensures in
-    let ask = c .before .before .before .before .level-in2 .ensures in (
+    let l = levels .before .before .loop-test .taken in
+    let bid = levels .before .level-in .ensures in
+    let ask = levels .level-in2 .ensures in
+    let bid-sum = sums .before .sum-of .ensures ∙ ap levelSum bid in
+    let ask-sum = sums .sum-of2 .ensures ∙ ap levelSum ask in
+    let bid-length = lengths .before .length-of .ensures ∙ ap levelLength bid in
+    let ask-length = lengths .length-of2 .ensures ∙ ap levelLength ask in (
       pairs-turn (levelsIn (a .bids .now)) (levelsIn (a .asks .now)) (w .loop .i) (a .n) (w .loop .sum) (c .combine-with2 .result) (c .before .combine-with .result) l
           (enough (a .n) (a .bids .now) (s .pre .0) (s .pre .1))
           (enough (a .n) (a .asks .now) (s .pre .0) (s .pre .2))
-          (c .before .combine-with .ensures ∙ ap₂ (λ (b k : Level). bitXor (bits (8 * k .length) (b .sum)) (k .sum)) bid ask)
-          (c .combine-with2 .ensures ∙ ap₂ (λ (b k : Level). bitXor (bits (8 * (b .length + k .length)) (w .loop .sum)) (c .before .combine-with .result)) bid ask)
+          (c .before .combine-with .ensures ∙ ap₂ (λ (n b : ℕ). bitXor (bits (8 * n) b) (sums .sum-of2 .result)) ask-length bid-sum
+          ∙ ap (bitXor (bits (8 * levelLength (getD (levelsIn (a .asks .now)) (w .loop .i) noLevel)) (levelSum (getD (levelsIn (a .bids .now)) (w .loop .i) noLevel)))) ask-sum)
+          (c .combine-with2 .ensures ∙ ap₂ (λ (b k : ℕ). bitXor (bits (8 * (b + k)) (w .loop .sum)) (c .before .combine-with .result)) bid-length ask-length)
           ∙ w .loop .inv .0,
       omega arith,
     )
@@ -61,8 +68,12 @@ sum-pairs-spec =
     loop-holds
     (λ c κs. search needs)
     (λ c κs. search needs)
+    (λ c κs. search needs)
     (λ c. search needs)
+    (λ c κs. search needs)
     (λ c. search needs)
+    (λ c κs. search needs)
+    (λ c κs. search needs)
     (λ c κs. search needs)
     (λ c. search needs)
     (λ c κs. search needs)

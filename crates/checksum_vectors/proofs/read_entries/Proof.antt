@@ -25,7 +25,7 @@ returns-2 : tie.Need-returns-2 Inv-loop μ-loop
 returns-2 c = c .before .before .before .before .loop .inv
 
 loop-again : tie.Need-loop-again Inv-loop μ-loop
-loop-again c = stored-more (c .before .before .before .before .before .before .before .before .before .before .before .before .before .before .args .m) (c .before .before .before .before .before .before .before .before .before .before .before .before .loop .prices) (c .before .before .before .before .before .before .before .before .before .before .before .before .loop .sizes) (c .before .before .before .before .before .before .before .before .before .before .before .before .loop .packs) (c .before .before .before .before .before .before .before .before .before .before .before .before .loop .k) (c .before .before .level .given .0 .0) (c .pack .result) (c .before .before .before .before .before .before .before .before .before .before .before .loop-test .taken) (c .pack .ensures) (subst (Readable (c .before .before .before .before .before .before .before .before .before .before .before .before .before .before .args .m)) (c .before .before .level .given .1) (c .before .before .before .before .read-level .ensures)) (c .before .before .before .before .before .before .before .before .before .before .before .before .loop .inv)
+loop-again c = stored-more (c .before .before .before .before .before .before .before .before .before .before .before .before .before .before .args .m) (c .before .before .before .before .before .before .before .before .before .before .before .before .loop .prices) (c .before .before .before .before .before .before .before .before .before .before .before .before .loop .sizes) (c .before .before .before .before .before .before .before .before .before .before .before .before .loop .packs) (c .before .before .before .before .before .before .before .before .before .before .before .before .loop .k) (c .before .before .level .given .0 .0) (c .words-of .result) (c .before .before .before .before .before .before .before .before .before .before .before .loop-test .taken) (c .words-of .ensures) (subst (Readable (c .before .before .before .before .before .before .before .before .before .before .before .before .before .before .args .m)) (c .before .before .level .given .1) (c .before .before .before .before .read-level .ensures)) (c .before .before .before .before .before .before .before .before .before .before .before .before .loop .inv)
 
 returns-3 : tie.Need-returns-3 Inv-loop μ-loop
 returns-3 c = c .before .before .before .before .before .before .before .before .before .before .loop .inv
@@ -54,11 +54,11 @@ read-entries-spec =
     (λ c. search needs)
     (λ c κs. search needs)
     (λ c. search needs)
-    (λ c. search needs)
-    (λ c. search needs)
-    (λ c. search needs)
-    (λ c. search needs)
     (λ c κs. search needs)
+    (λ c. search needs)
+    (λ c. search needs)
+    (λ c. search needs)
+    (λ c. search needs)
     (λ c. search needs)
     (λ c. search needs)
     (λ c. search needs)

@@ -15,11 +15,12 @@ returns c =
 
 returns-2 : tie.Need-returns-2
 returns-2 c =
-    let a = c .before .before .before .before .args in
-    number-none (a .s .now) (record { from = a .from; to = a .to }) (sym (c .before .before .parse-quoted .ensures) ∙ ap parsed (c .enum-told .given .1))
+    let a = c .before .before .before .before .before .args in
+    number-none (a .s .now) (record { from = a .from; to = a .to }) (c .zero .result) (c .zero .ensures)
+    (sym (c .before .before .before .parse-quoted .ensures) ∙ ap parsed (c .before .enum-told .given .1))
 
 pub number-at-spec : {M : Type 1} → statement M
 number-at-spec =
     tie.close
     (tie.spec
-    (λ c κs. search needs) (λ c. search needs) (λ c. search needs) returns returns-2)
+    (λ c κs. search needs) (λ c. search needs) (λ c. search needs) (λ c κs. search needs) returns returns-2)

@@ -7,12 +7,12 @@ use lib.ListN.{length}
 use lib.Seq.{getD-take}
 use Rattle.level.specs.declared.MaybeLevel.the-variants.{At}
 use Rattle.level.specs.Words.{levelsIn, noLevel}
-use Rattle.level.specs.Kept.{held, levelAt}
+use Rattle.level.specs.Kept.{maxWords, held, levelAt}
 use Rattle.level.proofs.Held.{held-length, level-in, level-past}
 use Rattle.level.proofs.level_at.Statement.{statement}
 use Rattle.level.proofs.level_at.Tie as tie
 
-room : (s : tie.Start) → length (s .args .t1 .words) ≡ 300
+room : (s : tie.Start) → length (s .args .t1 .words) ≡ maxWords
 room s = search needs
 
 long : (s : tie.Start) → length (held (s .args .t1)) ≡ s .args .t1 .count

@@ -1,14 +1,12 @@
--- `size_of` meets its contract: it has the two fields of the level's size.
-use mathlib.Core.Path.{refl}
+-- `size_of` meets its contract: it has the digits and decimals of the level's size.
 use borrow.Author.Needs.{needs}
-use Rattle.decimal.specs.Decimal.{number}
 use Rattle.level.specs.Words.{levelSize}
 use Rattle.level.proofs.size_of.Statement.{statement}
 use Rattle.level.proofs.size_of.Tie as tie
 
 returns : tie.Need-returns
-unfolding number levelSize
-returns c = refl
+unfolding levelSize
+returns c = c .of-digits .ensures
 
 pub size-of-spec : {M : Type 1} → statement M
-size-of-spec = tie.close (tie.spec (λ c. search needs) returns)
+size-of-spec = tie.close (tie.spec (λ c. search needs) (λ c κs. search needs) returns)

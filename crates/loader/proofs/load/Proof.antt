@@ -35,32 +35,32 @@ level-of-requires c κs = (c .read-entry .ensures .price .within, c .read-entry 
 
 mul-prices : tie.Need-mul-prices Inv-loop μ-loop
 mul-prices c =
-    let a = c .before .before .before .before .before .before .args in
+    let a = c .before .before .before .before .before .before .before .args in
     let s = a .s .now in
-    let k = going-below (entryFor (a .m)) s (c .before .before .before .loop .inv) (c .before .before .loop-test .taken) in
+    let k = going-below (entryFor (a .m)) s (c .before .before .before .before .loop .inv) (c .before .before .before .loop-test .taken) in
     omega arith
 
 element-write-prices : tie.Need-element-write-prices Inv-loop μ-loop
 element-write-prices c =
-    let a = c .before .before .before .before .before .before .args in
+    let a = c .before .before .before .before .before .before .before .args in
     let s = a .s .now in
-    let k = going-below (entryFor (a .m)) s (c .before .before .before .loop .inv) (c .before .before .loop-test .taken) in
-    let r = c .before .before .before .loop .inv .loaded .room in
+    let k = going-below (entryFor (a .m)) s (c .before .before .before .before .loop .inv) (c .before .before .before .loop-test .taken) in
+    let r = c .before .before .before .before .loop .inv .loaded .room in
     omega arith
 
 mul-sizes : tie.Need-mul-sizes Inv-loop μ-loop
 mul-sizes c =
-    let a = c .before .before .before .before .before .before .args in
+    let a = c .before .before .before .before .before .before .before .args in
     let s = a .s .now in
-    let k = going-below (entryFor (a .m)) s (c .before .before .before .loop .inv) (c .before .before .loop-test .taken) in
+    let k = going-below (entryFor (a .m)) s (c .before .before .before .before .loop .inv) (c .before .before .before .loop-test .taken) in
     omega arith
 
 element-write-sizes : tie.Need-element-write-sizes Inv-loop μ-loop
 element-write-sizes c =
-    let a = c .before .before .before .before .before .before .args in
+    let a = c .before .before .before .before .before .before .before .args in
     let s = a .s .now in
-    let k = going-below (entryFor (a .m)) s (c .before .before .before .loop .inv) (c .before .before .loop-test .taken) in
-    let r = c .before .before .before .loop .inv .loaded .room in
+    let k = going-below (entryFor (a .m)) s (c .before .before .before .before .loop .inv) (c .before .before .before .loop-test .taken) in
+    let r = c .before .before .before .before .loop .inv .loaded .room in
     omega arith
 
 mul-packs : tie.Need-mul-packs Inv-loop μ-loop
@@ -99,7 +99,7 @@ loop-again c =
     let s = a .s .now in
     let e = b .read-entry .ensures in
     let level = c .before .before .level-of in
-    going-more (entryFor (a .m)) s (b .before .before .loop .inv) (b .before .loop-test .taken) (level .result) (c .before .pack .result) (c .before .pack .ensures)
+    going-more (entryFor (a .m)) s (b .before .before .loop .inv) (b .before .loop-test .taken) (level .result) (c .before .words-of .result) (c .before .words-of .ensures)
     (level-made s (entryPlaceAt (entryFor (a .m)) s (b .before .before .loop .at)) (e .price) (e .size) (level .ensures)) (b .read-entry .result .end) (c .comma-end .result) (e .end)
     (c .comma-end .ensures)
 
@@ -120,11 +120,11 @@ load-spec =
     loop-holds
     read-entry-requires
     level-of-requires
+    (λ c κs. search needs)
     mul-prices
     element-write-prices
     mul-sizes
     element-write-sizes
-    (λ c κs. search needs)
     mul-packs
     element-write-packs
     add-k

@@ -13,14 +13,13 @@ use Rattle.decimal.specs.Decimal.{Number, number, value}
 use Rattle.decimal.specs.Limits.{Within}
 use Rattle.decimal.specs.declared.Decimal.{Decimal}
 use Rattle.level.specs.declared.Level.{Level}
-use Rattle.level.specs.declared.Entry.{Entry}
 use Rattle.level.specs.declared.Change.{Change}
 use Rattle.level.specs.declared.Change.the-variants.{Set, Remove}
 use Rattle.level.specs.Words.{levelPrice}
 use Rattle.level.specs.Side.{Edit, sets, removes, nearer, without, applyAll}
 use Rattle.level.specs.Ranked.{All, standing, afterMessage, named, replaces, replaced, Sorted}
-use Rattle.level.specs.Words.{levelsIn, noLevel, edit, editOf, entryOf, entriesOf}
-use Rattle.level.specs.Kept.{keptIn, held, Good}
+use Rattle.level.specs.Words.{levelsIn, noLevel, edit, entriesOf}
+use Rattle.level.specs.Kept.{maxWords, keptIn, held, Good}
 use Rattle.side.specs.Applying.{Given, AfterEntries}
 use Rattle.level.proofs.All.{all-take}
 use Rattle.level.proofs.Ranking.{applyRanked, sorted-take}
@@ -63,7 +62,7 @@ abbrev μ-entry : tie.MeasureT-entry
 μ-entry words kept side depth prices sizes packs levels₀ count₀ i replaced₀ k₀ levels count replaced k = length prices - k
 
 abbrev Inv-cut : tie.InvT-cut
-Inv-cut words₀ kept depth prices sizes packs levels count i₀ replaced k left words i = (length words ≡ 300) × (i ≤ left) × (take i (levelsIn words) ≡ take i levels)
+Inv-cut words₀ kept depth prices sizes packs levels count i₀ replaced k left words i = (length words ≡ maxWords) × (i ≤ left) × (take i (levelsIn words) ≡ take i levels)
 
 abbrev μ-cut : tie.MeasureT-cut
 μ-cut words₀ kept depth prices sizes packs levels count i₀ replaced k left words i = left - i
@@ -128,8 +127,7 @@ module _ (v : tie.After-price-named Inv-load μ-load Inv-find μ-find Inv-down �
   side-long = length-take-le N A room
 
   is-edit : edit change ≡ this
-  unfolding entryOf editOf
-  is-edit = ap (λ (e : Entry). edit (e .change)) (v .before .entry-at .ensures)
+  is-edit = v .before .entry-at .ensures .says
 
   named-is : number (v .price-named .result) ≡ named levelPrice this
   named-is = v .price-named .ensures ∙ ap (named levelPrice) is-edit

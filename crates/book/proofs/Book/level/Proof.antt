@@ -1,7 +1,6 @@
 -- `level` meets its contract: by whether the question is answered, and the level is there.
 use Rattle.book.proofs.Asking.{level-here, level-none, level-no}
-use mathlib.Core.Path.{sym, subst, _∙_}
-use Rattle.book.specs.Shown.{AnswersLevel}
+use mathlib.Core.Path.{sym, _∙_}
 use borrow.Author.Needs.{needs}
 use Rattle.book.proofs.Book.level.Statement.{statement}
 use Rattle.book.proofs.Book.level.Tie as tie
@@ -14,12 +13,12 @@ returns c =
 returns-2 : tie.Need-returns-2
 returns-2 c =
     let a = c .before .before .before .before .before .before .before .args in
-    subst (AnswersLevel (a .self) (a .scope) (a .side) (a .i)) (sym (c .no-level .ensures)) (level-none (a .self) (a .scope) (a .side) (a .i) (sym (c .before .before .before .before .before .stands .ensures) ∙ c .before .before .before .before .if1 .taken) (sym (c .before .before .before .level-in .ensures) ∙ c .before .enum-told .given .1))
+    level-none (a .self) (a .scope) (a .side) (a .i) (sym (c .before .before .before .before .before .stands .ensures) ∙ c .before .before .before .before .if1 .taken) (sym (c .before .before .before .level-in .ensures) ∙ c .before .enum-told .given .1) (c .no-level .ensures)
 
 returns-3 : tie.Need-returns-3
 returns-3 c =
     let a = c .before .before .before .before .before .args in
-    subst (AnswersLevel (a .self) (a .scope) (a .side) (a .i)) (sym (c .no-level2 .ensures)) (level-no (a .self) (a .scope) (a .side) (a .i) (sym (c .before .before .before .stands .ensures) ∙ c .before .before .if1 .left) (c .before .refusal .result) (c .before .refusal .ensures))
+    level-no (a .self) (a .scope) (a .side) (a .i) (sym (c .before .before .before .stands .ensures) ∙ c .before .before .if1 .left) (c .before .refusal .result) (c .before .refusal .ensures) (c .no-level2 .ensures)
 
 pub level-spec : {M : Type 1} → statement M
 level-spec =

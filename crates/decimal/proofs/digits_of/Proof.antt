@@ -1,0 +1,12 @@
+-- `digits_of` meets its contract: it is the field.
+use mathlib.Core.Path.{refl}
+use Rattle.decimal.specs.Decimal.{number}
+use Rattle.decimal.proofs.digits_of.Statement.{statement}
+use Rattle.decimal.proofs.digits_of.Tie as tie
+
+returns : tie.Need-returns
+unfolding number
+returns c = refl
+
+pub digits-of-spec : {M : Type 1} → statement M
+digits-of-spec = tie.close (tie.spec returns)

@@ -15,7 +15,7 @@ import sys
 
 TOP = pathlib.Path(__file__).resolve().parent.parent
 LIST, PAGE = TOP / "crates.txt", TOP / "README.md"
-REACHED = {"feed": {"level", "lifecycle"}, "replay": {"lifecycle"}, "booklines": {"level", "lifecycle", "settings"}}
+REACHED = {"feed": {"level", "lifecycle"}, "replay": {"lifecycle"}, "booklines": {"book", "level", "lifecycle", "settings"}}
 KIT = {"bytes", "check", "io", "libc", "os"}
 LINE = re.compile(r"^(\w+):(.*)$")
 PICTURE = re.compile(r"(<!-- layers -->\n```\n).*?(```\n)", re.S)

@@ -1,26 +1,27 @@
 // Reads a feed from standard input and writes the reply to each message.
 //
-// Input comes in large blocks. A line that a block leaves unfinished is carried over to the next one. The replies to
-// a block's lines are written before the next block is read.
-use book::Book;
+// `feed` splits what is read into lines and answers them; what stands here are the calls of read and write. The replies to a
+// block's lines are written before the next block is read. Where reading or writing fails, the program says so on standard
+// error and ends: an unfinished line is not answered, and nothing is read after a reply that could not be written.
+mod streams;
+
 use crc32::SHIFT_TABLE;
 use crc32::fill_table;
+use feed::Stream;
 use libc::STDIN_FILENO;
 use libc::STDOUT_FILENO;
-use lines::LINE_END;
-use lines::find;
+use streams::Sink;
+ghost use mathlib.Core.Path.{_≡_};
+ghost use mathlib.Core.Bool.{false};
 ghost use Prim.Native.Nat.{_+_, _≤_, _<_};
 ghost use lib.ListN.{length};
 ghost use Rattle.crc32.specs.Table.{ShiftTable};
-ghost use Rattle.book.specs.Shown.{Good};
 ghost use Rattle.feed.specs.Feed.{carried};
+ghost use Rattle.feed.specs.Stream.{Holds};
 
 const INPUT: usize = 262144;
 
 const OUTPUT: usize = 65536;
-
-// What is carried over of a line: as much as shows that it is too long for a message.
-const CARRIED: usize = message::MAX_MESSAGE + 1;
 
 fn main() {
     let mut input = [0; INPUT];
@@ -30,102 +31,89 @@ fn main() {
     run(&mut input, &mut output, &table);
 }
 
-// Whether line 1 was read; a book that it has not opened yet is shut.
-struct Session {
-    opened: bool,
-    book: Book,
-}
-
-// A session after some lines, and where the next line begins.
+// A feed after a block, and standard output.
 struct Served {
-    session: Session,
-    next: usize,
+    stream: Stream,
+    sink: Sink,
 }
 
-// Serves block after block until the input ends.
+// Serves block after block until the input ends, or reading or writing fails.
 fn run(input: &mut [u8], output: &mut [u8], table: &[u32])
     requires { ⌜ (carried < length (now input)) × ShiftTable (now table) ⌝ }
 {
-    let mut session = Session {
-        opened: false,
-        book: feed::open(b""),
-    };
-    let mut held = 0;
+    let mut stream = feed::start();
+    let mut sink = streams::standard_output();
+    let mut source = STDIN_FILENO;
     let mut turns = u64::MAX;
     while turns > 0 {
         turns -= 1;
-        let got = read_more(input, held);
-        if got == 0 {
-            finish(session, input, held, output, table);
+        let block = streams::read_block(source, input, stream.to);
+        if block.failed {
+            streams::fail(b"; reading standard input failed", sink.answered);
             return;
         }
-        let to = held + got;
-        let served = serve(session, &input[..to], held, output, table);
-        let next = served.next;
-        session = served.session;
-        held = lines::move_to_front(input, next, to, CARRIED);
+        source = block.fd;
+        let got = block.count;
+        if got == 0 {
+            finish(stream, input, output, table, sink);
+            return;
+        }
+        let served = serve(stream, input, got, output, table, sink);
+        let after = served.stream;
+        let written = served.sink;
+        if written.failed {
+            streams::fail(b"; writing standard output failed", written.answered);
+            return;
+        }
+        stream = after;
+        sink = written;
     }
 }
 
-// Serves a last line that has no line end, if it isn't empty.
-fn finish(session: Session, input: &mut [u8], held: usize, output: &mut [u8], table: &[u32])
-    requires { ⌜ Good (session .book) × (held < length (now input)) × ShiftTable (now table) ⌝ }
+// Writes the replies to the lines that end in what was read.
+fn serve(
+    opened: Stream,
+    input: &mut [u8],
+    got: usize,
+    output: &mut [u8],
+    table: &[u32],
+    before: Sink,
+) -> Served
+    requires { ⌜ Holds opened (now input) × (opened .to + got ≤ length (now input)) × ShiftTable (now table) ⌝ }
+    ensures { λ r. ⌜ Holds (r .stream) (now (input .exit)) × (r .sink .failed ≡ false → r .stream .to ≤ carried) ⌝ }
 {
-    if held == 0 {
-        return;
-    }
-    input[held] = LINE_END;
-    let to = held + 1;
-    serve(session, &input[..to], held, output, table);
-}
-
-// One read into a buffer from a position on.
-fn read_more(buffer: &mut [u8], from: usize) -> usize
-    requires { ⌜ from ≤ length (now buffer) ⌝ }
-    ensures { λ r. ⌜ from + r ≤ length (now (buffer .entry)) ⌝ }
-{
-    let part = &mut buffer[from..];
-    let got = libc::read(STDIN_FILENO, part);
-    io::count(got, part)
-}
-
-// Line 1, if it was not read yet, and the messages after it. No line ends before the position `fresh`.
-fn serve(session: Session, s: &[u8], fresh: usize, output: &mut [u8], table: &[u32]) -> Served
-    requires { ⌜ Good (session .book) × (fresh ≤ length (now s)) × ShiftTable (now table) ⌝ }
-    ensures { λ r. ⌜ Good (r .session .book) × (r .next ≤ length (now (s .entry))) ⌝ }
-{
-    let end = find(s, fresh, LINE_END);
-    if s.len() <= end {
-        return Served { session, next: 0 };
-    }
-    if session.opened {
-        let book = session.book;
-        return reply(book, s, 0, output, table);
-    }
-    reply(feed::open(&s[..end]), s, end + 1, output, table)
-}
-
-// Writes the replies to the lines from a position on.
-fn reply(opened: Book, s: &[u8], from: usize, output: &mut [u8], table: &[u32]) -> Served
-    requires { ⌜ Good opened × (from ≤ length (now s)) × ShiftTable (now table) ⌝ }
-    ensures { λ r. ⌜ Good (r .session .book) × (r .next ≤ length (now (s .entry))) ⌝ }
-{
-    let mut book = opened;
-    let mut next = from;
+    let mut stream = opened;
+    let mut sink = before;
+    let mut fresh = got;
     let mut turns = u64::MAX;
     while turns > 0 {
         turns -= 1;
-        let processed = feed::process_lines(book, &s[next..], table, output);
-        let written = processed.written;
-        if written == 0 {
-            break;
+        let block = feed::answer(stream, input, fresh, table, output);
+        let written = block.written;
+        let after = block.stream;
+        stream = after;
+        fresh = 0;
+        sink = streams::write_all(sink, &output[..written]);
+        if sink.failed {
+            return Served { stream, sink };
         }
-        book = processed.book;
-        next += processed.next;
-        io::write_all(STDOUT_FILENO, &output[..written]);
+        if !block.more {
+            return Served { stream, sink };
+        }
     }
     Served {
-        session: Session { opened: true, book },
-        next,
+        stream,
+        sink: sink.stopped(),
+    }
+}
+
+// Writes the reply to a last line that has no line end.
+fn finish(stream: Stream, input: &mut [u8], output: &mut [u8], table: &[u32], sink: Sink)
+    requires { ⌜ Holds stream (now input) × (stream .to < length (now input)) × ShiftTable (now table) ⌝ }
+{
+    let written = feed::finish(stream, input, table, output);
+    let after = streams::write_all(sink, &output[..written]);
+    if after.failed {
+        streams::fail(b"; writing standard output failed", after.answered);
     }
 }

@@ -3,3 +3,4 @@ pub mod Replying
 pub mod Processing
 pub mod LongLine
 pub mod Blocks
+pub mod Streaming

@@ -1,11 +1,19 @@
 // A feed: line 1 opens a book, and every later line is a message to it.
 //
-//     let mut book = feed::open(first_line);
-//     let heard = feed::process_lines(book, text, table, buffer);     // the replies are &buffer[..heard.written], what is left is &text[heard.next..]
+// A feed that comes in blocks is answered by `start`, `answer` for each block and `finish`; `process_lines` hands the lines of a text to a
+// book that is open already.
+//
+//     let mut stream = feed::start();
+//     let block = feed::answer(stream, input, got, table, buffer);     // the replies are &buffer[..block.written]
 ghost use Rattle.crc32.specs.Table.{ShiftTable};
 ghost use Rattle.line_text.specs.Opening.{lineOne};
 ghost use Rattle.book.specs.Shown.{Good, Opened, shows};
-ghost use Rattle.feed.specs.Feed.{ProcessedLines};
+ghost use Rattle.feed.specs.Feed.{ProcessedLines, carried, maxReply};
+ghost use Rattle.feed.specs.Stream.{Holds};
+ghost use mathlib.Core.Path.{_≡_};
+ghost use mathlib.Core.Bool.{true, false};
+ghost use Prim.Native.Nat.{_+_, _≤_, _<_};
+ghost use lib.ListN.{length};
 use book::Book;
 use book::join;
 use line_text::MAX_REPLY;
@@ -63,5 +71,142 @@ pub fn process_lines(book: Book, s: &[u8], table: &[u32], buffer: &mut [u8]) -> 
         book: join(bids, asks, header),
         next,
         written,
+    }
+}
+
+// ---- a feed that comes in blocks
+
+// What is carried over of a line: as much as shows that it is too long for a message.
+const CARRIED: usize = message::MAX_MESSAGE + 1;
+
+// A feed between two calls: the book, which is shut as long as line 1 has not opened it, and where in the input buffer the bytes
+// stand that were read and are not answered.
+pub struct Stream {
+    pub book: Book,
+    pub from: usize,
+    pub to: usize,
+    pub opened: bool,
+}
+
+// A feed after some replies, how many bytes they have, and whether the buffer has no room for a further one, so that lines may be left.
+pub struct Block {
+    pub stream: Stream,
+    pub written: usize,
+    pub more: bool,
+}
+
+// Nothing is read yet.
+pub fn start() -> Stream
+    ensures { λ r. ⌜ Good (r .book) × (r .from ≡ 0) × (r .to ≡ 0) ⌝ }
+{
+    Stream {
+        book: open(b""),
+        from: 0,
+        to: 0,
+        opened: false,
+    }
+}
+
+// Takes in `got` bytes that were read into the input buffer behind those that the feed has there, and lays replies to the lines
+// that end, as long as the buffer has room for the longest reply. Where no line is left, the unfinished one is moved to the front.
+pub fn answer(
+    stream: Stream,
+    input: &mut [u8],
+    got: usize,
+    table: &[u32],
+    buffer: &mut [u8],
+) -> Block
+    requires { ⌜ Holds stream (now input) × (stream .to + got ≤ length (now input)) × ShiftTable (now table) ⌝ }
+    ensures { λ r. ⌜ Holds (r .stream) (now (input .exit)) × (r .written ≤ length (now (buffer .entry))) × (r .more ≡ false → r .stream .to ≤ carried) ⌝ }
+{
+    let from = stream.from;
+    let to = stream.to + got;
+    let book = stream.book;
+    let answered = answer_lines(book, stream.opened, &input[from..to], table, buffer);
+    let written = answered.written;
+    let next = from + answered.next;
+    let after = answered.book;
+    if buffer.len() - written < MAX_REPLY {
+        return Block {
+            stream: Stream {
+                book: after,
+                from: next,
+                to,
+                opened: answered.opened,
+            },
+            written,
+            more: true,
+        };
+    }
+    let held = lines::move_to_front(input, next, to, CARRIED);
+    Block {
+        stream: Stream {
+            book: after,
+            from: 0,
+            to: held,
+            opened: answered.opened,
+        },
+        written,
+        more: false,
+    }
+}
+
+// At the end of the input: lays the reply to the last line, if it has no line end and isn't empty, and answers how many bytes it has.
+pub fn finish(stream: Stream, input: &mut [u8], table: &[u32], buffer: &mut [u8]) -> usize
+    requires { ⌜ Holds stream (now input) × (stream .to < length (now input)) × ShiftTable (now table) ⌝ }
+    ensures { λ r. ⌜ r ≤ length (now (buffer .entry)) ⌝ }
+{
+    let from = stream.from;
+    let to = stream.to;
+    if to == from {
+        return 0;
+    }
+    input[to] = LINE_END;
+    let end = to + 1;
+    let book = stream.book;
+    let answered = answer_lines(book, stream.opened, &input[from..end], table, buffer);
+    answered.written
+}
+
+// A book after some lines: where the next line begins, how many bytes of replies were laid, whether line 1 was among them or before.
+struct Answered {
+    book: Book,
+    next: usize,
+    written: usize,
+    opened: bool,
+}
+
+// Line 1, if it was not read yet, and the messages after it.
+fn answer_lines(book: Book, opened: bool, s: &[u8], table: &[u32], buffer: &mut [u8]) -> Answered
+    requires { ⌜ Good book × ShiftTable (now table) ⌝ }
+    ensures { λ r. ⌜ Good (r .book) × (r .next ≤ length (now (s .entry))) × (r .written ≤ length (now (buffer .entry))) ⌝ }
+{
+    if opened {
+        return answer_from(book, s, 0, table, buffer);
+    }
+    let end = find(s, 0, LINE_END);
+    if s.len() <= end {
+        return Answered {
+            book,
+            next: 0,
+            written: 0,
+            opened: false,
+        };
+    }
+    answer_from(open(&s[..end]), s, end + 1, table, buffer)
+}
+
+// The messages from a position on.
+fn answer_from(book: Book, s: &[u8], from: usize, table: &[u32], buffer: &mut [u8]) -> Answered
+    requires { ⌜ Good book × (from ≤ length (now s)) × ShiftTable (now table) ⌝ }
+    ensures { λ r. ⌜ Good (r .book) × (r .next ≤ length (now (s .entry))) × (r .written ≤ length (now (buffer .entry))) ⌝ }
+{
+    let processed = process_lines(book, &s[from..], table, buffer);
+    let after = processed.book;
+    Answered {
+        book: after,
+        next: from + processed.next,
+        written: processed.written,
+        opened: true,
     }
 }

@@ -1,38 +1,81 @@
--- `finish` meets its contract: the line and its line end are in the buffer.
-use Prim.Native.Nat.{_+_, _≤_}
-use native.Mathlib.Omega.{arith}
-use lib.ListN.{length, set, length-set}
-use Rattle.booklines.proofs.Bounds.{front, in-front}
+use Prim.Native.Nat.{_≤_}
+use mathlib.Core.Path.{sym}
+use lib.ListN.{length}
+use lib.Seq.{length-take-le}
 use borrow.Author.Needs.{needs}
 use Rattle.booklines.proofs.finish.Statement.{statement}
 use Rattle.booklines.proofs.finish.Tie as tie
+use Rattle.booklines.proofs.finish.Reads as reads
+use Rattle.booklines.proofs.finish.Lts as lts
+use Rattle.booklines.proofs.streams.fail.Reads as fail-reads
+use Rattle.booklines.proofs.streams.write_all.Reads as write-all-reads
+use Rattle.feed.proofs.finish.Reads as finish-reads
 
-fits : (s : tie.Start) → s .args .held + 1 ≤ length (set (s .args .input .now) (s .args .held) 10)
-fits s = let h = s .pre .1 in simp length-set (omega arith)
+-- src/main.rt:107:9
+finish-requires : tie.Need-finish-requires
+finish-requires c κs = search needs
 
-slice-reshare-prefix-serve : tie.Need-slice-reshare-prefix-serve
-slice-reshare-prefix-serve c = fits (c .before .before .before .before)
+-- src/main.rt:108:42
+slice-reshare-prefix-write-all : tie.Need-slice-reshare-prefix-write-all
+slice-reshare-prefix-write-all c = search needs
 
-slice-aggregate-serve : tie.Need-slice-aggregate-serve
-slice-aggregate-serve c =
-    let s = c .before .before .before .before .before in
-    front (s .args .held + 1) (set (s .args .input .now) (s .args .held) 10) (fits s)
+-- src/main.rt:108:42
+slice-aggregate-write-all : tie.Need-slice-aggregate-write-all
+slice-aggregate-write-all c =
+    let f = c .before .before .before .before .before .finish in
+    let e = f .ensures in
+    let b : f .result ≤ length (f .last .1 .1 .1 .0) = search needs in
+    sym (length-take-le (f .result) (f .last .1 .1 .1 .0) b)
 
-serve-requires : tie.Need-serve-requires
-serve-requires c κs =
-    let s = c .before .before .before .before .before .before in
-    (s .pre .0, in-front (s .args .held) (s .args .held + 1) (set (s .args .input .now) (s .args .held) 10) (omega arith) (fits s), s .pre .2)
+-- src/main.rt:108:9
+write-all-requires : tie.Need-write-all-requires
+write-all-requires c κs = search needs
+
+-- src/main.rt:110:23
+slice-aggregate-fail : tie.Need-slice-aggregate-fail
+slice-aggregate-fail c = search needs
+
+-- src/main.rt:110:9
+fail-requires : tie.Need-fail-requires
+fail-requires c κs = search needs
+
+-- src/main.rt:104:1
+same-length : tie.Need-same-length
+same-length c = search needs
+
+-- src/main.rt:104:1
+same-length-2 : tie.Need-same-length-2
+same-length-2 c = search needs
+
+-- src/main.rt:104:1
+returns : tie.Need-returns
+returns c = search needs
+
+-- src/main.rt:104:1
+same-length-3 : tie.Need-same-length-3
+same-length-3 c = search needs
+
+-- src/main.rt:104:1
+same-length-4 : tie.Need-same-length-4
+same-length-4 c = search needs
+
+-- src/main.rt:104:1
+returns-2 : tie.Need-returns-2
+returns-2 c = search needs
 
 pub finish-spec : {M : Type 1} → statement M
 finish-spec =
     tie.close
     (tie.spec
-    (λ c. search needs)
-    (λ c. search needs)
-    (λ c. search needs)
-    slice-reshare-prefix-serve
-    slice-aggregate-serve
-    serve-requires
-    (λ c. search needs)
-    (λ c. search needs)
-    (λ c. search needs))
+    finish-requires
+    slice-reshare-prefix-write-all
+    slice-aggregate-write-all
+    write-all-requires
+    slice-aggregate-fail
+    fail-requires
+    same-length
+    same-length-2
+    returns
+    same-length-3
+    same-length-4
+    returns-2)

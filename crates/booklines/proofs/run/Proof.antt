@@ -1,74 +1,153 @@
--- `run` meets its contract: the book stays good, and what is held leaves room in the buffer. The measure is the number of turns that are left.
-use Prim.Native.Nat.{_+_, _≤_, _<_, zero-le}
-use mathlib.Core.Path.{_≡_, refl}
 use native.Mathlib.Omega.{arith}
-use borrow.Author.Needs.{needs}
+use Prim.Native.Nat.{_≤_}
+use mathlib.Core.Path.{_≡_}
 use lib.ListN.{length}
-use Rattle.book.specs.Shown.{Good}
+use borrow.Author.Needs.{needs}
 use Rattle.feed.specs.Feed.{carried}
-use Rattle.booklines.proofs.Bounds.{front, in-front}
+use Rattle.feed.specs.Stream.{Holds}
 use Rattle.booklines.proofs.run.Statement.{statement}
 use Rattle.booklines.proofs.run.Tie as tie
+use Rattle.booklines.proofs.run.Reads as reads
+use Rattle.booklines.proofs.run.Lts as lts
+use Rattle.booklines.proofs.finish.Reads as finish-reads
+use Rattle.booklines.proofs.serve.Reads as serve-reads
+use Rattle.booklines.proofs.streams.fail.Reads as fail-reads
+use Rattle.booklines.proofs.streams.read_block.Reads as read-block-reads
+use Rattle.booklines.proofs.streams.standard_output.Reads as standard-output-reads
+use Rattle.feed.proofs.start.Reads as start-reads
 
 abbrev Inv-loop : tie.InvT-loop
-Inv-loop input₀ output₀ table session₀ held₀ turns₀ input output session held turns = Good (session .book) × (held ≤ carried) × (length input ≡ length input₀) × (length output ≡ length output₀)
+Inv-loop input₀ output₀ table stream₀ sink₀ source₀ turns₀ t13 t14 input output stream sink source turns = Holds stream input × (stream .to ≤ carried) × (length input ≡ length input₀) × (length output ≡ length output₀)
 
 abbrev μ-loop : tie.MeasureT-loop
-μ-loop input₀ output₀ table session₀ held₀ turns₀ input output session held turns = turns
+μ-loop input₀ output₀ table stream₀ sink₀ source₀ turns₀ t13 t14 input output stream sink source turns = turns
 
-held : (c : tie.At-loop Inv-loop μ-loop) → c .loop .held < length (c .loop .input)
-held c =
-    let p = c .before .before .before .before .before .before .pre .0 in
-    let h = c .loop .inv .1 in
-    let l = c .loop .inv .2 in
-    omega arith
+-- src/main.rt:44:9
+start-requires : tie.Need-start-requires Inv-loop μ-loop
+start-requires c κs = search needs
 
-kept : (c : tie.After-input Inv-loop μ-loop) → length (c .before .read-more .last .0) ≡ length (c .before .before .before .before .loop .input)
-kept c = search needs
+-- src/main.rt:45:9
+standard-output-requires : tie.Need-standard-output-requires Inv-loop μ-loop
+standard-output-requires c κs = search needs
 
+-- src/main.rt:48:5
 loop-holds : tie.Need-loop-holds Inv-loop μ-loop
-loop-holds c = (c .«open» .ensures .good, zero-le, refl, refl)
+loop-holds c = search needs
 
-read-more-requires : tie.Need-read-more-requires Inv-loop μ-loop
-read-more-requires c κs = let h = held (c .before .before) in omega arith
+-- src/main.rt:49:9
+sub-turns : tie.Need-sub-turns Inv-loop μ-loop
+sub-turns c = search needs
 
+-- src/main.rt:50:13
+read-block-requires : tie.Need-read-block-requires Inv-loop μ-loop
+read-block-requires c κs = search needs
+
+-- src/main.rt:52:27
+slice-aggregate-fail : tie.Need-slice-aggregate-fail Inv-loop μ-loop
+slice-aggregate-fail c = search needs
+
+-- src/main.rt:52:13
+fail-requires : tie.Need-fail-requires Inv-loop μ-loop
+fail-requires c κs = search needs
+
+-- src/main.rt:53:13
+same-length : tie.Need-same-length Inv-loop μ-loop
+same-length c = search needs
+
+-- src/main.rt:53:13
+same-length-2 : tie.Need-same-length-2 Inv-loop μ-loop
+same-length-2 c = search needs
+
+-- src/main.rt:53:13
+returns : tie.Need-returns Inv-loop μ-loop
+returns c = search needs
+
+-- src/main.rt:58:13
 finish-requires : tie.Need-finish-requires Inv-loop μ-loop
 finish-requires c κs =
-    let h = held (c .before .before .before .before .before .before .before .before) in
-    let k = kept (c .before .before .before .before) in
-    (c .before .before .before .before .before .before .before .before .loop .inv .0, omega arith, c .before .before .before .before .before .before .before .before .before .before .before .before .before .before .pre .1)
+    let l = c .before .before .before .before .before .before .before .before .before .before .loop in
+    let p = c .before .before .before .before .before .before .before .before .before .before .before .before .before .before .before .before .pre in
+    let f = c .before .before .before .before .before .before .input in
+    let r = c .before .before .before .before .before .before .before .read-block in
+    let k : length (r .last .1 .0) ≡ length (l .input) = search needs in
+    let h = l .inv .0 .within in
+    let t = l .inv .1 in
+    let i = l .inv .2 in
+    let g = r .ensures in
+    (record { good = l .inv .0 .good; order = l .inv .0 .order; within = omega arith }, omega arith, p .1)
 
-slice-reshare-prefix-serve : tie.Need-slice-reshare-prefix-serve Inv-loop μ-loop
-slice-reshare-prefix-serve c = let r = c .before .before .before .read-more .ensures in search needs
+-- src/main.rt:59:13
+same-length-3 : tie.Need-same-length-3 Inv-loop μ-loop
+same-length-3 c = search needs
 
-slice-aggregate-serve : tie.Need-slice-aggregate-serve Inv-loop μ-loop
-slice-aggregate-serve c =
-    let r = c .before .before .before .before .read-more .ensures in
-    front (c .before .before .before .before .before .before .before .loop .held + c .before .before .before .before .read-more .result) (c .before .before .before .before .read-more .last .0) (search needs)
+-- src/main.rt:59:13
+same-length-4 : tie.Need-same-length-4 Inv-loop μ-loop
+same-length-4 c = search needs
 
+-- src/main.rt:59:13
+returns-2 : tie.Need-returns-2 Inv-loop μ-loop
+returns-2 c = search needs
+
+-- src/main.rt:61:13
 serve-requires : tie.Need-serve-requires Inv-loop μ-loop
 serve-requires c κs =
-    let r = c .before .before .before .before .before .read-more .ensures in
-    (c .before .before .before .before .before .before .before .before .loop .inv .0, in-front (c .before .before .before .before .before .before .before .before .loop .held) (c .before .before .before .before .before .before .before .before .loop .held + c .before .before .before .before .before .read-more .result) (c .before .before .before .before .before .read-more .last .0) (omega arith) (search needs), c .before .before .before .before .before .before .before .before .before .before .before .before .before .before .pre .1)
+    let l = c .before .before .before .before .before .before .before .before .before .before .loop in
+    let p = c .before .before .before .before .before .before .before .before .before .before .before .before .before .before .before .before .pre in
+    let f = c .before .before .before .before .before .before .input in
+    let r = c .before .before .before .before .before .before .before .read-block in
+    let k : length (r .last .1 .0) ≡ length (l .input) = search needs in
+    let h = l .inv .0 .within in
+    let t = l .inv .1 in
+    let i = l .inv .2 in
+    let g = r .ensures in
+    (record { good = l .inv .0 .good; order = l .inv .0 .order; within = omega arith }, omega arith, p .1)
 
-move-to-front-requires : tie.Need-move-to-front-requires Inv-loop μ-loop
-move-to-front-requires c κs =
-    let k = kept (c .before .before .before .before .before .before .before .before .before) in
-    let r = c .before .before .before .before .before .before .before .before .before .before .read-more .ensures in
-    let w = c .before .before .before .before .serve .ensures .1 in
-    let l : c .before .before .before .before .before .before .before .before .before .before .before .before .before .loop .held + c .before .before .before .before .before .before .before .before .before .before .read-more .result ≤ length (c .before .before .before .before .before .before .before .before .before .before .read-more .last .0) = omega arith in
-    let f = front (c .before .before .before .before .before .before .before .before .before .before .before .before .before .loop .held + c .before .before .before .before .before .before .before .before .before .before .read-more .result) (c .before .before .before .before .before .before .before .before .before .before .read-more .last .0) l in
-    (omega arith, l)
+-- src/main.rt:65:27
+slice-aggregate-fail-2 : tie.Need-slice-aggregate-fail-2 Inv-loop μ-loop
+slice-aggregate-fail-2 c = search needs
 
+-- src/main.rt:65:13
+fail-requires-2 : tie.Need-fail-requires-2 Inv-loop μ-loop
+fail-requires-2 c κs = search needs
+
+-- src/main.rt:66:13
+same-length-5 : tie.Need-same-length-5 Inv-loop μ-loop
+same-length-5 c = let i = c .before .before .before .before .before .before .before .before .before .before .before .before .before .before .before .before .before .before .before .before .loop .inv .2 in let f = c .before .before .before .before .before .before .before .before .before .before .before .before .before .before .before .before .input in let g = c .before .before .before .before .before .before .before .before .input3 in search needs
+
+-- src/main.rt:66:13
+same-length-6 : tie.Need-same-length-6 Inv-loop μ-loop
+same-length-6 c = let o = c .before .before .before .before .before .before .before .before .before .before .before .before .before .before .before .before .before .before .before .before .loop .inv .3 in let u = c .before .before .before .before .before .before .output2 in search needs
+
+-- src/main.rt:66:13
+returns-3 : tie.Need-returns-3 Inv-loop μ-loop
+returns-3 c = search needs
+
+-- src/main.rt:48:5
+loop-less : tie.Need-loop-less Inv-loop μ-loop
+loop-less c = search needs
+
+-- src/main.rt:48:5
 loop-again : tie.Need-loop-again Inv-loop μ-loop
 loop-again c =
-    let m = c .before .before .move-to-front .ensures .0 in
-    let k = kept (c .before .before .before .before .before .before .before .before .before .before .before .before) in
-    let i = c .before .before .before .before .before .before .before .before .before .before .before .before .before .before .before .before .loop .inv .2 in
-    let o = c .before .before .before .before .before .before .before .before .before .before .before .before .before .before .before .before .loop .inv .3 in
-    let f = c .before .input3 in
-    let g = c .before .before .before .before .before .before .output2 in
-    (c .before .before .before .before .before .before .before .serve .ensures .0, omega arith, search needs, search needs)
+    let i = c .before .before .before .before .before .before .before .before .before .before .before .before .before .before .before .before .before .before .loop .inv .2 in
+    let o = c .before .before .before .before .before .before .before .before .before .before .before .before .before .before .before .before .before .before .loop .inv .3 in
+    let f = c .before .before .before .before .before .before .before .before .before .before .before .before .before .before .input in
+    let g = c .before .before .before .before .before .before .input3 in
+    let u = c .before .before .before .before .output2 in
+    let s = c .before .before .before .before .before .before .before .serve in
+    (s .ensures .0, s .ensures .1 (c .if3 .left), search needs, search needs)
+
+-- src/main.rt:41:1
+same-length-7 : tie.Need-same-length-7 Inv-loop μ-loop
+same-length-7 c = search needs
+
+-- src/main.rt:41:1
+same-length-8 : tie.Need-same-length-8 Inv-loop μ-loop
+same-length-8 c = search needs
+
+-- src/main.rt:41:1
+returns-4 : tie.Need-returns-4 Inv-loop μ-loop
+returns-4 c = search needs
 
 pub run-spec : {M : Type 1} → statement M
 run-spec =
@@ -76,22 +155,28 @@ run-spec =
     (tie.spec
     Inv-loop
     μ-loop
-    (λ c. search needs)
-    (λ c κs. search needs)
+    start-requires
+    standard-output-requires
     loop-holds
-    (λ c. search needs)
-    read-more-requires
+    sub-turns
+    read-block-requires
+    slice-aggregate-fail
+    fail-requires
+    same-length
+    same-length-2
+    returns
     finish-requires
-    (λ c. search needs)
-    (λ c. search needs)
-    (λ c. search needs)
-    (λ c. search needs)
-    slice-reshare-prefix-serve
-    slice-aggregate-serve
+    same-length-3
+    same-length-4
+    returns-2
     serve-requires
-    move-to-front-requires
-    (λ c. search needs)
+    slice-aggregate-fail-2
+    fail-requires-2
+    same-length-5
+    same-length-6
+    returns-3
+    loop-less
     loop-again
-    (λ c. search needs)
-    (λ c. search needs)
-    (λ c. search needs))
+    same-length-7
+    same-length-8
+    returns-4)

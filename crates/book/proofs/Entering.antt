@@ -35,7 +35,7 @@ use Rattle.loader.specs.Loaded.{editFor, editAt}
 use Rattle.loader.proofs.Shift.{edits-shift}
 use Rattle.sides.specs.Worked.{editsAt}
 use Rattle.reference.specs.Reference.{editOf, pricesOf}
-use Rattle.settings.specs.Settings.{isM}
+use Rattle.settings.specs.Kept.{isM}
 
 -- what a row says
 quote-edit : (s : List ℕ) (rows : List Row) → map (editAt s) rows ≡ map editOf (map (levelChangeAt s) rows)

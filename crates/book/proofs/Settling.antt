@@ -51,7 +51,7 @@ use Rattle.message.specs.declared.Verdict.the-variants.{Fails, Passes}
 use Rattle.answer.specs.declared.Answer.the-variants.{Taken, PriceTwice, NoSnapshot, OldNumber, TooManyLevels, WrongChecksum}
 use Rattle.message.proofs.Where.{entryIn, LieIn, framed-lies}
 use Rattle.reference.specs.Reference.{live, isLive, Sides, Reference, editOf, afterChanges, sidesAfter, pricesOf, checksumOf, namesPriceTwice, lacksSnapshot, isOld, hasTooMany, differs, hasWrongChecksum, verdict, oneMore, taken, refusedBy, answered, receive}
-use Rattle.settings.specs.Settings.{isM}
+use Rattle.settings.specs.Kept.{isM}
 use Rattle.book.specs.Shown.{shows, Good, Received}
 use Rattle.book.specs.Taking.{sideBefore, Passed, refusedStep, keptStep, Judged, weighed}
 use Rattle.book.specs.declared.Book.{Book}

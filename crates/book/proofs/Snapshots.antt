@@ -18,7 +18,7 @@ use Rattle.settings.specs.declared.Dialect.{Dialect}
 use Rattle.settings.specs.declared.Dialect.the-variants.{K, M, Unknown}
 use Rattle.level.specs.Words.{shown}
 use Rattle.level.specs.Kept.{held}
-use Rattle.checksum.specs.Text.{mChecksum}
+use Rattle.checksum.specs.Sums.{mChecksum}
 use Rattle.reference.proofs.Sums.{sum-m}
 use Rattle.answer.specs.Answers.{answerNumber as numberOf, isTaken}
 use Rattle.answer.specs.declared.Answer.{Answer}

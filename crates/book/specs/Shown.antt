@@ -15,7 +15,7 @@ use Rattle.level.specs.declared.Side.the-variants.{Bids, Asks}
 use Rattle.sides.specs.Worked.{Sound}
 use Rattle.lifecycle.specs.Lifecycle.{statusOf}
 use Rattle.reference.specs.Reference.{isShut, Reference, opened, After, receive, Question, howMany, levelAt, write, counts, level, amount, question, does}
-use Rattle.settings.specs.Settings.{isM}
+use Rattle.settings.specs.Kept.{isM}
 use Rattle.reference.specs.declared.Scope.{Scope}
 use Rattle.book.specs.declared.Book.{Book}
 use Rattle.book.specs.declared.Header.{Header}

@@ -8,7 +8,7 @@ use lib.ListN.{length}
 use Rattle.lifecycle.specs.Lifecycle.{statusOf, liveLifecycle, refusedLifecycle, judgedUpdate}
 use Rattle.answer.specs.Answers.{isTaken}
 use Rattle.decimal.specs.Digits.{reads}
-use Rattle.settings.specs.Settings.{isM}
+use Rattle.settings.specs.Kept.{isM}
 use Rattle.settings.specs.Rules.{rulesOf}
 use Rattle.settings.specs.Kept.{configOf}
 use Rattle.settings.specs.declared.Dialect.{Dialect}

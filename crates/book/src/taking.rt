@@ -8,7 +8,7 @@ ghost use Rattle.crc32.specs.Table.{ShiftTable};
 ghost use Rattle.level.specs.Words.{shown};
 ghost use Rattle.level.specs.Kept.{keptIn, held};
 ghost use Rattle.level.specs.declared.Side.the-variants.{Bids, Asks};
-ghost use Rattle.settings.specs.Settings.{isM};
+ghost use Rattle.settings.specs.Kept.{isM};
 ghost use Rattle.settings.specs.Rules.{rulesOf};
 ghost use Rattle.sides.specs.Worked.{Sound, sideAfter};
 ghost use Rattle.reference.specs.Reference.{isShut, checksumOf, receive, oneMore};

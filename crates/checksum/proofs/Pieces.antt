@@ -25,7 +25,8 @@ use Rattle.level.specs.Kept.{maxLevels, maxWords}
 use Rattle.level.proofs.Stored.{length-levels}
 use Rattle.level.specs.declared.Level.{Level}
 use Rattle.text.specs.Text.{joined, colon}
-use Rattle.checksum.specs.Text.{kLevel, kChecksumText, kLevels, kChecksum, mLevel, interleaved, colonJoined, mChecksumText, mLevels, mChecksum}
+use Rattle.checksum.specs.Text.{kLevel, kChecksumText, mLevel, interleaved, colonJoined, mChecksumText}
+use Rattle.checksum.specs.Sums.{kLevels, kChecksum, mLevels, mChecksum}
 use Rattle.checksum.specs.Carried.{Carries, Made, summed}
 
 -- ---- a level that was made carries its piece

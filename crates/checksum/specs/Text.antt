@@ -5,14 +5,9 @@ use mathlib.Core.List.{List, [], _∷_, _++_, map}
 use lib.ListN.{take, drop}
 use Rattle.text.specs.Text.{colon, joined}
 use Rattle.decimal.specs.Decimal.{text, stripped}
-use Rattle.crc32_spec.specs.Crc.{crc}
 use Rattle.level.specs.Level.{PriceLevel}
 
 -- ---- K: the best asks, low to high, then the best bids, high to low, or as many as there are. No separators.
-
--- How many levels a side K sums.
-abbrev pub kLevels : ℕ
-kLevels = 10
 
 -- Price then size, each with the point removed, then leading zeros.
 unfoldable pub kLevel : PriceLevel → List ℕ
@@ -21,14 +16,7 @@ kLevel level = stripped (level .price) ++ stripped (level .size)
 unfoldable pub kChecksumText : ℕ → List PriceLevel → List PriceLevel → List ℕ
 kChecksumText n bids asks = joined (map kLevel (take n asks ++ take n bids))
 
-unfoldable pub kChecksum : List PriceLevel → List PriceLevel → ℕ
-kChecksum bids asks = crc (kChecksumText kLevels bids asks)
-
 -- ---- M: first bid, first ask, second bid, second ask and on; a missing level is skipped. Joined by colons with none at the end.
-
--- How many levels a side M sums: all that there may be.
-abbrev pub mLevels : ℕ
-mLevels = 100
 
 unfoldable pub mLevel : PriceLevel → List ℕ
 mLevel level = text (level .price) ++ (colon ∷ text (level .size))
@@ -45,6 +33,3 @@ colonJoined (t ∷ (u ∷ ts)) = t ++ (colon ∷ colonJoined (u ∷ ts))
 
 unfoldable pub mChecksumText : ℕ → List PriceLevel → List PriceLevel → List ℕ
 mChecksumText n bids asks = colonJoined (map mLevel (interleaved n bids asks))
-
-unfoldable pub mChecksum : List PriceLevel → List PriceLevel → ℕ
-mChecksum bids asks = crc (mChecksumText mLevels bids asks)

@@ -12,7 +12,8 @@ use Rattle.decimal.specs.Digits.{Reading, reads, refused}
 use Rattle.text.specs.Text.{byteAt}
 use Rattle.json_tokens.proofs.Laws.{in-byte}
 use Rattle.json.specs.Json.{Span, text}
-use Rattle.settings.specs.Settings.{Config, isM, good, goodDepth}
+use Rattle.settings.specs.Settings.{Config, good, goodDepth}
+use Rattle.settings.specs.Kept.{isM}
 use Rattle.settings.specs.Rules.{rulesOf}
 use Rattle.settings.specs.declared.Dialect.{Dialect}
 use Rattle.settings.specs.declared.Dialect.the-variants.{K, M, Unknown}

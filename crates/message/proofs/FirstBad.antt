@@ -11,7 +11,8 @@ use lib.ListN.{length, drop, length-drop}
 use Rattle.decimal.specs.Digits.{Reading, reads}
 use Rattle.json.specs.Json.{Span}
 use Rattle.json.proofs.Shift.{shiftedSpan}
-use Rattle.settings.specs.Settings.{Config, isM, good}
+use Rattle.settings.specs.Settings.{Config, good}
+use Rattle.settings.specs.Kept.{isM}
 use Rattle.settings.specs.declared.Dialect.{Dialect}
 use Rattle.entries.specs.Rows.{Row, entryFor, entriesAt, badTexts, firstOf}
 use Rattle.entries.proofs.Shift.{texts-shift, shifted-rows}

@@ -19,7 +19,8 @@ use Rattle.settings.specs.declared.Rules.{Rules}
 use Rattle.layout.specs.Scan.{notFramed, outlineOf, scanOf, scanAt}
 use Rattle.layout.specs.declared.Outline.{Outline}
 use Rattle.layout.specs.declared.Scan.{Scan}
-use Rattle.message.specs.Meaning.{Checked, fails, passes, alsoDecimals, envelopeIn, framed, checked, judged}
+use Rattle.message.specs.Meaning.{Checked, fails, passes, alsoDecimals, envelopeIn, framed, checked}
+use Rattle.message.specs.Verdict.{judged}
 use Rattle.message.specs.Verdict.{verdictOf}
 use Rattle.message.specs.Deciding.{decided}
 use Rattle.answer.specs.declared.Answer.{Answer}

@@ -70,13 +70,10 @@ unfoldable pub alsoDecimals : List ℕ → Checked → Checked
 alsoDecimals s (fails a) = fails a
 alsoDecimals s (passes l) = decimals s l
 
--- ---- checks 2 to 8, of a book that is not shut, and check 1, which the settings decide
+-- ---- checks 2 to 8, of a book that is not shut
 
 unfoldable pub checked : Config → List ℕ → Checked
 checked t s = alsoDecimals s (framed t s)
-
-unfoldable pub judged : Config → List ℕ → Checked
-judged t s = cond (good t) (checked t s) (fails Shut)
 
 -- ---- what a message says that fails none of them
 

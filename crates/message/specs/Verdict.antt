@@ -1,11 +1,18 @@
 -- What the reader of a message answers. Assumes nothing: these are definitions.
+use mathlib.Core.Bool.{cond}
 use mathlib.Core.List.{List}
 use Prim.Native.Nat.{ℕ}
 use Rattle.decimal.specs.Digits.{reads}
+use Rattle.settings.specs.Settings.{Config, good}
 use Rattle.layout.specs.Scan.{outlineOf}
-use Rattle.message.specs.Meaning.{Checked, fails, passes}
+use Rattle.answer.specs.declared.Answer.the-variants.{Shut}
+use Rattle.message.specs.Meaning.{Checked, fails, passes, checked}
 use Rattle.message.specs.declared.Verdict.{Verdict}
 use Rattle.message.specs.declared.Verdict.the-variants.{Fails, Passes}
+
+-- Checks 1 to 8: of the settings, and then of the text.
+unfoldable pub judged : Config → List ℕ → Checked
+judged t s = cond (good t) (checked t s) (fails Shut)
 
 unfoldable pub verdictOf : List ℕ → Checked → Verdict
 verdictOf s (fails a) = Fails a

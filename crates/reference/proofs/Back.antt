@@ -14,7 +14,8 @@ use Rattle.decimal.specs.Decimal.{Number, read, isZero, value}
 use Rattle.decimal.specs.Limits.{Within}
 use Rattle.decimal.proofs.RoundTrip.{read-within}
 use Rattle.json.specs.Json.{Span}
-use Rattle.settings.specs.Settings.{Config, isM, good, kept}
+use Rattle.settings.specs.Settings.{Config, good, kept}
+use Rattle.settings.specs.Kept.{isM}
 use Rattle.settings.specs.Rules.{rulesOf}
 use Rattle.settings.specs.declared.Dialect.{Dialect}
 use Rattle.settings.specs.declared.Dialect.the-variants.{K, M, Unknown}

@@ -18,11 +18,12 @@ use Rattle.decimal.proofs.Buffer.{overlaid-none}
 use Rattle.layout.specs.Layout.{isSnapshot}
 use Rattle.layout.specs.declared.Kind.the-variants.{Snapshot, Update}
 use Rattle.reference.proofs.Snapshot.{of-snapshot, of-update}
+use Rattle.reference.proofs.Shutting as shutting·
 use Rattle.reference.proofs.Back.{reached-back}
-use Rattle.reference.specs.Claims.{Round-trip, statusAfter, Refused, Demand-1, Ready, is-live, restarts, Acceptable, Demand-2, All-compared, call, From-snapshot, takenIn, takenOf, anySnapshot, sinceSnapshot, rebuilt, Latest-snapshot, K-number, prices, No-price}
+use Rattle.reference.specs.Claims.{Round-trip, statusAfter, Refused, Demand-1, Settings-decide, Ready, is-live, restarts, Acceptable, Demand-2, All-compared, call, From-snapshot, takenIn, takenOf, anySnapshot, sinceSnapshot, rebuilt, Latest-snapshot, K-number, prices, No-price}
 use Rattle.reference.proofs.Carried.{said-carries}
 use Rattle.reference.proofs.Outcome.{Outcome, is-refused, is-accepted, outcome, acceptable-taken, ready-open, or-none}
-use Rattle.reference.proofs.Questions.{question-one, zeros-again, no-answer}
+use Rattle.reference.proofs.Questions.{question-one, zeros-again, no-answer, no-snapshot}
 use Rattle.reference.proofs.Runs.{Steps, stays, moves, steps, Reached, opened-waits, reached, run-append, taken-fresh, acceptable-fresh, final-rebuilt, rebuilt-ever, since-begins, since-rebuilt, begins-live}
 
 -- ---- demand 1
@@ -100,6 +101,9 @@ demand-1 p buffer =
       unchanged = λ q. refl;
       others-buffer = λ ask. others-buffer p ask buffer;
     }
+
+pub settings-decide : Settings-decide
+settings-decide = shutting·.settings-decide
 
 -- ---- demand 2
 
@@ -246,6 +250,7 @@ no-price =
     record {
       update = no-update;
       not-live = not-live;
+      answer = no-snapshot;
       at-first = λ t cs n. not-live (opened t) cs (opened-waits t) n;
       after-refusal = λ p s cs h l n. not-live (receive p s .book) cs (refusal-waits p s h l) n;
     }

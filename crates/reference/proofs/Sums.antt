@@ -7,7 +7,8 @@ use Rattle.settings.specs.declared.Dialect.the-variants.{K, M, Unknown}
 use Rattle.text.specs.Text.{joined}
 use Rattle.level.specs.Level.{PriceLevel}
 use Rattle.crc32_spec.specs.Crc.{run, crc}
-use Rattle.checksum.specs.Text.{kChecksumText, kChecksum, mChecksum}
+use Rattle.checksum.specs.Text.{kChecksumText}
+use Rattle.checksum.specs.Sums.{kChecksum, mChecksum}
 use Rattle.reference.specs.Reference.{Sides, checksumText, checksumOf}
 
 module _ (s : Sides) where

@@ -5,7 +5,7 @@ use mathlib.Core.Path.{_≡_}
 use mathlib.Core.Bool.{Bool, true, false, _&&_, _||_, cond}
 use mathlib.Core.List.{List, [], _∷_, _++_}
 use lib.ListN.{length}
-use Rattle.settings.specs.Settings.{Config, kept}
+use Rattle.settings.specs.Settings.{Config, good, kept}
 use Rattle.settings.specs.declared.Dialect.{Dialect}
 use Rattle.settings.specs.declared.Dialect.the-variants.{K}
 use Rattle.level.specs.Side.{namesTwice}
@@ -15,8 +15,8 @@ use Rattle.layout.specs.declared.Kind.the-variants.{Snapshot, Update}
 use Rattle.answer.specs.Answers.{answerNumber as numberOf, oneOf, toMessages, toQuestions, isTaken, leavesStatus}
 use Rattle.message.specs.Meaning.{Message, Decoded, refuses, decodes, decode}
 use Rattle.answer.specs.declared.Answer.{Answer}
-use Rattle.answer.specs.declared.Answer.the-variants.{Taken}
-use Rattle.reference.specs.Reference.{Status, waiting, live, withStatus, Reference, rules, isLive, opened, sidesAfter, pricesOf, checksumOf, taken, receive, Question, write, zeros, respond, Reply, Ask, message, question, does, Call, repliesTo, final, snapshotText}
+use Rattle.answer.specs.declared.Answer.the-variants.{Taken, Shut, NoSnapshot}
+use Rattle.reference.specs.Reference.{Status, waiting, live, withStatus, Reference, rules, isShut, isLive, opened, sidesAfter, pricesOf, checksumOf, taken, receive, Question, write, zeros, respond, Reply, Ask, message, question, does, Call, repliesTo, final, snapshotText}
 use Rattle.reference.specs.declared.Scope.{Scope}
 use Rattle.reference.specs.declared.Scope.the-variants.{Current, LastGood}
 
@@ -48,6 +48,11 @@ pub record Demand1 (p : Reference) (buffer : List ℕ) : Type 0 where
 
 abbrev pub Demand-1 : Type 0
 Demand-1 = (p : Reference) (buffer : List ℕ) → Demand1 p buffer
+
+-- Bad settings open a shut book, which answers 1 to every call, whatever came before; good settings never do.
+abbrev pub Settings-decide : Type 0
+Settings-decide = (t : Config) (cs : List Call) (ask : Ask) (buffer : List ℕ)
+    → (good t ≡ false → does (final (opened t) cs) ask buffer .answer ≡ Shut) × (good t ≡ true → does (final (opened t) cs) ask buffer .answer ≡ Shut → ⊥)
 
 -- ---- demand 2: a message is taken exactly when it can be, and then the book is the one that the rules give.
 -- Rules out a book that refuses everything, one that takes what it should refuse, and one that answers 0 and leaves the book alone.
@@ -172,6 +177,9 @@ pub record No-price : Type 0 where
   pub update : (p : Reference) (s : List ℕ) (m : Message) → isLive (p .status) ≡ false → decode (p .config) s ≡ decodes m → m .kind ≡ Update
       → receive p s .answer ≡ Taken → ⊥
   pub not-live : (p : Reference) (cs : List Call) → isLive (p .status) ≡ false → anySnapshot (takenOf p cs) ≡ false → prices p cs ≡ []
+  -- "Asked for one it answers 'no snapshot', or the refusal that the question's own order of checks puts before it."
+  pub answer : (p : Reference) (ask : Ask) (buffer : List ℕ) → isLive (p .status) ≡ false → asksPrice p ask ≡ true
+      → does p ask buffer .answer ≡ cond (isShut (p .status)) Shut NoSnapshot
   pub at-first : (t : Config) (cs : List Call) → anySnapshot (takenOf (opened t) cs) ≡ false → prices (opened t) cs ≡ []
   pub after-refusal : (p : Reference) (s : List ℕ) (cs : List Call) → (receive p s .answer ≡ Taken → ⊥) → leavesStatus (receive p s .answer) ≡ false
       → anySnapshot (takenOf (receive p s .book) cs) ≡ false → prices (receive p s .book) cs ≡ []

@@ -5,7 +5,8 @@ use Prim.Native.Nat.{ℕ, _≤_}
 use native.Mathlib.Omega.{arith}
 use borrow.Author.Tests.{leb-true, eqb-true}
 use lib.Dec.{leb}
-use Rattle.settings.specs.Settings.{Config, isM, good, goodDepth, goodName}
+use Rattle.settings.specs.Settings.{Config, good, goodDepth, goodName}
+use Rattle.settings.specs.Kept.{isM}
 use Rattle.settings.specs.Rules.{rulesOf}
 use Rattle.settings.specs.declared.Dialect.{Dialect}
 use Rattle.settings.specs.declared.Dialect.the-variants.{K, M, Unknown}

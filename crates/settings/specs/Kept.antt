@@ -4,6 +4,9 @@ use mathlib.Core.Path.{_≡_}
 use mathlib.Core.List.{List}
 use lib.ListN.{length, take}
 use Rattle.settings.specs.Settings.{Config, kept}
+use mathlib.Core.Bool.{Bool, true, false}
+use Rattle.settings.specs.declared.Dialect.{Dialect}
+use Rattle.settings.specs.declared.Dialect.the-variants.{K, M, Unknown}
 use Rattle.settings.specs.declared.Settings.{Settings}
 
 -- The settings that the code's struct holds.
@@ -19,3 +22,9 @@ pub record Chosen (t : Config) (s : Settings) : Type 0 where
 pub record Copied (name copy : List ℕ) : Type 0 where
   pub room : length copy ≡ 16
   pub front : take (length name) copy ≡ name
+
+-- Whether the dialect is M.
+unfoldable pub isM : Dialect → Bool
+isM K = false
+isM M = true
+isM Unknown = false

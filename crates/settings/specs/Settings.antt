@@ -13,11 +13,6 @@ pub record Config : Type 0 where
   pub depth : ℕ
   pub name : List ℕ
 
-unfoldable pub isM : Dialect → Bool
-isM K = false
-isM M = true
-isM Unknown = false
-
 -- Depth is 10 to 100 for K, 100 exactly for M.
 unfoldable pub goodDepth : Dialect → ℕ → Bool
 goodDepth K depth = leb 10 depth && leb depth 100

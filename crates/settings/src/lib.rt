@@ -7,7 +7,8 @@
 ghost use mathlib.Core.Path.{_≡_};
 ghost use Prim.Native.Nat.{_≤_};
 ghost use lib.ListN.{length, take};
-ghost use Rattle.settings.specs.Settings.{isM, goodDepth, nameByte, nameBytes, goodName, good};
+ghost use Rattle.settings.specs.Settings.{goodDepth, nameByte, nameBytes, goodName, good};
+ghost use Rattle.settings.specs.Kept.{isM};
 ghost use Rattle.settings.specs.Rules.{rulesOf};
 ghost use Rattle.settings.specs.Kept.{Chosen, Copied};
 

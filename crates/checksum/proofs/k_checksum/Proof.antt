@@ -5,7 +5,7 @@ use lib.ListN.{take}
 use Rattle.crc32_spec.specs.Crc.{start, finish}
 use Rattle.level.specs.Words.{levelsIn}
 use Rattle.level.specs.Kept.{held}
-use Rattle.checksum.specs.Text.{kLevels}
+use Rattle.checksum.specs.Sums.{kLevels}
 use Rattle.checksum.specs.Carried.{summed}
 use Rattle.checksum.proofs.Pieces.{take-min, k-summed}
 use borrow.Author.Needs.{needs}

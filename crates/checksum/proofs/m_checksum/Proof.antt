@@ -11,7 +11,7 @@ use Rattle.level.specs.declared.Level.{Level}
 use Rattle.level.specs.Words.{shown}
 use Rattle.level.specs.Words.{levelsIn}
 use Rattle.level.specs.Kept.{held}
-use Rattle.checksum.specs.Text.{mChecksum}
+use Rattle.checksum.specs.Sums.{mChecksum}
 use Rattle.checksum.specs.Carried.{summed}
 use Rattle.checksum.proofs.Pieces.{enough, beforeColon, m-empty, m-parts, m-summed, some-left, some-right}
 use borrow.Author.Needs.{needs}

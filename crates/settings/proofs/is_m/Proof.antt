@@ -1,5 +1,5 @@
 -- `is_m` meets its contract: dialect by dialect.
-use Rattle.settings.specs.Settings.{isM}
+use Rattle.settings.specs.Kept.{isM}
 use borrow.Author.Needs.{needs}
 use Rattle.settings.proofs.is_m.Statement.{statement}
 use Rattle.settings.proofs.is_m.Tie as tie

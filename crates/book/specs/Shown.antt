@@ -8,7 +8,8 @@ use Rattle.decimal.specs.Decimal.{number}
 use Rattle.decimal.specs.declared.Decimal.{Decimal}
 use Rattle.settings.specs.Settings.{Config, good}
 use Rattle.settings.specs.Kept.{configOf}
-use Rattle.level.specs.Words.{shown}
+use Rattle.answer.specs.Answers.{isTaken}
+use Rattle.level.specs.Words.{shown, wordsPast}
 use Rattle.level.specs.Kept.{keptIn, held}
 use Rattle.level.specs.declared.Side.{Side}
 use Rattle.level.specs.declared.Side.the-variants.{Bids, Asks}
@@ -88,6 +89,16 @@ pub record Received (a : After) (r : Step) : Type 0 where
   pub good : Good (r .book)
   pub same : shows (r .book) ≡ a .book
   pub answer : r .answer ≡ a .answer
+
+-- The same in words that are lent: of a message that is taken, the words past the levels that are left stay as they were, and a refusal leaves every
+-- word as it was.
+pub record ReceivedIn (b : Book) (s bids asks : List ℕ) (r : Answered) : Type 0 where
+  pub received : Received (receive (shows b) s) (stepOf bids asks r)
+  pub settings : r .header .settings ≡ b .settings
+  pub bids-past : isTaken (r .answer) ≡ true → wordsPast (r .header .bids) bids ≡ wordsPast (r .header .bids) (b .bids .words)
+  pub asks-past : isTaken (r .answer) ≡ true → wordsPast (r .header .asks) asks ≡ wordsPast (r .header .asks) (b .asks .words)
+  pub bids-back : isTaken (r .answer) ≡ false → bids ≡ b .bids .words
+  pub asks-back : isTaken (r .answer) ≡ false → asks ≡ b .asks .words
 
 -- ---- questions and the writer: the book is handed back as it was
 

@@ -31,7 +31,7 @@ ghost use mathlib.Core.Path.{_≡_};
 ghost use Rattle.lifecycle.specs.Lifecycle.{statusOf, firstState, answers, refusalOf};
 ghost use Rattle.crc32.specs.Table.{ShiftTable};
 ghost use Rattle.reference.specs.Reference.{receive, whichNumber, howManyUpdates};
-ghost use Rattle.book.specs.Shown.{shows, bookOf, headerOf, stepOf, Good, Opened, Received, CountsAnswered, AnswersCounts, AnswersLevel, AnswersAmount, Wrote};
+ghost use Rattle.book.specs.Shown.{shows, bookOf, headerOf, Good, Opened, Received, ReceivedIn, CountsAnswered, AnswersCounts, AnswersLevel, AnswersAmount, Wrote};
 ghost use Rattle.book.specs.Asking.{levelIn, WithoutLevel};
 
 pub struct Book {
@@ -141,8 +141,9 @@ pub fn join(bids: [u64; MAX_WORDS], asks: [u64; MAX_WORDS], header: Header) -> B
 }
 
 impl Header {
-    // The book after a message, in the words that are lent: the first bids and asks of them are the book's. The checksum is summed
-    // by way of the table, which `crc32::fill_table` filled; one of no entries will do.
+    // The book after a message, in the words that are lent: the first bids and asks of them are the book's, and those past them stay
+    // as they are. A refusal leaves every word as it was. The checksum is summed by way of the table, which `crc32::fill_table` filled;
+    // one of no entries will do.
     pub fn take(
         self,
         bids: &mut [u64; MAX_WORDS],
@@ -151,7 +152,7 @@ impl Header {
         table: &[u32],
     ) -> Answered
         requires { ⌜ Good (bookOf (now bids) (now asks) self) × ShiftTable (now table) ⌝ }
-        ensures { λ r. ⌜ Received (receive (shows (bookOf (now (bids .entry)) (now (asks .entry)) self)) (now (s .entry))) (stepOf (now (bids .exit)) (now (asks .exit)) r) ⌝ }
+        ensures { λ r. ⌜ ReceivedIn (bookOf (now (bids .entry)) (now (asks .entry)) self) (now (s .entry)) (now (bids .exit)) (now (asks .exit)) r ⌝ }
     {
         taking::receive(self, bids, asks, s, table)
     }

@@ -38,7 +38,7 @@ bookAt c = let l = c .before .before .before .before .before .before .before .be
 reply : (c : tie.After-number-of Inv-loop μ-loop) → text c ≡ replyTo (receive (shows (bookAt c)) (line c))
 reply c =
     let t = c .before .before .before .take in
-    reply-is (shows (bookAt c)) (line c) (t .ensures) (c .before .counts .ensures .of (t .last .1 .0) (t .last .1 .1 .0) (t .ensures .good)) (c .number-of .ensures)
+    reply-is (shows (bookAt c)) (line c) (t .ensures .received) (c .before .counts .ensures .of (t .last .1 .0) (t .last .1 .1 .0) (t .ensures .received .good)) (c .number-of .ensures)
 
 fits : (c : tie.After-number-of Inv-loop μ-loop) → c .before .before .before .before .before .before .before .before .before .before .loop .written + length (text c) ≤ length (c .before .before .before .before .before .before .before .before .before .before .loop .buffer)
 fits c =
@@ -83,7 +83,7 @@ loop-again : tie.Need-loop-again Inv-loop μ-loop
 loop-again c =
     let n = c .before .before .before .before in
     let find = c .before .before .before .before .before .before .before .before .before .before .before .before .find in
-    went-on (c .before .before .before .before .before .before .before .before .before .before .before .before .before .before .loop .inv) (find .ensures .2) (c .before .before .before .before .before .before .before .before .before .before .before .if1 .left) (c .before .before .before .before .before .before .before .before .before .before .before .before .before .loop-test .taken) (c .before .before .before .before .before .before .before .take .ensures .good) (c .before .before .before .before .before .before .before .take .ensures .same) (reply n) (fits n) (c .before .before .write-reply .ensures)
+    went-on (c .before .before .before .before .before .before .before .before .before .before .before .before .before .before .loop .inv) (find .ensures .2) (c .before .before .before .before .before .before .before .before .before .before .before .if1 .left) (c .before .before .before .before .before .before .before .before .before .before .before .before .before .loop-test .taken) (c .before .before .before .before .before .before .before .take .ensures .received .good) (c .before .before .before .before .before .before .before .take .ensures .received .same) (reply n) (fits n) (c .before .before .write-reply .ensures)
 
 returns-2 : tie.Need-returns-2 Inv-loop μ-loop
 returns-2 c =

@@ -8,7 +8,7 @@ use native.Mathlib.Omega.{arith}
 use borrow.Author.Tests.{ltb-true, ltb-false, lt-ltb, le-ltb}
 use lib.Dec.{ltb, lit<}
 use lib.ListN.{length, getD, length-map}
-use Rattle.lifecycle.specs.Lifecycle.{statusOf, firstState, answers, refusalOf}
+use Rattle.lifecycle.specs.Lifecycle.{statusOf, firstState, answers, refusalOf, countsOf}
 use Rattle.level.proofs.Held.{held-length}
 use Rattle.decimal.specs.Decimal.{Number, number}
 use Rattle.decimal.specs.declared.Decimal.{Decimal}
@@ -36,12 +36,15 @@ use Rattle.reference.proofs.Questions.{if-refused}
 use Rattle.reference.specs.Reference as r·
 use Rattle.reference.specs.Reference.{Status, shut as shut′, waiting, live, isShut, Reference, opened, stands, asked, ifTaken, noLevel, sideOf, askedLevel, levelAsked, counts, level, amount, does, howMany, levelAt, whichNumber, howManyUpdates}
 use Rattle.settings.specs.Settings.{isM}
-use Rattle.book.specs.Shown.{shows, Good, Opened, AnswersCounts, AnswersLevel, AnswersAmount}
+use Rattle.book.specs.Shown.{shows, bookOf, Good, Opened, AnswersCounts, AnswersLevel, AnswersAmount}
 use Rattle.book.specs.Asking.{levelIn, WithoutLevel}
 use Rattle.reference.specs.declared.Scope.{Scope}
 use Rattle.reference.specs.declared.Scope.the-variants.{Current, LastGood}
 use Rattle.lifecycle.specs.declared.State.{State}
+use Rattle.lifecycle.specs.declared.Counts.{Counts}
 use Rattle.book.specs.declared.Book.{Book}
+use Rattle.book.specs.declared.CountsReply.{CountsReply}
+use Rattle.book.specs.declared.Header.{Header}
 use Rattle.book.specs.declared.LevelReply.{LevelReply}
 
 -- ---- whether a question is answered
@@ -133,6 +136,20 @@ module _ (b : Book) (scope : Scope) where
   updates-no h a e =
       let n = asked-no p scope h in
       record { book = refl; answer = λ x. e ∙ sym n; value = λ x. ap amount (sym (if-no (asked scope p) (statusOf (b .lifecycle .state)) _ _ n)) }
+
+-- a header answers as every good book that has it
+pub counts-told : (h : Header) (scope : Scope) (r : Counts) → r ≡ countsOf (h .lifecycle) scope (h .bids) (h .asks) → (bids asks : List ℕ) → Good (bookOf bids asks h)
+    → AnswersCounts (bookOf bids asks h) scope (record { book = bookOf bids asks h; answer = r .answer; bids = r .bids; asks = r .asks })
+unfolding countsOf
+counts-told h scope r e bids asks g = subst (λ (x : Counts). AnswersCounts (bookOf bids asks h) scope (replied x)) (sym e) (at (yes (bookOf bids asks h) scope) refl)
+  where
+    replied : Counts → CountsReply
+    replied x = record { book = bookOf bids asks h; answer = x .answer; bids = x .bids; asks = x .asks }
+
+    at : (t : Bool) → yes (bookOf bids asks h) scope ≡ t
+        → AnswersCounts (bookOf bids asks h) scope (replied (cond t (record { answer = Taken; bids = h .bids; asks = h .asks }) (record { answer = refusalOf (statusOf (h .lifecycle .state)); bids = 0; asks = 0 })))
+    at true k = counts-yes (bookOf bids asks h) scope g k
+    at false k = counts-no (bookOf bids asks h) scope k (refusalOf (statusOf (h .lifecycle .state))) refl
 
 -- ---- a level
 

@@ -21,7 +21,6 @@ use Rattle.reference.specs.declared.Scope.{Scope}
 use Rattle.book.specs.declared.Book.{Book}
 use Rattle.book.specs.declared.Header.{Header}
 use Rattle.book.specs.declared.Answered.{Answered}
-use Rattle.book.specs.declared.Counts.{Counts}
 use Rattle.book.specs.declared.Step.{Step}
 use Rattle.book.specs.declared.CountsReply.{CountsReply}
 use Rattle.book.specs.declared.LevelReply.{LevelReply}
@@ -106,10 +105,6 @@ pub record AnswersCounts (b : Book) (scope : Scope) (r : CountsReply) : Type 0 w
   pub book : r .book ≡ b
   pub answer : (buffer : List ℕ) → r .answer ≡ does (shows b) (howMany scope) buffer .answer
   pub value : (buffer : List ℕ) → counts (r .bids) (r .asks) ≡ does (shows b) (howMany scope) buffer .value
-
--- The same of a header, whatever the words of the sides are.
-pub record CountsAnswered (h : Header) (scope : Scope) (r : Counts) : Type 0 where
-  pub of : (bids asks : List ℕ) → Good (bookOf bids asks h) → AnswersCounts (bookOf bids asks h) scope (record { book = bookOf bids asks h; answer = r .answer; bids = r .bids; asks = r .asks })
 
 pub record AnswersLevel (b : Book) (scope : Scope) (side : Side) (i : ℕ) (r : LevelReply) : Type 0 where
   pub book : r .book ≡ b

@@ -20,7 +20,9 @@ use level::Levels;
 use level::MAX_WORDS;
 use level::MaybeLevel;
 use level::Side;
+use lifecycle::Counts;
 use lifecycle::Lifecycle;
+use lifecycle::count_levels;
 use lifecycle::first_state;
 use lifecycle::refusal;
 use lifecycle::stands;
@@ -28,10 +30,10 @@ use reference::Scope;
 use settings::Dialect;
 use settings::Settings;
 ghost use mathlib.Core.Path.{_≡_};
-ghost use Rattle.lifecycle.specs.Lifecycle.{statusOf, firstState, answers, refusalOf};
+ghost use Rattle.lifecycle.specs.Lifecycle.{countsOf};
 ghost use Rattle.crc32.specs.Table.{ShiftTable};
 ghost use Rattle.reference.specs.Reference.{receive, whichNumber, howManyUpdates};
-ghost use Rattle.book.specs.Shown.{shows, bookOf, headerOf, Good, Opened, Received, ReceivedIn, CountsAnswered, AnswersCounts, AnswersLevel, AnswersAmount, Wrote};
+ghost use Rattle.book.specs.Shown.{shows, bookOf, headerOf, Good, Opened, Received, ReceivedIn, AnswersCounts, AnswersLevel, AnswersAmount, Wrote};
 ghost use Rattle.book.specs.Asking.{levelIn, WithoutLevel};
 
 pub struct Book {
@@ -60,13 +62,6 @@ pub struct Header {
 pub struct Answered {
     pub header: Header,
     pub answer: Answer,
-}
-
-// The answer to the question how many bids and asks there are.
-pub struct Counts {
-    pub answer: Answer,
-    pub bids: usize,
-    pub asks: usize,
 }
 
 // The answer to a message.
@@ -157,23 +152,12 @@ impl Header {
         taking::receive(self, bids, asks, s, table)
     }
 
-    // How many bids and asks there are.
+    // How many bids and asks there are: what every good book with this header answers, whatever its words are (law `counts-told`).
     pub fn counts(self, scope: Scope) -> Counts
-        ensures { λ r. ⌜ CountsAnswered self scope r ⌝ }
+        ensures { λ r. ⌜ r ≡ countsOf (self .lifecycle) scope (self .bids) (self .asks) ⌝ }
     {
         let lifecycle = self.lifecycle;
-        if stands(lifecycle, scope) {
-            return Counts {
-                answer: Answer::Taken,
-                bids: self.bids,
-                asks: self.asks,
-            };
-        }
-        Counts {
-            answer: refusal(lifecycle),
-            bids: 0,
-            asks: 0,
-        }
+        count_levels(lifecycle, scope, self.bids, self.asks)
     }
 }
 

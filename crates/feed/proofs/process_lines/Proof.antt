@@ -12,6 +12,8 @@ use Rattle.reference.specs.Reference.{receive}
 use Rattle.feed.specs.Feed.{replyTo}
 use Rattle.feed.proofs.Replying.{reply-is}
 use Rattle.book.specs.Shown.{Good, shows, bookOf}
+use Rattle.book.proofs.Asking.{counts-told}
+use Rattle.reference.specs.declared.Scope.the-variants.{Current}
 use Rattle.book.specs.declared.Book.{Book}
 use Rattle.book.specs.declared.Header.{Header}
 use Rattle.feed.proofs.Processing.{Walk, begun, ended-lines, ended-room, went-on, heard-as}
@@ -38,7 +40,7 @@ bookAt c = let l = c .before .before .before .before .before .before .before .be
 reply : (c : tie.After-number-of Inv-loop μ-loop) → text c ≡ replyTo (receive (shows (bookAt c)) (line c))
 reply c =
     let t = c .before .before .before .take in
-    reply-is (shows (bookAt c)) (line c) (t .ensures .received) (c .before .counts .ensures .of (t .last .1 .0) (t .last .1 .1 .0) (t .ensures .received .good)) (c .number-of .ensures)
+    reply-is (shows (bookAt c)) (line c) (t .ensures .received) (counts-told (t .result .header) Current (c .before .counts .result) (c .before .counts .ensures) (t .last .1 .0) (t .last .1 .1 .0) (t .ensures .received .good)) (c .number-of .ensures)
 
 fits : (c : tie.After-number-of Inv-loop μ-loop) → c .before .before .before .before .before .before .before .before .before .before .loop .written + length (text c) ≤ length (c .before .before .before .before .before .before .before .before .before .before .loop .buffer)
 fits c =

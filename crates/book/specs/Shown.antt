@@ -20,6 +20,7 @@ use Rattle.settings.specs.Settings.{isM}
 use Rattle.reference.specs.declared.Scope.{Scope}
 use Rattle.book.specs.declared.Book.{Book}
 use Rattle.book.specs.declared.Header.{Header}
+use Rattle.book.specs.declared.BookParts.{BookParts}
 use Rattle.book.specs.declared.Answered.{Answered}
 use Rattle.book.specs.declared.Step.{Step}
 use Rattle.book.specs.declared.CountsReply.{CountsReply}
@@ -62,6 +63,9 @@ headerOf b =
       updates = b .updates;
       lifecycle = b .lifecycle;
     }
+
+abbrev pub partsOf : Book → BookParts
+partsOf b = record { bids = b .bids .words; asks = b .asks .words; header = headerOf b }
 
 abbrev pub stepOf : List ℕ → List ℕ → Answered → Step
 stepOf bids asks r = record { book = bookOf bids asks (r .header); answer = r .answer }

@@ -8,8 +8,9 @@
 // A method takes the book by value and hands it back with its answer. Who hands a book many messages lends it the words of its
 // sides and a table to sum by instead, and passes only its header:
 //
+//     let parts = book.split();                          // `bids`, `asks` and `header`
 //     let answered = header.take(&mut bids, &mut asks, message, table);
-//     header = answered.header;
+//     book = book::join(bids, asks, answered.header);
 mod taking;
 mod writing;
 
@@ -33,12 +34,12 @@ ghost use mathlib.Core.Path.{_≡_};
 ghost use Rattle.lifecycle.specs.Lifecycle.{countsOf};
 ghost use Rattle.crc32.specs.Table.{ShiftTable};
 ghost use Rattle.reference.specs.Reference.{receive, whichNumber, howManyUpdates};
-ghost use Rattle.book.specs.Shown.{shows, bookOf, headerOf, Good, Opened, Received, ReceivedIn, AnswersCounts, AnswersLevel, AnswersAmount, Wrote};
+ghost use Rattle.book.specs.Shown.{shows, bookOf, headerOf, partsOf, Good, Opened, Received, ReceivedIn, AnswersCounts, AnswersLevel, AnswersAmount, Wrote};
 ghost use Rattle.book.specs.Asking.{levelIn, WithoutLevel};
 
 pub struct Book {
-    pub bids: Levels,
-    pub asks: Levels,
+    bids: Levels,
+    asks: Levels,
     settings: Settings,
     // The sequence number.
     number: u64,
@@ -56,6 +57,13 @@ pub struct Header {
     number: u64,
     updates: u64,
     lifecycle: Lifecycle,
+}
+
+// A book taken apart: the words of its sides, and its header.
+pub struct BookParts {
+    pub bids: [u64; MAX_WORDS],
+    pub asks: [u64; MAX_WORDS],
+    pub header: Header,
 }
 
 // The answer to a message, where the words of the sides are lent.
@@ -162,8 +170,21 @@ impl Header {
 }
 
 impl Book {
+    // The book taken apart; `join` puts it together again.
+    pub fn split(self) -> BookParts
+        ensures { λ r. ⌜ r ≡ partsOf self ⌝ }
+    {
+        let bids = self.bids.words;
+        let asks = self.asks.words;
+        BookParts {
+            bids,
+            asks,
+            header: self.header(),
+        }
+    }
+
     // The book but for the words of its sides.
-    pub fn header(self) -> Header
+    fn header(self) -> Header
         ensures { λ r. ⌜ r ≡ headerOf self ⌝ }
     {
         let settings = self.settings;

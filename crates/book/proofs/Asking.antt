@@ -8,7 +8,7 @@ use native.Mathlib.Omega.{arith}
 use borrow.Author.Tests.{ltb-true, ltb-false, lt-ltb, le-ltb}
 use lib.Dec.{ltb, lit<}
 use lib.ListN.{length, getD, length-map}
-use Rattle.lifecycle.specs.Lifecycle.{statusOf, firstState, answers, refusalOf}
+use Rattle.lifecycle.specs.Lifecycle.{statusOf, firstState, answers, refusalOf, countsOf}
 use Rattle.level.proofs.Held.{held-length}
 use Rattle.decimal.specs.Decimal.{Number, number}
 use Rattle.decimal.specs.declared.Decimal.{Decimal}
@@ -36,12 +36,15 @@ use Rattle.decimal.specs.Buffer.{overlaid}
 use Rattle.reference.specs.Reference as r·
 use Rattle.reference.specs.Reference.{Status, shut as shut′, waiting, live, isShut, Reference, opened, stands, noLevel, sideOf, Question, howMany, levelAt, whichNumber, howManyUpdates, counts, level, amount, zeros, Response, respond, refusal, replied, question, does}
 use Rattle.settings.specs.Kept.{isM}
-use Rattle.book.specs.Shown.{shows, Good, Opened, AnswersCounts, AnswersLevel, AnswersAmount}
+use Rattle.book.specs.Shown.{shows, bookOf, Good, Opened, AnswersCounts, AnswersLevel, AnswersAmount}
 use Rattle.book.specs.Asking.{levelIn, WithoutLevel}
 use Rattle.reference.specs.declared.Scope.{Scope}
 use Rattle.reference.specs.declared.Scope.the-variants.{Current, LastGood}
 use Rattle.lifecycle.specs.declared.State.{State}
+use Rattle.lifecycle.specs.declared.Counts.{Counts}
 use Rattle.book.specs.declared.Book.{Book}
+use Rattle.book.specs.declared.CountsReply.{CountsReply}
+use Rattle.book.specs.declared.Header.{Header}
 use Rattle.book.specs.declared.LevelReply.{LevelReply}
 
 -- ---- what a question is answered
@@ -169,6 +172,20 @@ module _ (b : Book) (scope : Scope) where
   pub updates-no : yes ≡ false → (a : Answer) → a ≡ refusalOf (statusOf (b .lifecycle .state)) → AnswersAmount b (howManyUpdates scope) (record { book = b; answer = a; value = 0 })
   unfolding respond shows
   updates-no = amount-no (howManyUpdates scope) (b .updates) (λ x. refl) (λ x. refl)
+
+-- a header answers as every good book that has it
+pub counts-told : (h : Header) (scope : Scope) (r : Counts) → r ≡ countsOf (h .lifecycle) scope (h .bids) (h .asks) → (bids asks : List ℕ) → Good (bookOf bids asks h)
+    → AnswersCounts (bookOf bids asks h) scope (record { book = bookOf bids asks h; answer = r .answer; bids = r .bids; asks = r .asks })
+unfolding countsOf
+counts-told h scope r e bids asks g = subst (λ (x : Counts). AnswersCounts (bookOf bids asks h) scope (replied x)) (sym e) (at (yes (bookOf bids asks h) scope) refl)
+  where
+    replied : Counts → CountsReply
+    replied x = record { book = bookOf bids asks h; answer = x .answer; bids = x .bids; asks = x .asks }
+
+    at : (t : Bool) → yes (bookOf bids asks h) scope ≡ t
+        → AnswersCounts (bookOf bids asks h) scope (replied (cond t (record { answer = Taken; bids = h .bids; asks = h .asks }) (record { answer = refusalOf (statusOf (h .lifecycle .state)); bids = 0; asks = 0 })))
+    at true k = counts-yes (bookOf bids asks h) scope g k
+    at false k = counts-no (bookOf bids asks h) scope k (refusalOf (statusOf (h .lifecycle .state))) refl
 
 -- ---- a level
 

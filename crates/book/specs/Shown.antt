@@ -8,7 +8,8 @@ use Rattle.decimal.specs.Decimal.{number}
 use Rattle.decimal.specs.declared.Decimal.{Decimal}
 use Rattle.settings.specs.Settings.{Config, good}
 use Rattle.settings.specs.Kept.{configOf}
-use Rattle.level.specs.Words.{shown}
+use Rattle.answer.specs.Answers.{isTaken}
+use Rattle.level.specs.Words.{shown, wordsPast}
 use Rattle.level.specs.Kept.{keptIn, held}
 use Rattle.level.specs.declared.Side.{Side}
 use Rattle.level.specs.declared.Side.the-variants.{Bids, Asks}
@@ -19,8 +20,8 @@ use Rattle.settings.specs.Kept.{isM}
 use Rattle.reference.specs.declared.Scope.{Scope}
 use Rattle.book.specs.declared.Book.{Book}
 use Rattle.book.specs.declared.Header.{Header}
+use Rattle.book.specs.declared.BookParts.{BookParts}
 use Rattle.book.specs.declared.Answered.{Answered}
-use Rattle.book.specs.declared.Counts.{Counts}
 use Rattle.book.specs.declared.Step.{Step}
 use Rattle.book.specs.declared.CountsReply.{CountsReply}
 use Rattle.book.specs.declared.LevelReply.{LevelReply}
@@ -60,6 +61,9 @@ headerOf b =
       lifecycle = b .lifecycle;
     }
 
+abbrev pub partsOf : Book → BookParts
+partsOf b = record { bids = b .bids .words; asks = b .asks .words; header = headerOf b }
+
 abbrev pub stepOf : List ℕ → List ℕ → Answered → Step
 stepOf bids asks r = record { book = bookOf bids asks (r .header); answer = r .answer }
 
@@ -86,16 +90,22 @@ pub record Received (a : After) (r : Step) : Type 0 where
   pub same : shows (r .book) ≡ a .book
   pub answer : r .answer ≡ a .answer
 
+-- The same in words that are lent: of a message that is taken, the words past the levels that are left stay as they were, and a refusal leaves every
+-- word as it was.
+pub record ReceivedIn (b : Book) (s bids asks : List ℕ) (r : Answered) : Type 0 where
+  pub received : Received (receive (shows b) s) (stepOf bids asks r)
+  pub settings : r .header .settings ≡ b .settings
+  pub bids-past : isTaken (r .answer) ≡ true → wordsPast (r .header .bids) bids ≡ wordsPast (r .header .bids) (b .bids .words)
+  pub asks-past : isTaken (r .answer) ≡ true → wordsPast (r .header .asks) asks ≡ wordsPast (r .header .asks) (b .asks .words)
+  pub bids-back : isTaken (r .answer) ≡ false → bids ≡ b .bids .words
+  pub asks-back : isTaken (r .answer) ≡ false → asks ≡ b .asks .words
+
 -- ---- questions and the writer: the book is handed back as it was
 
 pub record AnswersCounts (b : Book) (scope : Scope) (r : CountsReply) : Type 0 where
   pub book : r .book ≡ b
   pub answer : (buffer : List ℕ) → r .answer ≡ does (shows b) (question (howMany scope)) buffer .answer
   pub value : (buffer : List ℕ) → counts (r .bids) (r .asks) ≡ does (shows b) (question (howMany scope)) buffer .value
-
--- The same of a header, whatever the words of the sides are.
-pub record CountsAnswered (h : Header) (scope : Scope) (r : Counts) : Type 0 where
-  pub of : (bids asks : List ℕ) → Good (bookOf bids asks h) → AnswersCounts (bookOf bids asks h) scope (record { book = bookOf bids asks h; answer = r .answer; bids = r .bids; asks = r .asks })
 
 pub record AnswersLevel (b : Book) (scope : Scope) (side : Side) (i : ℕ) (r : LevelReply) : Type 0 where
   pub book : r .book ≡ b

@@ -26,7 +26,7 @@ use Rattle.answer.specs.declared.Answer.the-variants.{Taken, PriceTwice, TooMan
 use Rattle.message.specs.declared.Verdict.{Verdict}
 use Rattle.message.specs.declared.Verdict.the-variants.{Fails, Passes}
 use Rattle.reference.specs.Reference.{isShut, checksumOf, oneMore, receive}
-use Rattle.book.specs.Shown.{shows, bookOf, stepOf, Good, Received}
+use Rattle.book.specs.Shown.{shows, Good, Received, ReceivedIn}
 use Rattle.book.specs.declared.Book.{Book}
 use Rattle.book.specs.declared.Header.{Header}
 use Rattle.book.specs.declared.Answered.{Answered}
@@ -109,7 +109,7 @@ weighedSides o d bids asks =
 -- A message that passes the checks of its text is tried: where it is taken, the words are those of the book after it; where it is refused, those of the
 -- book before it are to be put back. A side without entries keeps its words.
 pub record Tried (b : Book) (s : List ℕ) (o : Outline) (bids asks : List ℕ) (r : Answered) : Type 0 where
-  pub taken : isTaken (r .answer) ≡ true → Received (receive (shows b) s) (stepOf bids asks r)
-  pub refused : isTaken (r .answer) ≡ false → Received (receive (shows b) s) (stepOf (b .bids .words) (b .asks .words) r)
+  pub taken : isTaken (r .answer) ≡ true → ReceivedIn b s bids asks r
+  pub refused : isTaken (r .answer) ≡ false → ReceivedIn b s (b .bids .words) (b .asks .words) r
   pub bids-stay : o .bids ≡ 0 → bids ≡ b .bids .words
   pub asks-stay : o .asks ≡ 0 → asks ≡ b .asks .words

@@ -8,8 +8,9 @@
 // A method takes the book by value and hands it back with its answer. Who hands a book many messages lends it the words of its
 // sides and a table to sum by instead, and passes only its header:
 //
+//     let parts = book.split();                          // `bids`, `asks` and `header`
 //     let answered = header.take(&mut bids, &mut asks, message, table);
-//     header = answered.header;
+//     book = book::join(bids, asks, answered.header);
 mod taking;
 mod writing;
 
@@ -20,7 +21,9 @@ use level::Levels;
 use level::MAX_WORDS;
 use level::MaybeLevel;
 use level::Side;
+use lifecycle::Counts;
 use lifecycle::Lifecycle;
+use lifecycle::count_levels;
 use lifecycle::first_state;
 use lifecycle::refusal;
 use lifecycle::stands;
@@ -28,15 +31,15 @@ use reference::Scope;
 use settings::Dialect;
 use settings::Settings;
 ghost use mathlib.Core.Path.{_≡_};
-ghost use Rattle.lifecycle.specs.Lifecycle.{statusOf, firstState, answers, refusalOf};
+ghost use Rattle.lifecycle.specs.Lifecycle.{countsOf};
 ghost use Rattle.crc32.specs.Table.{ShiftTable};
 ghost use Rattle.reference.specs.Reference.{receive, whichNumber, howManyUpdates};
-ghost use Rattle.book.specs.Shown.{shows, bookOf, headerOf, stepOf, Good, Opened, Received, CountsAnswered, AnswersCounts, AnswersLevel, AnswersAmount, Wrote};
+ghost use Rattle.book.specs.Shown.{shows, bookOf, headerOf, partsOf, Good, Opened, Received, ReceivedIn, AnswersCounts, AnswersLevel, AnswersAmount, Wrote};
 ghost use Rattle.book.specs.Asking.{levelIn, WithoutLevel};
 
 pub struct Book {
-    pub bids: Levels,
-    pub asks: Levels,
+    bids: Levels,
+    asks: Levels,
     settings: Settings,
     // The sequence number.
     number: u64,
@@ -56,17 +59,17 @@ pub struct Header {
     lifecycle: Lifecycle,
 }
 
+// A book taken apart: the words of its sides, and its header.
+pub struct BookParts {
+    pub bids: [u64; MAX_WORDS],
+    pub asks: [u64; MAX_WORDS],
+    pub header: Header,
+}
+
 // The answer to a message, where the words of the sides are lent.
 pub struct Answered {
     pub header: Header,
     pub answer: Answer,
-}
-
-// The answer to the question how many bids and asks there are.
-pub struct Counts {
-    pub answer: Answer,
-    pub bids: usize,
-    pub asks: usize,
 }
 
 // The answer to a message.
@@ -141,8 +144,9 @@ pub fn join(bids: [u64; MAX_WORDS], asks: [u64; MAX_WORDS], header: Header) -> B
 }
 
 impl Header {
-    // The book after a message, in the words that are lent: the first bids and asks of them are the book's. The checksum is summed
-    // by way of the table, which `crc32::fill_table` filled; one of no entries will do.
+    // The book after a message, in the words that are lent: the first bids and asks of them are the book's, and those past them stay
+    // as they are. A refusal leaves every word as it was. The checksum is summed by way of the table, which `crc32::fill_table` filled;
+    // one of no entries will do.
     pub fn take(
         self,
         bids: &mut [u64; MAX_WORDS],
@@ -151,34 +155,36 @@ impl Header {
         table: &[u32],
     ) -> Answered
         requires { ⌜ Good (bookOf (now bids) (now asks) self) × ShiftTable (now table) ⌝ }
-        ensures { λ r. ⌜ Received (receive (shows (bookOf (now (bids .entry)) (now (asks .entry)) self)) (now (s .entry))) (stepOf (now (bids .exit)) (now (asks .exit)) r) ⌝ }
+        ensures { λ r. ⌜ ReceivedIn (bookOf (now (bids .entry)) (now (asks .entry)) self) (now (s .entry)) (now (bids .exit)) (now (asks .exit)) r ⌝ }
     {
         taking::receive(self, bids, asks, s, table)
     }
 
-    // How many bids and asks there are.
+    // How many bids and asks there are: what every good book with this header answers, whatever its words are (law `counts-told`).
     pub fn counts(self, scope: Scope) -> Counts
-        ensures { λ r. ⌜ CountsAnswered self scope r ⌝ }
+        ensures { λ r. ⌜ r ≡ countsOf (self .lifecycle) scope (self .bids) (self .asks) ⌝ }
     {
         let lifecycle = self.lifecycle;
-        if stands(lifecycle, scope) {
-            return Counts {
-                answer: Answer::Taken,
-                bids: self.bids,
-                asks: self.asks,
-            };
-        }
-        Counts {
-            answer: refusal(lifecycle),
-            bids: 0,
-            asks: 0,
-        }
+        count_levels(lifecycle, scope, self.bids, self.asks)
     }
 }
 
 impl Book {
+    // The book taken apart; `join` puts it together again.
+    pub fn split(self) -> BookParts
+        ensures { λ r. ⌜ r ≡ partsOf self ⌝ }
+    {
+        let bids = self.bids.words;
+        let asks = self.asks.words;
+        BookParts {
+            bids,
+            asks,
+            header: self.header(),
+        }
+    }
+
     // The book but for the words of its sides.
-    pub fn header(self) -> Header
+    fn header(self) -> Header
         ensures { λ r. ⌜ r ≡ headerOf self ⌝ }
     {
         let settings = self.settings;

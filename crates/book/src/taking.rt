@@ -11,8 +11,8 @@ ghost use Rattle.level.specs.declared.Side.the-variants.{Bids, Asks};
 ghost use Rattle.settings.specs.Kept.{isM};
 ghost use Rattle.settings.specs.Rules.{rulesOf};
 ghost use Rattle.sides.specs.Worked.{Sound, sideAfter};
-ghost use Rattle.reference.specs.Reference.{isShut, checksumOf, receive, oneMore};
-ghost use Rattle.book.specs.Shown.{shows, bookOf, stepOf, Good, Received};
+ghost use Rattle.reference.specs.Reference.{checksumOf};
+ghost use Rattle.book.specs.Shown.{bookOf, Good, ReceivedIn};
 ghost use Rattle.message.specs.declared.Verdict.the-variants.{Passes};
 ghost use Rattle.book.specs.Taking.{Passed, SidesAfter, Tried, Judged, weighedSides, takenHeader, refusedHeader};
 use crate::Answered;
@@ -47,7 +47,7 @@ pub fn receive(
     table: &[u32],
 ) -> Answered
     requires { ⌜ Good (bookOf (now bids) (now asks) header) × ShiftTable (now table) ⌝ }
-    ensures { λ r. ⌜ Received (receive (shows (bookOf (now (bids .entry)) (now (asks .entry)) header)) (now (s .entry))) (stepOf (now (bids .exit)) (now (asks .exit)) r) ⌝ }
+    ensures { λ r. ⌜ ReceivedIn (bookOf (now (bids .entry)) (now (asks .entry)) header) (now (s .entry)) (now (bids .exit)) (now (asks .exit)) r ⌝ }
 {
     let settings = header.settings;
     let lifecycle = header.lifecycle;
@@ -78,7 +78,7 @@ fn take_asks(
     table: &[u32],
 ) -> Answered
     requires { ⌜ Judged (bookOf (now bids) (now asks) header) (now s) (Passes outline) × ShiftTable (now table) × (outline .bids ≡ 0) ⌝ }
-    ensures { λ r. ⌜ Received (receive (shows (bookOf (now (bids .entry)) (now (asks .entry)) header)) (now (s .entry))) (stepOf (now (bids .exit)) (now (asks .exit)) r) ⌝ }
+    ensures { λ r. ⌜ ReceivedIn (bookOf (now (bids .entry)) (now (asks .entry)) header) (now (s .entry)) (now (bids .exit)) (now (asks .exit)) r ⌝ }
 {
     let last = *asks;
     let answered = try_entries(header, outline, bids, asks, s, table);
@@ -100,7 +100,7 @@ fn take_bids(
     table: &[u32],
 ) -> Answered
     requires { ⌜ Judged (bookOf (now bids) (now asks) header) (now s) (Passes outline) × ShiftTable (now table) × (outline .asks ≡ 0) ⌝ }
-    ensures { λ r. ⌜ Received (receive (shows (bookOf (now (bids .entry)) (now (asks .entry)) header)) (now (s .entry))) (stepOf (now (bids .exit)) (now (asks .exit)) r) ⌝ }
+    ensures { λ r. ⌜ ReceivedIn (bookOf (now (bids .entry)) (now (asks .entry)) header) (now (s .entry)) (now (bids .exit)) (now (asks .exit)) r ⌝ }
 {
     let last = *bids;
     let answered = try_entries(header, outline, bids, asks, s, table);
@@ -122,7 +122,7 @@ fn take_both(
     table: &[u32],
 ) -> Answered
     requires { ⌜ Judged (bookOf (now bids) (now asks) header) (now s) (Passes outline) × ShiftTable (now table) ⌝ }
-    ensures { λ r. ⌜ Received (receive (shows (bookOf (now (bids .entry)) (now (asks .entry)) header)) (now (s .entry))) (stepOf (now (bids .exit)) (now (asks .exit)) r) ⌝ }
+    ensures { λ r. ⌜ ReceivedIn (bookOf (now (bids .entry)) (now (asks .entry)) header) (now (s .entry)) (now (bids .exit)) (now (asks .exit)) r ⌝ }
 {
     let last_bids = *bids;
     let last_asks = *asks;

@@ -11,10 +11,10 @@ use lib.Bits.{bitXor}
 use lib.Dec.{eqb}
 use lib.Pow.{shr-shr}
 use lib.ListN.{length, getD, take, drop, set}
-use lib.Seq.{getD-set-same, getD-set-other, getD-take, getD-drop}
+use lib.Seq.{getD-set-same, getD-set-other, getD-take, getD-drop, ext-getD}
 use Rattle.crc32_spec.specs.Crc.{bits}
 use Rattle.crc32_spec.specs.Laws.{peel, xor-assoc}
-use Rattle.crc32.specs.Table.{movedByte, ShiftTable}
+use Rattle.crc32.specs.Table.{movedByte, ShiftTable, FilledTable}
 
 -- ---- filled from the front
 
@@ -38,6 +38,12 @@ filled-more table i v h e f k l = go (eqb k i) refl
 -- a table of no entries
 pub empty-table : (table : List ℕ) → ShiftTable (take 0 table)
 empty-table table = record { holds = λ k l. absurd (not-suc-le-zero l) }
+
+-- there is one filled table
+pub filled-one : (before : List ℕ) {x y : List ℕ} → FilledTable before x → FilledTable before y → x ≡ y
+filled-one before {x} {y} f g =
+    let e : length x ≡ length y = f .long ∙ sym (g .long) in
+    ext-getD 0 x y e (λ i h. f .right .holds i h ∙ sym (g .right .holds i (omega arith)))
 
 -- ---- four look-ups
 

@@ -13,3 +13,8 @@ movedByte k = bits (8 * (k / 256 + 1)) (k % 256)
 -- a table of any length, whose entries are right; a table of none is one
 pub record ShiftTable (table : List ℕ) : Type 0 where
   pub holds : (k : ℕ) → k < length table → getD table k 0 ≡ movedByte k
+
+-- a table that was filled: as long as it was, and every entry right
+pub record FilledTable (before after : List ℕ) : Type 0 where
+  pub long : length after ≡ length before
+  pub right : ShiftTable after

@@ -6,7 +6,7 @@ ghost use mathlib.Core.Path.{_≡_};
 ghost use Prim.Native.Nat.{_*_, _/_, _%_, _^_, _<_};
 ghost use lib.Bits.{bitXor};
 ghost use Rattle.crc32_spec.specs.Crc.{bits};
-ghost use Rattle.crc32.specs.Table.{ShiftTable};
+ghost use Rattle.crc32.specs.Table.{ShiftTable, FilledTable};
 use crate::lookup::shift;
 
 // The entries of a row, one for each byte.
@@ -15,9 +15,9 @@ const ROW: usize = 256;
 // The entries of a table that moves by up to 64 bytes.
 pub const SHIFT_TABLE: usize = 64 * ROW;
 
-// Fills a table.
+// Fills a table, all of it.
 pub fn fill_table(table: &mut [u32])
-    ensures { λ r. ⌜ ShiftTable (now (table .exit)) ⌝ }
+    ensures { λ r. ⌜ FilledTable (now (table .entry)) (now (table .exit)) ⌝ }
 {
     let mut i = 0;
     while i < table.len() {

@@ -44,9 +44,10 @@ pub fn process_lines(book: Book, s: &[u8], table: &[u32], buffer: &mut [u8]) -> 
     requires { ⌜ Good book × ShiftTable (now table) ⌝ }
     ensures { λ r. ⌜ ProcessedLines (now (s .entry)) (shows book) (now (buffer .entry)) r (now (buffer .exit)) ⌝ }
 {
-    let mut bids = book.bids.words;
-    let mut asks = book.asks.words;
-    let mut header = book.header();
+    let parts = book.split();
+    let mut bids = parts.bids;
+    let mut asks = parts.asks;
+    let mut header = parts.header;
     let mut next = 0;
     let mut written = 0;
     while MAX_REPLY <= buffer.len() - written {

@@ -1,11 +1,12 @@
--- The levels that a list of words holds: how many, one read, and one put in its place. Assumes nothing.
-use Prim.Native.Nat.{ℕ, zero, suc, _+_, _*_, _<_}
-use mathlib.Core.Path.{_≡_, refl, ap}
+-- The levels that a list of words holds: how many, one read, and one put in its place; the words past them. Assumes nothing.
+use Prim.Native.Nat.{ℕ, zero, suc, _+_, _-_, _*_, _≤_, _<_}
+use mathlib.Core.Path.{_≡_, refl, sym, ap, _∙_}
 use mathlib.Core.List.{List, [], _∷_}
 use native.Mathlib.Omega.{arith}
-use lib.ListN.{length, getD, set}
+use lib.ListN.{length, getD, set, drop}
+use lib.Seq.{drop-set-lt, drop-drop}
 use Rattle.level.specs.declared.Level.{Level}
-use Rattle.level.specs.Words.{levelWords, levelOf, levelsIn, noLevel}
+use Rattle.level.specs.Words.{levelWords, levelOf, levelsIn, wordsPast, noLevel}
 
 -- the place of the next level's words
 next : (i k : ℕ) → 3 * suc i + k ≡ suc (suc (suc (3 * i + k)))
@@ -41,3 +42,20 @@ put-words i (p ∷ z ∷ []) price size rest h = absurd (omega arith)
 put-words zero (p ∷ z ∷ r ∷ words) price size rest h = refl
 put-words (suc i) (p ∷ z ∷ r ∷ words) price size rest h =
     rw (next i 1, next i 2, next-first i) (ap (λ (l : List Level). levelOf p z r ∷ l) (put-words i words price size rest (omega arith)))
+
+-- ---- the words past the first levels
+
+pub put-past : (i : ℕ) (words : List ℕ) (price size rest : ℕ)
+    → wordsPast (i + 1) (set (set (set words (3 * i) price) (3 * i + 1) size) (3 * i + 2) rest) ≡ wordsPast (i + 1) words
+unfolding wordsPast
+put-past i words price size rest =
+    drop-set-lt (3 * (i + 1)) (set (set words (3 * i) price) (3 * i + 1) size) (3 * i + 2) rest (omega arith)
+    ∙ drop-set-lt (3 * (i + 1)) (set words (3 * i) price) (3 * i + 1) size (omega arith)
+    ∙ drop-set-lt (3 * (i + 1)) words (3 * i) price (omega arith)
+
+-- what is the same past n levels is the same past more
+pub past-more : (n m : ℕ) (a b : List ℕ) → n ≤ m → wordsPast n a ≡ wordsPast n b → wordsPast m a ≡ wordsPast m b
+unfolding wordsPast
+past-more n m a b h e =
+    let k : 3 * m ≡ 3 * n + 3 * (m - n) = omega arith in
+    ap (λ (j : ℕ). drop j a) k ∙ sym (drop-drop (3 * (m - n)) (3 * n) a) ∙ ap (drop (3 * (m - n))) e ∙ drop-drop (3 * (m - n)) (3 * n) b ∙ sym (ap (λ (j : ℕ). drop j b) k)

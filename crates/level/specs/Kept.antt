@@ -1,8 +1,8 @@
 -- The side that the code keeps. Assumes nothing: these are definitions.
-use Prim.Native.Nat.{ℕ, zero, suc, _*_, _≤_}
+use Prim.Native.Nat.{ℕ, zero, suc, _+_, _*_, _≤_}
 use mathlib.Core.Path.{_≡_}
 use mathlib.Core.List.{List, [], _∷_}
-use lib.ListN.{length, take, set}
+use lib.ListN.{length, take, set, replicate}
 use Rattle.decimal.specs.Limits.{Within}
 use Rattle.level.specs.declared.Side.{Side}
 use Rattle.level.specs.declared.Side.the-variants.{Bids, Asks}
@@ -11,7 +11,7 @@ use Rattle.level.specs.declared.Levels.{Levels}
 use Rattle.level.specs.declared.MaybeLevel.{MaybeLevel}
 use Rattle.level.specs.declared.MaybeLevel.the-variants.{At, Nothing}
 use Rattle.level.specs.Ranked.{All, Sorted}
-use Rattle.level.specs.Words.{levelWords, levelPrice, levelsIn}
+use Rattle.level.specs.Words.{levelWords, levelPrice, levelsIn, wordsPast}
 
 -- How many levels a side keeps, at the most.
 abbrev pub maxLevels : ℕ
@@ -42,13 +42,19 @@ pub record Good (side : Side) (kept : Levels) : Type 0 where
   pub sorted : Sorted levelPrice side (held kept)
   pub within : All (λ level. Within (levelPrice level)) (held kept)
 
--- A side with no level: good as bids and as asks.
+-- The side with no level, in words that are all 0.
+unfoldable pub noLevels : Levels
+noLevels = record { words = replicate maxWords 0; count = 0 }
+
+-- That side: good as bids and as asks.
 pub record Empty (kept : Levels) : Type 0 where
+  pub is : kept ≡ noLevels
   pub none : held kept ≡ []
   pub bids : Good Bids kept
   pub asks : Good Asks kept
 
--- A level put at a place of the words.
+-- A level put at a place of the words, and none past it touched.
 pub record PutAt (words : List ℕ) (i : ℕ) (level : Level) (after : List ℕ) : Type 0 where
   pub room : length after ≡ maxWords
   pub levels : levelsIn after ≡ set (levelsIn words) i level
+  pub past : wordsPast (i + 1) after ≡ wordsPast (i + 1) words

@@ -5,6 +5,7 @@ use Prim.Native.Nat.{ℕ, _+_, _*_, _/_, _%_, _^_, _<_}
 use mathlib.Core.Path.{_≡_}
 use mathlib.Core.Bool.{Bool, true, false, cond}
 use mathlib.Core.List.{List, [], _∷_}
+use lib.ListN.{drop}
 use Rattle.decimal.specs.Decimal.{Number, number, isZero}
 use Rattle.level.specs.declared.Side.{Side}
 use Rattle.level.specs.declared.Level.{Level}
@@ -85,6 +86,10 @@ levelsIn (price ∷ size ∷ rest ∷ words) = levelOf price size rest ∷ level
 levelsIn [] = []
 levelsIn (price ∷ []) = []
 levelsIn (price ∷ size ∷ []) = []
+
+-- The words past the first n levels.
+unfoldable pub wordsPast : ℕ → List ℕ → List ℕ
+wordsPast n words = drop (levelWords * n) words
 
 -- What stands past the last level of a list, where a definition has to say something.
 abbrev pub noLevel : Level

@@ -7,7 +7,7 @@ use lib.Dec.{leb}
 use lib.ListN.{length}
 use Rattle.answer.specs.Answers.{leavesStatus}
 use Rattle.answer.specs.declared.Answer.{Answer}
-use Rattle.answer.specs.declared.Answer.the-variants.{NoSnapshot, OldNumber}
+use Rattle.answer.specs.declared.Answer.the-variants.{Taken, NoSnapshot, OldNumber}
 use Rattle.answer.specs.declared.Answer.the-variants as answer·
 use Rattle.settings.specs.Settings.{good}
 use Rattle.settings.specs.Rules.{rulesOf}
@@ -28,6 +28,7 @@ use Rattle.reference.specs.declared.Scope.the-variants.{Current, LastGood}
 use Rattle.lifecycle.specs.declared.State.{State}
 use Rattle.lifecycle.specs.declared.State.the-variants.{Shut, Waiting, Live}
 use Rattle.lifecycle.specs.declared.Lifecycle.{Lifecycle}
+use Rattle.lifecycle.specs.declared.Counts.{Counts}
 
 unfoldable pub statusOf : State → Status
 statusOf Shut = shut
@@ -51,6 +52,13 @@ unfoldable pub refusalOf : Status → Answer
 refusalOf shut = answer·.Shut
 refusalOf waiting = NoSnapshot
 refusalOf live = NoSnapshot
+
+-- How many bids and asks there are: as many as it has where the question is answered, and none where it is not.
+unfoldable pub countsOf : Lifecycle → Scope → ℕ → ℕ → Counts
+countsOf now scope bids asks =
+    cond (answers (statusOf (now .state)) (now .«had_snapshot») scope)
+    (record { answer = Taken; bids = bids; asks = asks })
+    (record { answer = refusalOf (statusOf (now .state)); bids = 0; asks = 0 })
 
 -- How a book stands after a message that is taken, and after a refusal.
 unfoldable pub liveLifecycle : Lifecycle → Kind → Lifecycle

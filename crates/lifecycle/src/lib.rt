@@ -16,7 +16,7 @@ ghost use mathlib.Core.Bool.{_&&_, _||_, not, cond};
 ghost use lib.Dec.{leb};
 ghost use Rattle.layout.specs.Layout.{isSnapshot};
 ghost use Rattle.reference.specs.Reference.{isShut, oneMore};
-ghost use Rattle.lifecycle.specs.Lifecycle.{statusOf, firstState, answers, refusalOf, liveLifecycle, refusedLifecycle, judgedUpdate, Ruled, judged};
+ghost use Rattle.lifecycle.specs.Lifecycle.{statusOf, firstState, answers, refusalOf, countsOf, liveLifecycle, refusedLifecycle, judgedUpdate, Ruled, judged};
 
 const MAX_UPDATES: u64 = 4294967295;
 
@@ -33,6 +33,13 @@ pub struct Lifecycle {
     pub state: State,
     // Whether a snapshot was ever taken.
     pub had_snapshot: bool,
+}
+
+// The answer to the question how many bids and asks there are.
+pub struct Counts {
+    pub answer: Answer,
+    pub bids: usize,
+    pub asks: usize,
 }
 
 pub fn first_state(dialect: Dialect) -> State
@@ -83,6 +90,24 @@ pub fn refusal(lifecycle: Lifecycle) -> Answer
         State::Shut => Answer::Shut,
         State::Waiting => Answer::NoSnapshot,
         State::Live => Answer::NoSnapshot,
+    }
+}
+
+// The answer to the question how many bids and asks there are, of a book that stands so and has that many.
+pub fn count_levels(lifecycle: Lifecycle, scope: Scope, bids: usize, asks: usize) -> Counts
+    ensures { λ r. ⌜ r ≡ countsOf lifecycle scope bids asks ⌝ }
+{
+    if stands(lifecycle, scope) {
+        return Counts {
+            answer: Answer::Taken,
+            bids,
+            asks,
+        };
+    }
+    Counts {
+        answer: refusal(lifecycle),
+        bids: 0,
+        asks: 0,
     }
 }
 

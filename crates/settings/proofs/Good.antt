@@ -1,5 +1,5 @@
 -- Laws of good settings: each case of the tests. Assumes nothing.
-use Prim.Native.Nat.{ℕ, zero, suc, _+_, _≤_, _<_}
+use Prim.Native.Nat.{ℕ, zero, suc, _+_, _-_, _≤_, _<_}
 use mathlib.Core.Path.{_≡_, refl, sym, ap, ap₂, _∙_, subst}
 use mathlib.Core.Bool.{Bool, true, false, _&&_, not}
 use mathlib.Core.List.{List, [], _∷_, _++_}
@@ -7,9 +7,10 @@ use native.Mathlib.Omega.{arith}
 use native.Mathlib.Numerals.{add-one}
 use borrow.Author.Tests.{leb-true, leb-false, le-leb, lt-leb, eq-eqb, ne-eqb}
 use lib.Dec.{leb, eqb}
-use lib.ListN.{length, getD, take, drop, set, drop-of-length-le}
-use lib.Seq.{drop-cons, take-suc, take-suc-set}
+use lib.ListN.{length, getD, take, drop, set, replicate, drop-of-length-le, take-append-drop}
+use lib.Seq.{drop-cons, take-suc, take-suc-set, drop-set-lt, drop-drop}
 use Rattle.settings.specs.Settings.{Config, goodDepth, nameByte, nameBytes, goodName, good, kept, shut}
+use Rattle.settings.specs.Kept.{padded}
 use Rattle.settings.specs.declared.Dialect.{Dialect}
 use Rattle.settings.specs.declared.Dialect.the-variants.{K, M, Unknown}
 
@@ -83,6 +84,16 @@ copied-more name copy i h k e =
     ∙ take-suc-set copy i (getD name i 0) k
     ∙ ap (λ (l : List ℕ). l ++ (getD name i 0 ∷ [])) e
     ∙ sym (ap (λ (n : ℕ). take n name) (add-one i) ∙ take-suc name i 0 h)
+
+-- and the bytes past it are 0 still
+pub zeros-more : (copy : List ℕ) (i v : ℕ) → i < 16 → drop i copy ≡ replicate (16 - i) 0 → drop (i + 1) (set copy i v) ≡ replicate (16 - (i + 1)) 0
+zeros-more copy i v h e =
+    let k : 16 - i ≡ suc (16 - (i + 1)) = omega arith in
+    drop-set-lt (i + 1) copy i v (omega arith) ∙ sym (drop-drop 1 i copy) ∙ ap (drop 1) (e ∙ ap (λ (n : ℕ). replicate n 0) k)
+
+pub padded-whole : (name copy : List ℕ) → take (length name) copy ≡ name → drop (length name) copy ≡ replicate (16 - length name) 0 → copy ≡ padded name
+unfolding padded
+padded-whole name copy e f = sym (take-append-drop (length name) copy) ∙ ap₂ (λ (x y : List ℕ). x ++ y) e f
 
 -- ---- settings
 

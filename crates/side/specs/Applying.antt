@@ -6,7 +6,7 @@ use lib.ListN.{length}
 use Rattle.decimal.specs.Limits.{Within}
 use Rattle.level.specs.Side.{Edit, applyAll}
 use Rattle.level.specs.Ranked.{All, named, afterMessage, replaced}
-use Rattle.level.specs.Words.{levelPrice, entriesOf}
+use Rattle.level.specs.Words.{levelPrice, wordsPast, entriesOf}
 use Rattle.level.specs.Kept.{held, keptIn, Good}
 use Rattle.level.specs.declared.Side.{Side}
 use Rattle.level.specs.declared.Level.{Level}
@@ -25,9 +25,10 @@ pub record Given (prices sizes packs : List ℕ) : Type 0 where
   pub within : All (λ e. Within (named levelPrice e)) (entriesOf prices sizes packs)
 
 -- A side with a message's entries applied: the levels that are left in the words are the definition's, the count is that before the cut, and `replaced`
--- says whether some entry set a level at a price where one stood by then.
+-- says whether some entry set a level at a price where one stood by then. No word past the levels that are left is touched.
 pub record AfterEntries (side : Side) (depth : ℕ) (entries : List (Edit Level)) (kept : Levels) (words : List ℕ) (applied : Applied) : Type 0 where
   pub good : Good side (keptIn words (applied .left))
   pub levels : held (keptIn words (applied .left)) ≡ afterMessage levelPrice side depth entries (held kept)
   pub count : applied .count ≡ length (applyAll levelPrice entries (held kept))
   pub replaced : applied .replaced ≡ replaced levelPrice entries (held kept)
+  pub past : wordsPast (applied .left) words ≡ wordsPast (applied .left) (kept .words)

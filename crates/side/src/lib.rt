@@ -31,7 +31,7 @@ pub struct Applied {
 }
 
 // A side after a message's entries for it: each a place of the three slices, which are as long as each other. The side is the
-// first `kept` levels of the words, and then the first `left` of what is answered.
+// first `kept` levels of the words, and then the first `left` of what is answered; the words past these stay as they are.
 pub fn apply(
     words: &mut [u64; MAX_WORDS],
     kept: usize,

@@ -82,6 +82,7 @@ module _ (m : Bool) (side : Side) (depth : ℕ) (kept : Levels) (s : List ℕ) (
         levels = ap (map shown) (unchanged (k .good) few) ∙ shown-afterMessage side depth [] (held kept);
         count = sym (held-length kept (k .good .few) (k .good .room)) ∙ sym l;
         replaced = refl;
+        past = refl;
       })
 
   -- ---- entries
@@ -102,4 +103,5 @@ module _ (m : Bool) (side : Side) (depth : ℕ) (kept : Levels) (s : List ℕ) (
           levels = applied-levels a ∙ ap (λ (x : List (Edit PriceLevel)). afterMessage shownPrice side depth x (map shown (held kept))) q;
           count = applied-count a ∙ ap (λ (x : List (Edit PriceLevel)). length (applyAll shownPrice x (map shown (held kept)))) q;
           replaced = applied-met a ∙ ap (λ (x : List (Edit PriceLevel)). replaced shownPrice x (map shown (held kept))) q;
+          past = a .past;
         }

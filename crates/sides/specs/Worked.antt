@@ -7,7 +7,7 @@ use lib.Dec.{eqb}
 use lib.ListN.{length, drop}
 use Rattle.decimal.specs.Limits.{Within}
 use Rattle.level.specs.Level.{PriceLevel, shownPrice}
-use Rattle.level.specs.Words.{levelSize, shown}
+use Rattle.level.specs.Words.{levelSize, shown, wordsPast}
 use Rattle.level.specs.Side.{Edit, applyAll}
 use Rattle.level.specs.Ranked.{All, afterMessage, replaced}
 use Rattle.level.specs.Kept.{keptIn, held, Good}
@@ -44,3 +44,5 @@ pub record Worked (m : Bool) (side : Side) (depth : ℕ) (edits : List (Edit Pri
   pub levels : map shown (held (r .levels)) ≡ afterMessage shownPrice side depth edits (map shown (held kept))
   pub count : r .count ≡ length (applyAll shownPrice edits (map shown (held kept)))
   pub replaced : r .replaced ≡ replaced shownPrice edits (map shown (held kept))
+  -- no word past the levels that are left is touched
+  pub past : wordsPast (r .levels .count) (r .levels .words) ≡ wordsPast (r .levels .count) (kept .words)

@@ -11,7 +11,8 @@ use level::Side;
 use side::Applied;
 
 // The side after the entries in the array at `at`, of which there are `count`; `m` says that the dialect is M, else it is K. The side
-// is the first `kept` levels of the words, and then the first `left` of what is answered. No entries leave the words as they are.
+// is the first `kept` levels of the words, and then the first `left` of what is answered. The words past these
+// stay as they are, and with no entries all do.
 pub fn apply_entries(
     words: &mut [u64; MAX_WORDS],
     kept: usize,

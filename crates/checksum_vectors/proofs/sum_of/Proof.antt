@@ -14,14 +14,14 @@ m-checksum-requires c κs =
     let a = c .before .before .before .before .before .before .before .before .before .before .before .args .book in
     let b = c .before .before .before .before .before .before .before .before .before .before .before .pre in
     let is = c .before .before .before .before .before .if1 .taken in
-    (b .bids .good, b .asks .good, subst (λ (m : Bool). All (Carries (pieceFor m)) (held (a .bids))) is (b .bids .carried), subst (λ (m : Bool). All (Carries (pieceFor m)) (held (a .asks))) is (b .asks .carried), c .before .before .before .before .before .before .before .fill-table .ensures)
+    (b .bids .good, b .asks .good, subst (λ (m : Bool). All (Carries (pieceFor m)) (held (a .bids))) is (b .bids .carried), subst (λ (m : Bool). All (Carries (pieceFor m)) (held (a .asks))) is (b .asks .carried), c .before .before .before .before .before .before .before .fill-table .ensures .right)
 
 k-checksum-requires : tie.Need-k-checksum-requires
 k-checksum-requires c κs =
     let a = c .before .before .before .before .before .before .before .before .before .before .before .args .book in
     let b = c .before .before .before .before .before .before .before .before .before .before .before .pre in
     let is = c .before .before .before .before .before .if1 .left in
-    (b .bids .good, b .asks .good, subst (λ (m : Bool). All (Carries (pieceFor m)) (held (a .bids))) is (b .bids .carried), subst (λ (m : Bool). All (Carries (pieceFor m)) (held (a .asks))) is (b .asks .carried), c .before .before .before .before .before .before .before .fill-table .ensures)
+    (b .bids .good, b .asks .good, subst (λ (m : Bool). All (Carries (pieceFor m)) (held (a .bids))) is (b .bids .carried), subst (λ (m : Bool). All (Carries (pieceFor m)) (held (a .asks))) is (b .asks .carried), c .before .before .before .before .before .before .before .fill-table .ensures .right)
 
 pub sum-of-spec : {M : Type 1} → statement M
 sum-of-spec =

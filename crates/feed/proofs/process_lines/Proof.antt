@@ -12,11 +12,17 @@ use Rattle.reference.specs.Reference.{receive}
 use Rattle.feed.specs.Feed.{replyTo}
 use Rattle.feed.proofs.Replying.{reply-is}
 use Rattle.book.specs.Shown.{Good, shows, bookOf}
+use Rattle.book.proofs.Asking.{counts-told}
+use Rattle.reference.specs.declared.Scope.the-variants.{Current}
 use Rattle.book.specs.declared.Book.{Book}
-use Rattle.book.specs.declared.Header.{Header}
+use Rattle.book.specs.declared.BookParts.{BookParts}
 use Rattle.feed.proofs.Processing.{Walk, begun, ended-lines, ended-room, went-on, heard-as}
 use Rattle.feed.proofs.process_lines.Statement.{statement}
 use Rattle.feed.proofs.process_lines.Tie as tie
+
+-- a book that was taken apart
+abbrev joined : BookParts → Book
+joined x = bookOf (x .bids) (x .asks) (x .header)
 
 abbrev Inv-loop : tie.InvT-loop
 Inv-loop s table buffer₀ bids₀ asks₀ header₀ next₀ written₀ buffer bids asks header next written = Walk s (shows (bookOf bids₀ asks₀ header₀)) buffer₀ buffer (bookOf bids asks header) next written
@@ -27,7 +33,7 @@ abbrev μ-loop : tie.MeasureT-loop
 -- ---- the line, and the reply to it
 
 abbrev line : tie.After-number-of Inv-loop μ-loop → List ℕ
-line c = take (c .before .before .before .before .before .before .before .before .find .result - c .before .before .before .before .before .before .before .before .before .before .loop .next) (drop (c .before .before .before .before .before .before .before .before .before .before .loop .next) (c .before .before .before .before .before .before .before .before .before .before .before .before .before .before .before .before .before .args .s .now))
+line c = take (c .before .before .before .before .before .before .before .before .find .result - c .before .before .before .before .before .before .before .before .before .before .loop .next) (drop (c .before .before .before .before .before .before .before .before .before .before .loop .next) (c .before .before .before .before .before .before .before .before .before .before .before .before .before .before .before .before .before .before .args .s .now))
 
 abbrev text : tie.After-number-of Inv-loop μ-loop → List ℕ
 text c = replyText (c .before .before .before .take .result .answer) (eqb (c .number-of .result) 0) (c .before .counts .result .bids) (c .before .counts .result .asks)
@@ -38,7 +44,7 @@ bookAt c = let l = c .before .before .before .before .before .before .before .be
 reply : (c : tie.After-number-of Inv-loop μ-loop) → text c ≡ replyTo (receive (shows (bookAt c)) (line c))
 reply c =
     let t = c .before .before .before .take in
-    reply-is (shows (bookAt c)) (line c) (t .ensures) (c .before .counts .ensures .of (t .last .1 .0) (t .last .1 .1 .0) (t .ensures .good)) (c .number-of .ensures)
+    reply-is (shows (bookAt c)) (line c) (t .ensures .received) (counts-told (t .result .header) Current (c .before .counts .result) (c .before .counts .ensures) (t .last .1 .0) (t .last .1 .1 .0) (t .ensures .received .good)) (c .number-of .ensures)
 
 fits : (c : tie.After-number-of Inv-loop μ-loop) → c .before .before .before .before .before .before .before .before .before .before .loop .written + length (text c) ≤ length (c .before .before .before .before .before .before .before .before .before .before .loop .buffer)
 fits c =
@@ -51,9 +57,8 @@ fits c =
 
 loop-holds : tie.Need-loop-holds Inv-loop μ-loop
 loop-holds c =
-    let s = c .before .before .before .before .before .before in
-    let b = s .args .book in
-    begun (s .args .s .now) (s .args .buffer .now) (subst (λ (h : Header). Good (bookOf (b .bids .words) (b .asks .words) h)) (sym (c .header .ensures)) (s .pre .0))
+    let s = c .before .before .before .before .before .before .before in
+    begun (s .args .s .now) (s .args .buffer .now) (subst (λ (x : BookParts). Good (joined x)) (sym (c .before .before .before .split .ensures)) (s .pre .0))
 
 sub-loop : tie.Need-sub-loop Inv-loop μ-loop
 sub-loop c = c .loop .inv .room
@@ -63,18 +68,17 @@ find-requires c κs = c .before .loop .inv .within
 
 returns : tie.Need-returns Inv-loop μ-loop
 returns c =
-    let b = c .before .before .before .before .before .before .before .before .before .before .before .args .book in
-    heard-as (ap (λ (h : Header). shows (bookOf (b .bids .words) (b .asks .words) h)) (c .before .before .before .before .before .header .ensures)) (c .join .ensures)
+    heard-as (ap (λ (x : BookParts). shows (joined x)) (c .before .before .before .before .before .before .before .before .split .ensures)) (c .join .ensures)
     (ended-lines (c .before .before .before .before .loop .inv) (c .before .before .find .ensures .2) (c .before .if1 .taken))
 
 take-requires : tie.Need-take-requires Inv-loop μ-loop
-take-requires c κs = (c .before .before .before .before .before .before .loop .inv .good, c .before .before .before .before .before .before .before .before .before .before .before .before .before .pre .1)
+take-requires c κs = (c .before .before .before .before .before .before .loop .inv .good, c .before .before .before .before .before .before .before .before .before .before .before .before .before .before .pre .1)
 
 write-reply-requires : tie.Need-write-reply-requires Inv-loop μ-loop
 write-reply-requires c κs = fits (c .before)
 
 add-next : tie.Need-add-next Inv-loop μ-loop
-add-next c = let h = c .before .before .before .before .before .before .before .before .before .before .before .if1 .left in let g = c .before .before .before .before .before .before .before .before .before .before .before .before .before .before .before .before .before .before .before .before .before .good in omega arith
+add-next c = let h = c .before .before .before .before .before .before .before .before .before .before .before .if1 .left in let g = c .before .before .before .before .before .before .before .before .before .before .before .before .before .before .before .before .before .before .before .before .before .before .good in omega arith
 
 loop-less : tie.Need-loop-less Inv-loop μ-loop
 loop-less c = let w = c .before .before .before .before .before .before .before .before .before .before .before .before .find .ensures in omega arith
@@ -83,12 +87,11 @@ loop-again : tie.Need-loop-again Inv-loop μ-loop
 loop-again c =
     let n = c .before .before .before .before in
     let find = c .before .before .before .before .before .before .before .before .before .before .before .before .find in
-    went-on (c .before .before .before .before .before .before .before .before .before .before .before .before .before .before .loop .inv) (find .ensures .2) (c .before .before .before .before .before .before .before .before .before .before .before .if1 .left) (c .before .before .before .before .before .before .before .before .before .before .before .before .before .loop-test .taken) (c .before .before .before .before .before .before .before .take .ensures .good) (c .before .before .before .before .before .before .before .take .ensures .same) (reply n) (fits n) (c .before .before .write-reply .ensures)
+    went-on (c .before .before .before .before .before .before .before .before .before .before .before .before .before .before .loop .inv) (find .ensures .2) (c .before .before .before .before .before .before .before .before .before .before .before .if1 .left) (c .before .before .before .before .before .before .before .before .before .before .before .before .before .loop-test .taken) (c .before .before .before .before .before .before .before .take .ensures .received .good) (c .before .before .before .before .before .before .before .take .ensures .received .same) (reply n) (fits n) (c .before .before .write-reply .ensures)
 
 returns-2 : tie.Need-returns-2 Inv-loop μ-loop
 returns-2 c =
-    let b = c .before .before .before .before .before .before .before .before .before .args .book in
-    heard-as (ap (λ (h : Header). shows (bookOf (b .bids .words) (b .asks .words) h)) (c .before .before .before .header .ensures)) (c .join2 .ensures)
+    heard-as (ap (λ (x : BookParts). shows (joined x)) (c .before .before .before .before .before .before .split .ensures)) (c .join2 .ensures)
     (ended-room (c .before .before .loop .inv) (c .before .loop-test .left))
 
 pub process-lines-spec : {M : Type 1} → statement M

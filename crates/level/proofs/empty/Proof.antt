@@ -2,13 +2,14 @@
 use mathlib.Core.Path.{refl}
 use native.Mathlib.Omega.{arith}
 use Rattle.level.specs.Ranked.{All, Sorted}
-use Rattle.level.specs.Kept.{held}
+use Rattle.level.specs.Kept.{held, noLevels}
 use Rattle.level.proofs.empty.Statement.{statement}
 use Rattle.level.proofs.empty.Tie as tie
 
 returns : tie.Need-returns
-unfolding held All Sorted
+unfolding held All Sorted noLevels
 returns c = record {
+  is = refl;
   none = refl;
   bids = record { few = omega arith; room = refl; sorted = tt; within = tt };
   asks = record { few = omega arith; room = refl; sorted = tt; within = tt };

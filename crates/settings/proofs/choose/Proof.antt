@@ -2,29 +2,37 @@
 use Prim.Native.Nat.{ℕ, zero-le}
 use mathlib.Core.Path.{_≡_, refl, sym, ap, _∙_}
 use mathlib.Core.List.{List}
+use lib.ListN.{length}
 use Rattle.settings.specs.Settings.{Config}
-use Rattle.settings.specs.Kept.{configOf}
+use Rattle.settings.specs.Kept.{configOf, padded, settingsOf}
 use Rattle.settings.proofs.Good.{good-short, kept-good, kept-none}
 use borrow.Author.Needs.{needs}
 use Rattle.settings.proofs.choose.Statement.{statement}
 use Rattle.settings.proofs.choose.Tie as tie
 
+abbrev given : tie.Start → Config
+given s = record { dialect = s .args .dialect; depth = s .args .depth; name = s .args .name .now }
+
 copy-name-requires : tie.Need-copy-name-requires
-copy-name-requires c κs = good-short (record { dialect = c .before .before .before .args .dialect; depth = c .before .before .before .args .depth; name = c .before .before .before .args .name .now }) (sym (c .before .is-good .ensures) ∙ c .if1 .taken)
+copy-name-requires c κs = good-short (given (c .before .before .before)) (sym (c .before .is-good .ensures) ∙ c .if1 .taken)
 
 returns : tie.Need-returns
-unfolding configOf
+unfolding configOf settingsOf
 returns c =
+    let t = given (c .before .before .before .before) in
     let g = sym (c .before .before .is-good .ensures) ∙ c .before .if1 .taken in
     record {
-      config = ap (λ (n : List ℕ). record { dialect = c .before .before .before .before .args .dialect; depth = c .before .before .before .before .args .depth; name = n }) (c .copy-name .ensures .front) ∙ sym (kept-good (record { dialect = c .before .before .before .before .args .dialect; depth = c .before .before .before .before .args .depth; name = c .before .before .before .before .args .name .now }) g);
+      is = ap (λ (n : List ℕ). record { dialect = t .dialect; depth = t .depth; name = n; length = length (t .name) }) (c .copy-name .ensures .is) ∙ sym (ap settingsOf (kept-good t g));
+      config = ap (λ (n : List ℕ). record { dialect = t .dialect; depth = t .depth; name = n }) (c .copy-name .ensures .front) ∙ sym (kept-good t g);
       room = c .copy-name .ensures .room;
-      short = good-short (record { dialect = c .before .before .before .before .args .dialect; depth = c .before .before .before .before .args .depth; name = c .before .before .before .before .args .name .now }) g;
+      short = good-short t g;
     }
 
 returns-2 : tie.Need-returns-2
-unfolding configOf
-returns-2 c = record { config = sym (kept-none (record { dialect = c .before .before .before .args .dialect; depth = c .before .before .before .args .depth; name = c .before .before .before .args .name .now }) (sym (c .before .is-good .ensures) ∙ c .if1 .left)); room = refl; short = zero-le }
+unfolding configOf settingsOf padded
+returns-2 c =
+    let none = kept-none (given (c .before .before .before)) (sym (c .before .is-good .ensures) ∙ c .if1 .left) in
+    record { is = sym (ap settingsOf none); config = sym none; room = refl; short = zero-le }
 
 pub choose-spec : {M : Type 1} → statement M
 choose-spec =

@@ -1,6 +1,6 @@
 -- `apply` meets its contract: with no entry the definition leaves a side in order as it is; otherwise `work` does it.
 use Prim.Native.Nat.{_≤_}
-use mathlib.Core.Path.{_≡_, sym, _∙_}
+use mathlib.Core.Path.{_≡_, refl, sym, _∙_}
 use native.Mathlib.Omega.{arith}
 use borrow.Author.Needs.{needs}
 use lib.ListN.{length}
@@ -23,6 +23,7 @@ returns c =
       levels = nothing-levels (s .args .side) (s .args .prices .now) (s .args .sizes .now) (s .args .packs .now) (held (keptIn (s .args .words .now) (s .args .kept))) none (s .args .depth) short (s .pre .0 .sorted);
       count = sym (long s) ∙ nothing-count (s .args .side) (s .args .prices .now) (s .args .sizes .now) (s .args .packs .now) (held (keptIn (s .args .words .now) (s .args .kept))) none;
       replaced = nothing-met (s .args .side) (s .args .prices .now) (s .args .sizes .now) (s .args .packs .now) (held (keptIn (s .args .words .now) (s .args .kept))) none;
+      past = refl;
     }
 
 pub apply-spec : {M : Type 1} → statement M

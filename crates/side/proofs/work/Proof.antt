@@ -18,14 +18,14 @@ use Rattle.level.specs.declared.Change.the-variants.{Set, Remove}
 use Rattle.level.specs.Words.{levelPrice}
 use Rattle.level.specs.Side.{Edit, sets, removes, nearer, without, applyAll}
 use Rattle.level.specs.Ranked.{All, standing, afterMessage, named, replaces, replaced, Sorted}
-use Rattle.level.specs.Words.{levelsIn, noLevel, edit, entriesOf}
+use Rattle.level.specs.Words.{levelsIn, wordsPast, noLevel, edit, entriesOf}
 use Rattle.level.specs.Kept.{maxWords, keptIn, held, Good}
 use Rattle.side.specs.Applying.{Given, AfterEntries}
 use Rattle.level.proofs.All.{all-take}
 use Rattle.level.proofs.Ranking.{applyRanked, sorted-take}
 use Rattle.level.proofs.Meeting.{standing-at}
 use Rattle.side.proofs.Shift.{up, up-start, up-turn, length-up, down, down-start, down-turn, length-down}
-use Rattle.level.proofs.Stored.{length-levels}
+use Rattle.level.proofs.Stored.{length-levels, past-more}
 use Rattle.side.proofs.Find.{Bracket, bracket-start, bracket-up, bracket-down, past, past-same, past-none, bracket-head, set-new, set-same, remove-same, remove-none, none-standing}
 use Rattle.side.proofs.Entries.{Sound, SoundEdit, theEdit, Turn, turn-start, turn-step, sound-next, turn-levels, turn-count, turn-met, key, sound-at, ahead-at, same-at, other-at, copied, cut-short, cut-whole}
 use Rattle.side.proofs.work.Statement.{statement}
@@ -62,7 +62,7 @@ abbrev μ-entry : tie.MeasureT-entry
 μ-entry words kept side depth prices sizes packs levels₀ count₀ i replaced₀ k₀ levels count replaced k = length prices - k
 
 abbrev Inv-cut : tie.InvT-cut
-Inv-cut words₀ kept depth prices sizes packs levels count i₀ replaced k left words i = (length words ≡ maxWords) × (i ≤ left) × (take i (levelsIn words) ≡ take i levels)
+Inv-cut words₀ kept depth prices sizes packs levels count i₀ replaced k left words i = (length words ≡ maxWords) × (i ≤ left) × (take i (levelsIn words) ≡ take i levels) × (wordsPast i words ≡ wordsPast i words₀)
 
 abbrev μ-cut : tie.MeasureT-cut
 μ-cut words₀ kept depth prices sizes packs levels count i₀ replaced k left words i = left - i
@@ -361,7 +361,7 @@ entry-again-4 c =
     (remove-none levelPrice (s v .args .side) (A v) (N v) (p .low) (room v) le (P v) (p .inv .0 .ahead) high)
 
 cut-holds : tie.Need-cut-holds Inv-load μ-load Inv-find μ-find Inv-down μ-down Inv-up μ-up Inv-entry μ-entry Inv-cut μ-cut
-cut-holds c = (c .before .before .before .before .before .before .before .before .pre .0 .room, omega arith, refl)
+cut-holds c = (c .before .before .before .before .before .before .before .before .pre .0 .room, omega arith, refl, refl)
 
 mul-level-3 : tie.Need-mul-level-3 Inv-load μ-load Inv-find μ-find Inv-down μ-down Inv-up μ-up Inv-entry μ-entry Inv-cut μ-cut
 mul-level-3 c = omega (arith, cut-eq (c .before .before) .1, c .before .before .before .before .before .before .before .before .before .before .pre .2)
@@ -388,6 +388,7 @@ cut-again c =
       omega arith,
       ap (take (p .i + 1)) (w .levels)
           ∙ copied (E .entry .levels) (levelsIn (p .words)) (p .i) noLevel (omega (arith, q .1)) (omega (arith, q .1, length-levels 100 (p .words) (p .inv .0))) (p .inv .2),
+      w .past ∙ past-more (p .i) (p .i + 1) (p .words) (St E .args .words .now) (omega arith) (p .inv .3),
     )
 
 returns : tie.Need-returns Inv-load μ-load Inv-find μ-find Inv-down μ-down Inv-up μ-up Inv-entry μ-entry Inv-cut μ-cut
@@ -424,6 +425,7 @@ returns c =
           turn-met (s .args .side) (s .args .prices .now) (s .args .sizes .now) (s .args .packs .now) (s .pre .1) kept (s .args .kept)
           (E .entry .levels) (E .entry .count) (E .entry .k) (E .entry .replaced) (E .entry .inv) past sorted
           ∙ ap (replaced levelPrice es) o;
+      past = rw i at (p .inv .3);
     }
 
 pub work-spec : {M : Type 1} → statement M

@@ -1,9 +1,8 @@
 -- `receive` meets its contract: a message that is judged to pass is taken or refused by what it has entries for.
-use mathlib.Core.Path.{sym, subst}
+use mathlib.Core.Path.{refl, sym, subst}
 use denote.Ref.{now}
 use Rattle.message.specs.declared.Verdict.the-variants.{Passes}
-use Rattle.reference.specs.Reference.{receive}
-use Rattle.book.specs.Shown.{shows, bookOf, stepOf, Received}
+use Rattle.book.specs.Shown.{bookOf, ReceivedIn}
 use Rattle.book.specs.Taking.{Judged, refusedStep}
 use Rattle.book.specs.declared.Book.{Book}
 use Rattle.book.specs.declared.Header.{Header}
@@ -37,8 +36,15 @@ returns-3 c =
     let a = c .before .before .before .before .before .before .before .before .before .args in
     let b = bookOf (now (a .bids)) (now (a .asks)) (a .header) in
     let x = c .before .before .refusal .given .0 .0 in
-    subst (λ (h : Header). Received (receive (shows b) (now (a .s))) (stepOf (now (a .bids)) (now (a .asks)) (record { header = h; answer = x }))) (sym (c .refuse .ensures))
-    (subst (Judged b (now (a .s))) (c .before .before .refusal .given .1) (judged-by b (now (a .s)) (c .before .before .before .before .before .before .before .before .before .pre .0) (c .before .before .before .before .judge .result) (c .before .before .before .before .judge .ensures)))
+    subst (λ (h : Header). ReceivedIn b (now (a .s)) (now (a .bids)) (now (a .asks)) (record { header = h; answer = x })) (sym (c .refuse .ensures))
+    (record {
+      received = subst (Judged b (now (a .s))) (c .before .before .refusal .given .1) (judged-by b (now (a .s)) (c .before .before .before .before .before .before .before .before .before .pre .0) (c .before .before .before .before .judge .result) (c .before .before .before .before .judge .ensures));
+      settings = refl;
+      bids-past = λ y. refl;
+      asks-past = λ y. refl;
+      bids-back = λ y. refl;
+      asks-back = λ y. refl;
+    })
 
 pub receive-spec : {M : Type 1} → statement M
 receive-spec =

@@ -3,8 +3,7 @@ use mathlib.Core.Path.{sym, subst, _∙_}
 use mathlib.Core.List.{List}
 use Prim.Native.Nat.{ℕ}
 use denote.Ref.{now}
-use Rattle.reference.specs.Reference.{receive}
-use Rattle.book.specs.Shown.{shows, bookOf, stepOf, Received}
+use Rattle.book.specs.Shown.{bookOf, ReceivedIn}
 use Rattle.book.specs.declared.Book.{Book}
 use borrow.Author.Needs.{needs}
 use Rattle.book.proofs.taking.take_bids.Statement.{statement}
@@ -20,7 +19,7 @@ returns-2 : tie.Need-returns-2
 returns-2 c =
     let s = c .before .before .before .before .before .before .before .before in
     let t = c .before .before .try-entries in
-    subst (λ (w : List ℕ). Received (receive (shows (bookAt s)) (now (s .args .s))) (stepOf (now (s .args .bids)) w (t .result))) (sym (t .ensures .asks-stay (s .pre .2)))
+    subst (λ (w : List ℕ). ReceivedIn (bookAt s) (now (s .args .s)) (now (s .args .bids)) w (t .result)) (sym (t .ensures .asks-stay (s .pre .2)))
     (t .ensures .refused (sym (c .before .is-taken .ensures) ∙ c .if1 .left))
 
 pub take-bids-spec : {M : Type 1} → statement M

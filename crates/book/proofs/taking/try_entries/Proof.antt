@@ -1,5 +1,5 @@
 -- `try_entries` meets its contract: what the entries make of the sides, and then what the checks give.
-use mathlib.Core.Path.{_≡_, sym, subst, _∙_}
+use mathlib.Core.Path.{_≡_, refl, sym, subst, _∙_}
 use mathlib.Core.Bool.{true≢false}
 use mathlib.Core.List.{List}
 use Prim.Native.Nat.{ℕ}
@@ -9,8 +9,7 @@ use Rattle.settings.specs.Rules.{rulesOf}
 use Rattle.sides.specs.Worked.{SideAfter, sideAfter}
 use Rattle.layout.specs.declared.Outline.{Outline}
 use Rattle.message.specs.declared.Verdict.the-variants.{Passes}
-use Rattle.reference.specs.Reference.{receive}
-use Rattle.book.specs.Shown.{shows, bookOf, stepOf, Received}
+use Rattle.book.specs.Shown.{bookOf, ReceivedIn}
 use Rattle.book.specs.Taking.{Passed, Judged, refusedStep, keptStep}
 use Rattle.book.specs.declared.Book.{Book}
 use Rattle.book.specs.declared.Header.{Header}
@@ -53,10 +52,19 @@ returns c =
     let s = n .before .before .before .before .before .before in
     let answer = c .before .before .before .weigh .result in
     let is = sym (c .before .before .is-taken .ensures) ∙ c .before .if1 .taken in
+    let bids = n .enter .ensures .bids-worked in
+    let asks = n .enter .ensures .asks-worked in
     record {
       taken = λ t.
-          subst (λ (h : Header). Received (receive (shows (bookAt s)) (textAt s)) (stepOf (bidsOf n .levels .words) (asksOf n .levels .words) (record { header = h; answer = answer }))) (sym (c .renew .ensures))
-          (kept-told (bookAt s) (textAt s) (outlineAt s) (passed s) (early s) (bidsOf n) (asksOf n) (n .enter .ensures .bids-worked) (n .enter .ensures .asks-worked) answer (c .before .before .before .weigh .ensures) is);
+          subst (λ (h : Header). ReceivedIn (bookAt s) (textAt s) (bidsOf n .levels .words) (asksOf n .levels .words) (record { header = h; answer = answer })) (sym (c .renew .ensures))
+          (record {
+            received = kept-told (bookAt s) (textAt s) (outlineAt s) (passed s) (early s) (bidsOf n) (asksOf n) bids asks answer (c .before .before .before .weigh .ensures) is;
+            settings = refl;
+            bids-past = λ y. bids .past;
+            asks-past = λ y. asks .past;
+            bids-back = λ y. absurd (true≢false (sym is ∙ y));
+            asks-back = λ y. absurd (true≢false (sym is ∙ y));
+          });
       refused = λ t. absurd (true≢false (sym is ∙ t));
       bids-stay = n .enter .ensures .bids-stay;
       asks-stay = n .enter .ensures .asks-stay;
@@ -72,8 +80,15 @@ returns-2 c =
     record {
       taken = λ t. absurd (true≢false (sym t ∙ is));
       refused = λ t.
-          subst (λ (h : Header). Received (receive (shows (bookAt s)) (textAt s)) (stepOf (bookAt s .bids .words) (bookAt s .asks .words) (record { header = h; answer = answer }))) (sym (c .refuse .ensures))
-          (left-told (bookAt s) (textAt s) (outlineAt s) (passed s) (early s) (bidsOf n) (asksOf n) (n .enter .ensures .bids-worked) (n .enter .ensures .asks-worked) answer (c .before .before .before .weigh .ensures) is);
+          subst (λ (h : Header). ReceivedIn (bookAt s) (textAt s) (bookAt s .bids .words) (bookAt s .asks .words) (record { header = h; answer = answer })) (sym (c .refuse .ensures))
+          (record {
+            received = left-told (bookAt s) (textAt s) (outlineAt s) (passed s) (early s) (bidsOf n) (asksOf n) (n .enter .ensures .bids-worked) (n .enter .ensures .asks-worked) answer (c .before .before .before .weigh .ensures) is;
+            settings = refl;
+            bids-past = λ y. refl;
+            asks-past = λ y. refl;
+            bids-back = λ y. refl;
+            asks-back = λ y. refl;
+          });
       bids-stay = n .enter .ensures .bids-stay;
       asks-stay = n .enter .ensures .asks-stay;
     }

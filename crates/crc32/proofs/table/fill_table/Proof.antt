@@ -31,7 +31,7 @@ loop-again c =
 returns : tie.Need-returns Inv-loop μ-loop
 returns c =
     let w = c .before .loop in
-    record { holds = λ k l. w .inv .2 k (omega arith) }
+    record { long = w .inv .1; right = record { holds = λ k l. w .inv .2 k (omega arith) } }
 
 pub fill-table-spec : {M : Type 1} → statement M
 fill-table-spec =

@@ -7,7 +7,7 @@ use lib.ListN.{length-set, set}
 use Rattle.level.specs.declared.Level.{Level}
 use Rattle.level.specs.Words.{levelOf, levelsIn}
 use Rattle.level.proofs.Packing.{level-packed}
-use Rattle.level.proofs.Stored.{put-words}
+use Rattle.level.proofs.Stored.{put-words, put-past}
 use borrow.Author.Needs.{needs}
 use Rattle.level.proofs.words.put_level.Statement.{statement}
 use Rattle.level.proofs.words.put_level.Tie as tie
@@ -22,6 +22,7 @@ returns c =
           put-words (a .i) (a .words .now) (a .level .price) (a .level .size) (c .pack .result) (omega (arith, c .before .pre .0, c .before .pre .1))
           ∙ ap (λ (l : Level). set (levelsIn (a .words .now)) (a .i) l)
           (ap (levelOf (a .level .price) (a .level .size)) (p .word) ∙ level-packed (a .level) (p .fits));
+      past = put-past (a .i) (a .words .now) (a .level .price) (a .level .size) (c .pack .result);
     }
 
 pub put-level-spec : {M : Type 1} → statement M

@@ -2,15 +2,21 @@
 -- book, writings-out into buffers of any length and content. Assumes nothing: these are definitions.
 use Prim.Native.Nat.{ℕ}
 use mathlib.Core.Path.{_≡_}
+use mathlib.Core.Bool.{Bool, true, false}
 use mathlib.Core.List.{List, [], _∷_, map}
+use lib.ListN.{take}
 use contract.Lifetimes.{Lfts}
 use denote.Ref.{RefT, now}
 use Rattle.decimal.specs.Decimal.{number as numberOf}
 use Rattle.answer.specs.declared.Answer.{Answer}
 use Rattle.settings.specs.declared.Dialect.{Dialect}
 use Rattle.level.specs.declared.Side.{Side}
-use Rattle.reference.specs.Reference.{opened, Value, nothing, counts, level, amount, Reply, message, question, howMany, levelAt, whichNumber, howManyUpdates, write, Call, repliesTo}
-use Rattle.reference.specs.Claims.{call}
+use Rattle.settings.specs.Settings.{kept}
+use Rattle.layout.specs.declared.Kind.the-variants.{Snapshot}
+use Rattle.message.specs.Meaning.{Message, decodes, decode}
+use Rattle.answer.specs.declared.Answer.the-variants.{Taken}
+use Rattle.reference.specs.Reference.{opened, Value, nothing, counts, level, amount, Reply, message, Question, question, howMany, levelAt, whichNumber, howManyUpdates, write, Call, repliesTo}
+use Rattle.reference.specs.Claims.{call, ofLevels}
 use Rattle.reference.specs.declared.Scope.{Scope}
 use Rattle.book.specs.declared.Book.{Book}
 use Rattle.book.specs.declared.Step.{Step}
@@ -64,3 +70,26 @@ abbrev pub Demand-3 : Type 0
 Demand-3 = (κs : Lfts 1) (dialect : Dialect) (depth : ℕ) (name : RefT (List ℕ)) (b e : Book) (cs : List Call) (rs : List Seen)
     → opens.Learnt κs (dialect, (depth, (name, tt))) b (dialect, (depth, (name, tt))) → Made b cs rs e
     → rs ≡ map seen (repliesTo (opened (record { dialect = dialect; depth = depth; name = now name })) cs)
+
+-- ---- two books of the code, opened with the same settings
+
+-- A newly opened book.
+abbrev pub Opens : Dialect → ℕ → List ℕ → Book → Type 0
+Opens dialect depth name b = (κs : Lfts 1) × (n : RefT (List ℕ)) × (now n ≡ name) × opens.Learnt κs (dialect, (depth, (n, tt))) b (dialect, (depth, (n, tt)))
+
+-- From a taken snapshot on, all that is seen of one book is what is seen of a new one that is handed the snapshot and what followed.
+abbrev pub From-snapshot-code : Type 0
+From-snapshot-code = (dialect : Dialect) (depth : ℕ) (name : List ℕ) (b c e n f : Book) (cs ds : List Call) (s buffer : List ℕ) (m : Message) (r : Seen) (qs rs ts : List Seen)
+    → Opens dialect depth name b → Made b cs qs c → Made c (call (message s) buffer ∷ ds) (r ∷ rs) e
+    → decode (kept (record { dialect = dialect; depth = depth; name = name })) s ≡ decodes m → m .kind ≡ Snapshot → r .answer ≡ Taken
+    → Opens dialect depth name n → Made n (call (message s) buffer ∷ ds) ts f
+    → r ∷ rs ≡ ts
+
+-- The bytes that the writer left in the lent room, handed to a new book: it takes them, and answers every question on levels and number as the book that
+-- was written out.
+abbrev pub Round-trip-code : Type 0
+Round-trip-code = (dialect : Dialect) (depth : ℕ) (name : List ℕ) (b c d e n f : Book) (cs : List Call) (lent buffer u : List ℕ) (k : ℕ) (q : Question) (qs : List Seen) (w r a z : Seen)
+    → Opens dialect depth name b → Made b cs qs c → Made c (call (question write) lent ∷ []) (w ∷ []) d → w .answer ≡ Taken → w .value ≡ amount k
+    → Opens dialect depth name n → Made n (call (message (take k (w .buffer))) buffer ∷ call (question q) u ∷ []) (r ∷ a ∷ []) f
+    → ofLevels q ≡ true → Made c (call (question q) u ∷ []) (z ∷ []) e
+    → (r .answer ≡ Taken) × (a ≡ z)

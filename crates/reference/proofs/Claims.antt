@@ -153,10 +153,15 @@ module _ (t : Config) (p : Reference) (r : Reached t p) (s : List ℕ) (m : Mess
       go (is-refused n l o e) = absurd (not-taken (receive p s .answer) n h)
       go (is-accepted n d a e) = let same : n ≡ m = cc (sym (r .config)) in hear-new (rw same at a)
 
-pub from-snapshot : From-snapshot
+-- the replies from the snapshot on are a new book's
+pub fresh-replies : (t : Config) (cs ds : List Call) (s buffer : List ℕ) (m : Message) → decode (kept t) s ≡ decodes m → m .kind ≡ Snapshot
+    → receive (final (opened t) cs) s .answer ≡ Taken → repliesTo (final (opened t) cs) (call (message s) buffer ∷ ds) ≡ repliesTo (opened t) (call (message s) buffer ∷ ds)
 unfolding repliesTo does
+fresh-replies t cs ds s buffer m q k h = rw (hear-fresh t (final (opened t) cs) (reached t cs) s m q k h)
+
+pub from-snapshot : From-snapshot
 from-snapshot t cs ds s buffer m q k h =
-    run-append (opened t) cs (call (message s) buffer ∷ ds) ∙ rw (hear-fresh t (final (opened t) cs) (reached t cs) s m q k h)
+    run-append (opened t) cs (call (message s) buffer ∷ ds) ∙ ap (λ (x : List Reply). repliesTo (opened t) cs ++ x) (fresh-replies t cs ds s buffer m q k h)
 
 -- ---- the latest snapshot
 

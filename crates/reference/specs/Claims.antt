@@ -16,7 +16,7 @@ use Rattle.answer.specs.Answers.{answerNumber as numberOf, oneOf, toMessages, t
 use Rattle.message.specs.Meaning.{Message, Decoded, refuses, decodes, decode}
 use Rattle.answer.specs.declared.Answer.{Answer}
 use Rattle.answer.specs.declared.Answer.the-variants.{Taken, Shut, NoSnapshot}
-use Rattle.reference.specs.Reference.{Status, waiting, live, withStatus, Reference, rules, isShut, isLive, opened, sidesAfter, pricesOf, checksumOf, taken, receive, Question, write, zeros, respond, Reply, Ask, message, question, does, Call, repliesTo, final, snapshotText}
+use Rattle.reference.specs.Reference.{Status, waiting, live, withStatus, Reference, rules, isShut, isLive, opened, sidesAfter, pricesOf, checksumOf, taken, receive, Question, howMany, levelAt, whichNumber, howManyUpdates, write, zeros, respond, Reply, Ask, message, question, does, Call, repliesTo, final, snapshotText}
 use Rattle.reference.specs.declared.Scope.{Scope}
 use Rattle.reference.specs.declared.Scope.the-variants.{Current, LastGood}
 
@@ -195,3 +195,11 @@ pub record ReadsBack (t : Config) (p : Reference) : Type 0 where
 
 abbrev pub Round-trip : Type 0
 Round-trip = (t : Config) (cs : List Call) → isLive (final (opened t) cs .status) ≡ true → ReadsBack t (final (opened t) cs)
+
+-- A question on the levels or on the number.
+unfoldable pub ofLevels : Question → Bool
+ofLevels (howMany scope) = true
+ofLevels (levelAt scope side i) = true
+ofLevels (whichNumber scope) = true
+ofLevels (howManyUpdates scope) = false
+ofLevels write = false

@@ -36,7 +36,7 @@ use Rattle.level.specs.declared.Levels.{Levels}
 use Rattle.level.proofs.Lengths.{length-ranked, length-applyAll, afterMessage-whole}
 use Rattle.level.proofs.Meeting.{met-snapshot}
 use Rattle.sides.specs.Worked.{SideAfter, Sound, editsAt, Worked}
-use Rattle.entries.specs.Arrays.{Ready}
+use Rattle.entries.specs.Arrays.{formOf, Ready}
 use Rattle.layout.specs.Layout.{Layout}
 use Rattle.layout.specs.Scan.{isPrinted, sumOf, outlineOf}
 use Rattle.layout.specs.declared.Outline.{Outline}
@@ -46,7 +46,7 @@ use Rattle.answer.specs.declared.Answer.{Answer}
 use Rattle.message.specs.declared.Verdict.{Verdict}
 use Rattle.message.specs.declared.Verdict.the-variants.{Fails, Passes}
 use Rattle.answer.specs.declared.Answer.the-variants.{Taken, PriceTwice, NoSnapshot, OldNumber, TooManyLevels, WrongChecksum}
-use Rattle.message.proofs.Where.{entryIn, LieIn, framed-lies}
+use Rattle.message.proofs.Where.{formIn, LieIn, framed-lies}
 use Rattle.reference.specs.Reference.{isLive, Reference, editOf, cut, afterChanges, bidsAfter, asksAfter, pricesOf, checksumOf, namesPriceTwice, lacksSnapshot, isOld, hasTooMany, hasWrongChecksum, verdict, taken, refusedBy, answered, receive}
 use Rattle.settings.specs.Settings.{isM}
 use Rattle.book.specs.Shown.{shows, Good, Received}
@@ -177,7 +177,7 @@ module _ (b : Book) (s : List ℕ) (o : Outline) (k : Passed b s o) where
   unfolding configOf
   hundred = good-depth terms good-terms .1
 
-  lie : LieIn (entryIn d) s l
+  lie : LieIn (formIn d) s l
   unfolding configOf
   lie = framed-lies terms s l (also-framed terms s l (k .checked-as) .0)
 
@@ -185,21 +185,21 @@ module _ (b : Book) (s : List ℕ) (o : Outline) (k : Passed b s o) where
   few = framed-few terms s l (also-framed terms s l (k .checked-as) .0)
 
   -- what the outline has
-  pub ready-bids : Ready (isM d) s (o .«bids_at») (o .bids)
+  pub ready-bids : Ready (formIn d) s (o .«bids_at») (o .bids)
   unfolding outlineOf
-  ready-bids = rw (k .outlined) (listed-ready readable s (l .bids) (few .0) (lie .bids))
+  ready-bids = rw (k .outlined) (listed-ready (formIn d) s (l .bids) (few .0) (lie .bids))
 
-  pub ready-asks : Ready (isM d) s (o .«asks_at») (o .asks)
+  pub ready-asks : Ready (formIn d) s (o .«asks_at») (o .asks)
   unfolding outlineOf
-  ready-asks = rw (k .outlined) (listed-ready readable s (l .asks) (few .1) (lie .asks))
+  ready-asks = rw (k .outlined) (listed-ready (formIn d) s (l .asks) (few .1) (lie .asks))
 
   bids-edits : editsAt (isM d) s (o .«bids_at») (o .bids) ≡ map editOf (m .bids)
   unfolding outlineOf messageOf
-  bids-edits = ap (λ (x : Outline). editsAt (isM d) s (x .«bids_at») (x .bids)) (k .outlined) ∙ listed-edits readable s (l .bids) (lie .bids)
+  bids-edits = ap (λ (x : Outline). editsAt (isM d) s (x .«bids_at») (x .bids)) (k .outlined) ∙ listed-edits d s (l .bids) (lie .bids)
 
   asks-edits : editsAt (isM d) s (o .«asks_at») (o .asks) ≡ map editOf (m .asks)
   unfolding outlineOf messageOf
-  asks-edits = ap (λ (x : Outline). editsAt (isM d) s (x .«asks_at») (x .asks)) (k .outlined) ∙ listed-edits readable s (l .asks) (lie .asks)
+  asks-edits = ap (λ (x : Outline). editsAt (isM d) s (x .«asks_at») (x .asks)) (k .outlined) ∙ listed-edits d s (l .asks) (lie .asks)
 
   o-snapshot : m .snapshot ≡ o .snapshot
   unfolding outlineOf messageOf
@@ -478,8 +478,8 @@ module _ (b : Book) (s : List ℕ) (o : Outline) (k : Passed b s o) where
   -- ---- what `apply_entries` requires and gives, t being whether the dialect is M, and n the count of a side before the entries
 
   module _ (t : Bool) (is : t ≡ isM d) (side : Side) (kept : Levels) (n : ℕ) (counts : n ≡ cond (o .snapshot) 0 (kept .count)) (at count : ℕ) where
-    pub asked-as : Ready (isM d) s at count → Sound (isM d) side kept → length (held kept) ≤ b .settings .depth
-        → Sound t side (keptIn (kept .words) n) × Ready t s at count × (b .settings .depth ≤ 100) × (length (held (keptIn (kept .words) n)) ≤ b .settings .depth)
+    pub asked-as : Ready (formIn d) s at count → Sound (isM d) side kept → length (held kept) ≤ b .settings .depth
+        → Sound t side (keptIn (kept .words) n) × Ready (formOf t) s at count × (b .settings .depth ≤ 100) × (length (held (keptIn (kept .words) n)) ≤ b .settings .depth)
     asked-as r z f = let y = before-asked side kept z f in rw (is, counts) (y .0, r, depth-most, y .1)
 
     pub worked-as : (a : SideAfter) → Worked t side (b .settings .depth) (editsAt t s at count) (keptIn (kept .words) n) a

@@ -17,20 +17,19 @@ use Rattle.settings.specs.Settings.{Config, good, goodDepth, goodName}
 use Rattle.settings.specs.declared.Dialect.{Dialect}
 use Rattle.settings.specs.declared.Dialect.the-variants.{K, M, Unknown}
 use Rattle.entries.specs.Places.{andThen, all, arrayAt, inner, top}
-use Rattle.entries.specs.Rows.{Row, entryK, entryM, entryFor, entriesAt, numberAt, badTexts, badSize}
+use Rattle.entries.specs.Rows.{Row, entriesAt, numberAt, badTexts, badSize}
 use Rattle.entries.specs.Summary.{zeroSize, anyZero}
 use Rattle.entries.proofs.Claims.{zero-none}
-use Rattle.entries.proofs.Shift.{Even, k-even, m-even, shifted-rows, shifted-loadable}
+use Rattle.entries.proofs.Shift.{shifted-rows}
 use Rattle.layout.specs.Layout.{Listed, Layout, Envelope}
 use Rattle.message.specs.Meaning.{LevelChange, levelChangeAt, Checked, fails, passes, bad, decimals, alsoDecimals, tooMany, counted, laidOut, addressed, envelopeIn, framed, checked}
 use Rattle.answer.specs.declared.Answer.{Answer}
 use Rattle.answer.specs.declared.Answer.the-variants.{TooLong, NotJson, Escaped, NotOurs, BadLayout, TooManyEntries, BadDecimal}
-use Rattle.message.proofs.Entering.{Readable, entry-same, entry-even}
-use Rattle.message.proofs.Where.{entryIn, Lies, nowhere, there, LieIn, framed-lies}
+use Rattle.message.proofs.Where.{formIn, Lies, nowhere, there}
 use Rattle.level.specs.Level.{PriceLevel, shownPrice}
 use Rattle.level.specs.Side.{Edit, sets, removes}
 use Rattle.level.specs.Ranked.{All, IsSet, named}
-use Rattle.entries.specs.Arrays.{Loadable, rowsAt, Ready}
+use Rattle.entries.specs.Arrays.{rowsAt}
 use Rattle.loader.specs.Loaded.{editFor, editAt}
 use Rattle.loader.proofs.Shift.{edits-shift}
 use Rattle.sides.specs.Worked.{editsAt}
@@ -43,19 +42,18 @@ unfolding editAt editFor editOf levelChangeAt
 quote-edit s [] = refl
 quote-edit s (r ∷ l) = ap (λ (x : List (Edit PriceLevel)). editAt s r ∷ x) (quote-edit s l)
 
-module _ {d : Dialect} (r : Readable d) (s : List ℕ) (l : Listed) where
+module _ (d : Dialect) (s : List ℕ) (l : Listed) where
   -- the entries of a side do what the message says
-  pub listed-edits : Lies (entryIn d) s l → editsAt (isM d) s (l .at) (length (l .rows)) ≡ map editOf (map (levelChangeAt s) (l .rows))
+  pub listed-edits : Lies (formIn d) s l → editsAt (isM d) s (l .at) (length (l .rows)) ≡ map editOf (map (levelChangeAt s) (l .rows))
   unfolding editsAt
   listed-edits (nowhere e) = rw e
   listed-edits (there to q) =
-      let q′ : entriesAt (entryFor (isM d)) s (record { from = l .at; to = to }) ≡ reads (l .rows) = subst (λ (e : List ℕ → Span → Reading Row). entriesAt e s (record { from = l .at; to = to }) ≡ reads (l .rows)) (entry-same r) q in
-      let x = shifted-rows (l .at) s (drop (l .at) s) refl (entryFor (isM d)) (entry-even (l .at) s r) to (l .rows) q′ in
-      let w = sym (edits-shift (l .at) s (rowsAt (entryFor (isM d)) (drop (l .at) s))) ∙ ap (map (editAt s)) (sym x) ∙ quote-edit s (l .rows) in
+      let x = shifted-rows (l .at) s (drop (l .at) s) refl (formIn d) to (l .rows) q in
+      let w = sym (edits-shift (l .at) s (rowsAt (formIn d) (drop (l .at) s))) ∙ ap (map (editAt s)) (sym x) ∙ quote-edit s (l .rows) in
       at (eqb (length (l .rows)) 0) refl w
     where
-      at : (b : Bool) → eqb (length (l .rows)) 0 ≡ b → map (editAt (drop (l .at) s)) (rowsAt (entryFor (isM d)) (drop (l .at) s)) ≡ map editOf (map (levelChangeAt s) (l .rows))
-          → cond b [] (map (editAt (drop (l .at) s)) (rowsAt (entryFor (isM d)) (drop (l .at) s))) ≡ map editOf (map (levelChangeAt s) (l .rows))
+      at : (b : Bool) → eqb (length (l .rows)) 0 ≡ b → map (editAt (drop (l .at) s)) (rowsAt (formIn d) (drop (l .at) s)) ≡ map editOf (map (levelChangeAt s) (l .rows))
+          → cond b [] (map (editAt (drop (l .at) s)) (rowsAt (formIn d) (drop (l .at) s))) ≡ map editOf (map (levelChangeAt s) (l .rows))
       at false h w = w
       at true h w = empty (l .rows) (eqb-true (length (l .rows)) 0 h)
         where

@@ -38,7 +38,7 @@ use Rattle.level.specs.declared.Levels.{Levels}
 use Rattle.level.proofs.Lengths.{length-ranked, length-applyAll, afterMessage-whole}
 use Rattle.level.proofs.Meeting.{met-snapshot}
 use Rattle.sides.specs.Worked.{SideAfter, Sound, editsAt, Worked}
-use Rattle.entries.specs.Arrays.{Ready}
+use Rattle.entries.specs.Arrays.{formOf, Ready}
 use Rattle.layout.specs.Layout.{isSnapshot, Layout}
 use Rattle.layout.specs.Scan.{isPrinted, sumOf, outlineOf}
 use Rattle.layout.specs.declared.Kind.{Kind}
@@ -49,7 +49,7 @@ use Rattle.answer.specs.declared.Answer.{Answer}
 use Rattle.message.specs.declared.Verdict.{Verdict}
 use Rattle.message.specs.declared.Verdict.the-variants.{Fails, Passes}
 use Rattle.answer.specs.declared.Answer.the-variants.{Taken, PriceTwice, NoSnapshot, OldNumber, TooManyLevels, WrongChecksum}
-use Rattle.message.proofs.Where.{entryIn, LieIn, framed-lies}
+use Rattle.message.proofs.Where.{formIn, LieIn, framed-lies}
 use Rattle.reference.specs.Reference.{live, isLive, Sides, Reference, editOf, afterChanges, sidesAfter, pricesOf, checksumOf, namesPriceTwice, lacksSnapshot, isOld, hasTooMany, differs, hasWrongChecksum, verdict, oneMore, taken, refusedBy, answered, receive}
 use Rattle.settings.specs.Kept.{isM}
 use Rattle.book.specs.Shown.{shows, Good, Received}
@@ -188,7 +188,7 @@ module _ (b : Book) (s : List ℕ) (o : Outline) (k : Passed b s o) where
   unfolding configOf
   fits = good-rules terms good-terms
 
-  lie : LieIn (entryIn d) s l
+  lie : LieIn (formIn d) s l
   unfolding configOf
   lie = framed-lies terms s l (also-framed terms s l (k .checked-as) .0)
 
@@ -196,21 +196,21 @@ module _ (b : Book) (s : List ℕ) (o : Outline) (k : Passed b s o) where
   few = framed-few terms s l (also-framed terms s l (k .checked-as) .0)
 
   -- what the outline has
-  pub ready-bids : Ready (isM d) s (o .«bids_at») (o .bids)
+  pub ready-bids : Ready (formIn d) s (o .«bids_at») (o .bids)
   unfolding outlineOf
-  ready-bids = rw (k .outlined) (listed-ready readable s (l .bids) (few .0) (lie .bids))
+  ready-bids = rw (k .outlined) (listed-ready (formIn d) s (l .bids) (few .0) (lie .bids))
 
-  pub ready-asks : Ready (isM d) s (o .«asks_at») (o .asks)
+  pub ready-asks : Ready (formIn d) s (o .«asks_at») (o .asks)
   unfolding outlineOf
-  ready-asks = rw (k .outlined) (listed-ready readable s (l .asks) (few .1) (lie .asks))
+  ready-asks = rw (k .outlined) (listed-ready (formIn d) s (l .asks) (few .1) (lie .asks))
 
   bids-edits : editsAt (isM d) s (o .«bids_at») (o .bids) ≡ map editOf (m .bids)
   unfolding outlineOf messageOf
-  bids-edits = ap (λ (x : Outline). editsAt (isM d) s (x .«bids_at») (x .bids)) (k .outlined) ∙ listed-edits readable s (l .bids) (lie .bids)
+  bids-edits = ap (λ (x : Outline). editsAt (isM d) s (x .«bids_at») (x .bids)) (k .outlined) ∙ listed-edits d s (l .bids) (lie .bids)
 
   asks-edits : editsAt (isM d) s (o .«asks_at») (o .asks) ≡ map editOf (m .asks)
   unfolding outlineOf messageOf
-  asks-edits = ap (λ (x : Outline). editsAt (isM d) s (x .«asks_at») (x .asks)) (k .outlined) ∙ listed-edits readable s (l .asks) (lie .asks)
+  asks-edits = ap (λ (x : Outline). editsAt (isM d) s (x .«asks_at») (x .asks)) (k .outlined) ∙ listed-edits d s (l .asks) (lie .asks)
 
   o-kind : m .kind ≡ o .kind
   unfolding outlineOf messageOf
@@ -354,8 +354,8 @@ module _ (b : Book) (s : List ℕ) (o : Outline) (k : Passed b s o) where
   -- ---- what `apply_entries` requires and gives, t being whether the dialect is M, and n the count of a side before the entries
 
   module _ (t : Bool) (is : t ≡ isM d) (side : Side) (kept : Levels) (n : ℕ) (counts : n ≡ cond (isSnapshot (o .kind)) 0 (kept .count)) (at count : ℕ) where
-    pub asked-as : Ready (isM d) s at count → Sound (isM d) side kept → length (held kept) ≤ b .settings .depth
-        → Sound t side (keptIn (kept .words) n) × Ready t s at count × (b .settings .depth ≤ 100) × (length (held (keptIn (kept .words) n)) ≤ b .settings .depth)
+    pub asked-as : Ready (formIn d) s at count → Sound (isM d) side kept → length (held kept) ≤ b .settings .depth
+        → Sound t side (keptIn (kept .words) n) × Ready (formOf t) s at count × (b .settings .depth ≤ 100) × (length (held (keptIn (kept .words) n)) ≤ b .settings .depth)
     asked-as r z f = let y = before-asked side kept z f in rw (is, counts) (y .0, r, depth-most, y .1)
 
     pub worked-as : (a : SideAfter) → Worked t side (b .settings .depth) (editsAt t s at count) (keptIn (kept .words) n) a

@@ -3,16 +3,17 @@
 use mathlib.Core.Path.{_≡_, refl, sym, _∙_}
 use mathlib.Core.List.{List, [], _∷_, _++_}
 use mathlib.Core.Bool.{Bool, true, false, true≢false, _&&_, _||_, cond}
-use Prim.Native.Nat.{ℕ}
+use Prim.Native.Nat.{ℕ, zero, suc}
 use native.Mathlib.Omega.{arith}
 use Rattle.decimal.specs.Digits.{Reading, reads, refused}
 use Rattle.decimal.specs.Decimal.{Number, read, isZero}
 use Rattle.json.specs.Json.{Span}
 use lib.ListN.{length}
 use Rattle.entries.specs.Places.{andThen, all, inner, arrayAt}
-use Rattle.entries.specs.Rows.{Row, entriesDepth, entriesAt, badPrice, badSize, badTexts}
+use Rattle.entries.specs.Rows.{Row, entryOf, entriesAt, badPrice, badSize, badTexts}
 use Rattle.entries.specs.Summary.{zeroSize, anyBroken, anyZero, noEntries, summaryOf}
-use Rattle.entries.proofs.Strings.{StringAt, Sound, no-row}
+use Rattle.entries.specs.declared.Form.{Form}
+use Rattle.entries.proofs.Strings.{StringAt, sound, no-row}
 
 no-list : {A B : Type 0} {a : A} {l : List A} → _≡_ {A = List A} (a ∷ l) [] → B
 no-list h = let z : _≡_ {A = ℕ} 0 1 = cc in absurd (omega arith)
@@ -107,25 +108,26 @@ pub data Strings (s : List ℕ) : List Row → Type 0 where
   no-rows : Strings s []
   one-row : (r : Row) (l : List Row) → StringAt s (r .price) → StringAt s (r .size) → Strings s l → Strings s (r ∷ l)
 
-module _ (entry : List ℕ → Span → Reading Row) (s : List ℕ) (sound : Sound entry s) where
-  all-strings : (l : List Span) (rows : List Row) → all (entry s) l ≡ reads rows → Strings s rows
+module _ (form : Form) (s : List ℕ) where
+  all-strings : (d : ℕ) (l : List Span) (rows : List Row) → all (entryOf form d s) l ≡ reads rows → Strings s rows
   unfolding all andThen
-  all-strings [] rows h = let z : rows ≡ [] = cc in rw z no-rows
-  all-strings (a ∷ l) rows h = go (entry s a) refl (all (entry s) l) (λ bs k. all-strings l bs k) h
+  all-strings d [] rows h = let z : rows ≡ [] = cc in rw z no-rows
+  all-strings d (a ∷ l) rows h = go (entryOf form d s a) refl (all (entryOf form d s) l) (λ bs k. all-strings d l bs k) h
     where
-      go : (y : Reading Row) → entry s a ≡ y → (z : Reading (List Row)) → ((bs : List Row) → z ≡ reads bs → Strings s bs)
+      go : (y : Reading Row) → entryOf form d s a ≡ y → (z : Reading (List Row)) → ((bs : List Row) → z ≡ reads bs → Strings s bs)
           → andThen y (λ b. andThen z (λ bs. reads (b ∷ bs))) ≡ reads rows → Strings s rows
       go (reads r) q (reads bs) k g =
-          let c = sound a r q in
+          let c = sound form d s a r q in
           let z : rows ≡ r ∷ bs = cc in
           rw z (one-row r bs (c .0) (c .1) (k bs refl))
       go (reads r) q refused k g = no-row g
       go refused q z k g = no-row g
 
-  pub rows-strings : (a : Span) (rows : List Row) → entriesAt entry s a ≡ reads rows → Strings s rows
+  pub rows-strings : (depth : ℕ) (a : Span) (rows : List Row) → entriesAt form depth s a ≡ reads rows → Strings s rows
   unfolding entriesAt andThen
-  rows-strings a rows h = go (arrayAt entriesDepth s a) h
+  rows-strings zero a rows h = no-row h
+  rows-strings (suc d) a rows h = go (arrayAt (suc d) s a) h
     where
-      go : (x : Reading (List Span)) → andThen x (all (entry s)) ≡ reads rows → Strings s rows
-      go (reads l) g = all-strings l rows g
+      go : (x : Reading (List Span)) → andThen x (all (entryOf form d s)) ≡ reads rows → Strings s rows
+      go (reads l) g = all-strings d l rows g
       go refused g = no-row g

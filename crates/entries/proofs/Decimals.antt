@@ -11,7 +11,7 @@ use lib.Dec.{eqb, leb, lit<}
 use lib.ListN.{length, getD, take, drop, length-append, length-drop, take-append-drop}
 use lib.Seq.{drop-drop, length-take-le}
 use Rattle.text.specs.Text.{isDigit, byteAt}
-use Rattle.decimal.specs.Digits.{Reading, reads, refused, leading}
+use Rattle.decimal.specs.Digits.{reads, refused, leading}
 use Rattle.decimal.specs.Decimal.{Number, number, noNumber, Prefix, prefixed, isWhole, fractional, prefix, read, maxWhole, maxDecimals}
 use Rattle.decimal.specs.Limits.{Within}
 use Rattle.decimal.specs.declared.Decimal.{Decimal}
@@ -22,11 +22,12 @@ use Rattle.json_tokens.specs.Tokens.{At, blanks, chars, separator, stringRest, 
 use Rattle.json_tokens.proofs.Laws.{here, in-byte, string-yes}
 use Rattle.json.specs.Json.{Span}
 use Rattle.entries.specs.Places.{inner}
-use Rattle.entries.specs.Rows.{Row, entryFor, numberAt}
+use Rattle.entries.specs.Rows.{numberAt}
 use Rattle.entries.specs.Summary.{entryPlaceOf, priceSpan, sizeSpan, entryPlaceAt}
 use Rattle.entries.specs.Front.{EntryEnd}
 use Rattle.entries.specs.Decimals.{QuotedAt, TwoDecimals, NumberOf, EntryAt}
 use Rattle.entries.specs.Counting.{withNumbers, counted}
+use Rattle.entries.specs.declared.Form.{Form}
 use Rattle.entries.specs.declared.EntryPlace.{EntryPlace}
 use Rattle.entries.specs.declared.Entries.{Entries}
 use Rattle.entries.specs.declared.Amounts.{Amounts}
@@ -156,10 +157,10 @@ module _ (s : List ℕ) (at : ℕ) (opens : byteAt s at ≡ 91) (k : ℕ) (begin
 
 -- ---- the entry that they begin, which ends at e
 
-module _ (entry : List ℕ → Span → Reading Row) (s : List ℕ) (at : ℕ) (a : Amounts) (d : TwoDecimals s at a) (e : ℕ) (fits : EntryEnd entry s (a .end) e)
+module _ (form : Form) (depth : ℕ) (s : List ℕ) (at : ℕ) (a : Amounts) (d : TwoDecimals s at a) (e : ℕ) (fits : EntryEnd form depth s (a .end) e)
     (more : e ≡ 0 → ⊥) where
   abbrev found : EntryPlace
-  found = entryPlaceAt entry s at
+  found = entryPlaceAt form depth s at
 
   found-is : found ≡ entryPlaceOf e (reads (record { price = priceSpan (d .found); size = sizeSpan (d .found) }))
   found-is = fits .some more at (d .found) (d .two) (d .ends)
@@ -179,7 +180,7 @@ module _ (entry : List ℕ → Span → Reading Row) (s : List ℕ) (at : ℕ) (
   pub decimals-past : at < e
   decimals-past =
       let n = ends-at in
-      let p = found-past entry s at found refl (λ z. more (sym n ∙ z)) in
+      let p = found-past form depth s at found refl (λ z. more (sym n ∙ z)) in
       omega arith
 
   pub decimals-counted : (sum : Entries) → withNumbers sum e (number (a .price)) (number (a .size)) ≡ counted s sum found
@@ -199,12 +200,12 @@ module _ (s : List ℕ) (a : Span) where
   unfolding numberAt
   number-none d e h = record { is = rw (h, numberAt) e; within = subst Within (sym e) (record { few = omega arith; low = lit< tt }) }
 
-pub entry-numbers : (m : Bool) (s : List ℕ) (at : ℕ) (a : Amounts) (d : TwoDecimals s at a) (e : ℕ) (fits : EntryEnd (entryFor m) s (a .end) e) (more : e ≡ 0 → ⊥)
-    → EntryAt m s at (record { price = a .price; size = a .size; end = e })
-entry-numbers m s at a d e fits more =
-    let f = entryPlaceAt (entryFor m) s at in
+pub entry-numbers : (form : Form) (depth : ℕ) (s : List ℕ) (at : ℕ) (a : Amounts) (d : TwoDecimals s at a) (e : ℕ) (fits : EntryEnd form depth s (a .end) e) (more : e ≡ 0 → ⊥)
+    → EntryAt form depth s at (record { price = a .price; size = a .size; end = e })
+entry-numbers form depth s at a d e fits more =
+    let f = entryPlaceAt form depth s at in
     record {
-      end = sym (ends-at (entryFor m) s at a d e fits more);
-      price = number-read s (priceSpan f) (a .price) (price-reads (entryFor m) s at a d e fits more);
-      size = number-read s (sizeSpan f) (a .size) (size-reads (entryFor m) s at a d e fits more);
+      end = sym (ends-at form depth s at a d e fits more);
+      price = number-read s (priceSpan f) (a .price) (price-reads form depth s at a d e fits more);
+      size = number-read s (sizeSpan f) (a .size) (size-reads form depth s at a d e fits more);
     }

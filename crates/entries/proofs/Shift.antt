@@ -15,9 +15,11 @@ use Rattle.json_tokens.proofs.Shift.{past-one, byte-shift}
 use Rattle.json.specs.Json.{Span, Items, elements, value}
 use Rattle.json.proofs.Shift.{shiftedSpan, ItemsShifts, both-items, no-items, elements-shift}
 use Rattle.entries.specs.Places.{andThen, all, isString, contents, arrayAt, inner}
-use Rattle.entries.specs.Rows.{Row, maxEntries, entriesDepth, entryDepth, rowK, entryK, rowM, entryM, entriesAt, badPrice, badSize, badTexts, numberAt}
+use Rattle.entries.specs.Rows.{Row, maxEntries, rowK, rowM, rowOf, entryOf, entriesAt, badPrice, badSize, badTexts, numberAt}
 use Rattle.entries.specs.Summary.{zeroSize, anyBroken, anyZero}
-use Rattle.entries.specs.Arrays.{rowsAt, Loadable}
+use Rattle.entries.specs.Arrays.{entriesDepth, rowsAt, Loadable}
+use Rattle.entries.specs.declared.Form.{Form}
+use Rattle.entries.specs.declared.Form.the-variants.{Triple, Pair}
 use Rattle.entries.proofs.Strings.{no-row, same-row}
 use Rattle.entries.proofs.Rows.{rows-are, loadable}
 
@@ -111,49 +113,36 @@ module _ (k : ℕ) (s : List ℕ) where
       (ap (λ (n : ℕ). contents (elements (value d s) s n)) (past-one k i) ∙ contents-shift (elements-shift k d s (i + 1)))
       ∙ cond-changed (map (shiftedSpan k)) (eqb (byteAt (drop k s) i) 91) (contents (elements (value d (drop k s)) (drop k s) (i + 1)))
 
-  -- a reader of entries that reads the same in both: K's and M's do
-  abbrev pub Even : (List ℕ → Span → Reading Row) → Type 0
-  Even entry = (a : Span) → entry s (shiftedSpan k a) ≡ changed (shiftedRow k) (entry (drop k s) a)
-
   row-shift : (p z : Span) (b : Bool) → cond b (reads (record { price = shiftedSpan k p; size = shiftedSpan k z })) refused
       ≡ changed (shiftedRow k) (cond b (reads (record { price = p; size = z })) refused)
   unfolding changed shiftedRow
   row-shift p z true = refl
   row-shift p z false = refl
 
-  rowK-shift : (l : List Span) → rowK s (map (shiftedSpan k) l) ≡ changed (shiftedRow k) (rowK (drop k s) l)
-  unfolding rowK changed
-  rowK-shift [] = refl
-  rowK-shift (p ∷ []) = refl
-  rowK-shift (p ∷ (z ∷ [])) = refl
-  rowK-shift (p ∷ (z ∷ (t ∷ l))) =
+  rows-shifted : (form : Form) (l : List Span) → rowOf form s (map (shiftedSpan k) l) ≡ changed (shiftedRow k) (rowOf form (drop k s) l)
+  unfolding rowK rowM changed
+  rows-shifted Triple [] = refl
+  rows-shifted Triple (p ∷ []) = refl
+  rows-shifted Triple (p ∷ (z ∷ [])) = refl
+  rows-shifted Triple (p ∷ (z ∷ (t ∷ l))) =
       rw (string-shift k s p, string-shift k s z, string-shift k s t)
       (row-shift p z (isString (drop k s) p && (isString (drop k s) z && isString (drop k s) t)))
+  rows-shifted Pair [] = refl
+  rows-shifted Pair (p ∷ []) = refl
+  rows-shifted Pair (p ∷ (z ∷ [])) = rw (string-shift k s p, string-shift k s z) (row-shift p z (isString (drop k s) p && isString (drop k s) z))
+  rows-shifted Pair (p ∷ (z ∷ (x ∷ l))) = refl
 
-  rowM-shift : (l : List Span) → rowM s (map (shiftedSpan k) l) ≡ changed (shiftedRow k) (rowM (drop k s) l)
-  unfolding rowM changed
-  rowM-shift [] = refl
-  rowM-shift (p ∷ []) = refl
-  rowM-shift (p ∷ (z ∷ [])) = rw (string-shift k s p, string-shift k s z) (row-shift p z (isString (drop k s) p && isString (drop k s) z))
-  rowM-shift (p ∷ (z ∷ (x ∷ l))) = refl
+  module _ (form : Form) where
+    entry-shift : (d : ℕ) (a : Span) → entryOf form d s (shiftedSpan k a) ≡ changed (shiftedRow k) (entryOf form d (drop k s) a)
+    unfolding entryOf shiftedSpan
+    entry-shift d a =
+        ap (λ (x : Reading (List Span)). andThen x (rowOf form s)) (array-shift d (a .from) (k + a .to) (a .to))
+        ∙ then-changed (map (shiftedSpan k)) (shiftedRow k) (rowOf form s) (rowOf form (drop k s)) (rows-shifted form) (arrayAt d (drop k s) a)
 
-  pub k-even : Even entryK
-  unfolding entryK shiftedSpan
-  k-even a =
-      ap (λ (x : Reading (List Span)). andThen x (rowK s)) (array-shift entryDepth (a .from) (k + a .to) (a .to))
-      ∙ then-changed (map (shiftedSpan k)) (shiftedRow k) (rowK s) (rowK (drop k s)) rowK-shift (arrayAt entryDepth (drop k s) a)
-
-  pub m-even : Even entryM
-  unfolding entryM shiftedSpan
-  m-even a =
-      ap (λ (x : Reading (List Span)). andThen x (rowM s)) (array-shift entryDepth (a .from) (k + a .to) (a .to))
-      ∙ then-changed (map (shiftedSpan k)) (shiftedRow k) (rowM s) (rowM (drop k s)) rowM-shift (arrayAt entryDepth (drop k s) a)
-
-  module _ (entry : List ℕ → Span → Reading Row) (even : Even entry) where
-    all-shift : (l : List Span) → all (entry s) (map (shiftedSpan k) l) ≡ changed (map (shiftedRow k)) (all (entry (drop k s)) l)
+    all-shift : (d : ℕ) (l : List Span) → all (entryOf form d s) (map (shiftedSpan k) l) ≡ changed (map (shiftedRow k)) (all (entryOf form d (drop k s)) l)
     unfolding all changed andThen
-    all-shift [] = refl
-    all-shift (a ∷ l) = rw (even a, all-shift l) (go (entry (drop k s) a) (all (entry (drop k s)) l))
+    all-shift d [] = refl
+    all-shift d (a ∷ l) = rw (entry-shift d a, all-shift d l) (go (entryOf form d (drop k s) a) (all (entryOf form d (drop k s)) l))
       where
         go : (x : Reading Row) (y : Reading (List Row)) → andThen (changed (shiftedRow k) x) (λ b. andThen (changed (map (shiftedRow k)) y) (λ bs. reads (b ∷ bs)))
             ≡ changed (map (shiftedRow k)) (andThen x (λ b. andThen y (λ bs. reads (b ∷ bs))))
@@ -162,15 +151,16 @@ module _ (k : ℕ) (s : List ℕ) where
         go refused y = refl
 
     -- the array of entries at k + i, and at i
-    pub entries-shift : (i e f : ℕ) → entriesAt entry s (record { from = k + i; to = e }) ≡ changed (map (shiftedRow k)) (entriesAt entry (drop k s) (record { from = i; to = f }))
-    unfolding entriesAt
-    entries-shift i e f =
-        ap (λ (x : Reading (List Span)). andThen x (all (entry s))) (array-shift entriesDepth i e f)
-        ∙ then-changed (map (shiftedSpan k)) (map (shiftedRow k)) (all (entry s)) (all (entry (drop k s))) all-shift (arrayAt entriesDepth (drop k s) (record { from = i; to = f }))
+    pub entries-shift : (depth i e f : ℕ) → entriesAt form depth s (record { from = k + i; to = e }) ≡ changed (map (shiftedRow k)) (entriesAt form depth (drop k s) (record { from = i; to = f }))
+    unfolding entriesAt changed
+    entries-shift zero i e f = refl
+    entries-shift (suc d) i e f =
+        ap (λ (x : Reading (List Span)). andThen x (all (entryOf form d s))) (array-shift (suc d) i e f)
+        ∙ then-changed (map (shiftedSpan k)) (map (shiftedRow k)) (all (entryOf form d s)) (all (entryOf form d (drop k s))) (all-shift d) (arrayAt (suc d) (drop k s) (record { from = i; to = f }))
 
     -- the array of entries at k, where the later text begins
-    pub rows-shift : (e f : ℕ) → entriesAt entry s (record { from = k; to = e }) ≡ changed (map (shiftedRow k)) (entriesAt entry (drop k s) (record { from = 0; to = f }))
-    rows-shift e f = let n : k ≡ k + 0 = omega arith in ap (λ (i : ℕ). entriesAt entry s (record { from = i; to = e })) n ∙ entries-shift 0 e f
+    pub rows-shift : (depth e f : ℕ) → entriesAt form depth s (record { from = k; to = e }) ≡ changed (map (shiftedRow k)) (entriesAt form depth (drop k s) (record { from = 0; to = f }))
+    rows-shift depth e f = let n : k ≡ k + 0 = omega arith in ap (λ (i : ℕ). entriesAt form depth s (record { from = i; to = e })) n ∙ entries-shift depth 0 e f
 
 -- ---- a text that begins with an array of entries
 
@@ -179,24 +169,24 @@ pub part-is : (k : ℕ) (s : List ℕ) → take (length s - k) (drop k s) ≡ dr
 part-is k s = let n = length-drop k s in take-all (length s - k) (drop k s) (omega arith)
 
 -- the array of entries at k of the message has these rows; u is the text from there on
-module _ (k : ℕ) (s u : List ℕ) (from : u ≡ drop k s) (entry : List ℕ → Span → Reading Row) (even : Even k s entry) (e : ℕ) (rows : List Row)
-    (h : entriesAt entry s (record { from = k; to = e }) ≡ reads rows) where
+module _ (k : ℕ) (s u : List ℕ) (from : u ≡ drop k s) (form : Form) (e : ℕ) (rows : List Row)
+    (h : entriesAt form entriesDepth s (record { from = k; to = e }) ≡ reads rows) where
   record Later : Type 0 where
     rest : List Row
-    listed : entriesAt entry u (record { from = 0; to = e }) ≡ reads rest
+    listed : entriesAt form entriesDepth u (record { from = 0; to = e }) ≡ reads rest
     same : rows ≡ map (shiftedRow k) rest
 
   later : Later
   unfolding changed
-  later = go (entriesAt entry (drop k s) (record { from = 0; to = e })) refl (sym (rows-shift k s entry even e e) ∙ h)
+  later = go (entriesAt form entriesDepth (drop k s) (record { from = 0; to = e })) refl (sym (rows-shift k s form entriesDepth e e) ∙ h)
     where
-      go : (x : Reading (List Row)) → entriesAt entry (drop k s) (record { from = 0; to = e }) ≡ x → changed (map (shiftedRow k)) x ≡ reads rows → Later
+      go : (x : Reading (List Row)) → entriesAt form entriesDepth (drop k s) (record { from = 0; to = e }) ≡ x → changed (map (shiftedRow k)) x ≡ reads rows → Later
       go (reads rest) q g = record { rest = rest; listed = rw from q; same = same-row g }
       go refused q g = no-row g
 
-  pub shifted-rows : rows ≡ map (shiftedRow k) (rowsAt entry u)
-  shifted-rows = later .same ∙ ap (map (shiftedRow k)) (sym (rows-are entry u e (later .listed)))
+  pub shifted-rows : rows ≡ map (shiftedRow k) (rowsAt form u)
+  shifted-rows = later .same ∙ ap (map (shiftedRow k)) (sym (rows-are form u e (later .listed)))
 
   -- u can be loaded
-  pub shifted-loadable : length rows ≤ maxEntries → Loadable entry u
-  shifted-loadable few = let n = ap length (later .same) ∙ length-map (later .rest) (shiftedRow k) in loadable entry u e (later .listed) (omega arith)
+  pub shifted-loadable : length rows ≤ maxEntries → Loadable form u
+  shifted-loadable few = let n = ap length (later .same) ∙ length-map (later .rest) (shiftedRow k) in loadable form u e (later .listed) (omega arith)

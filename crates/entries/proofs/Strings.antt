@@ -19,7 +19,9 @@ use Rattle.json.specs.Claims.{In-order, then, Is-element}
 use Rattle.json.proofs.Laws.{value-string}
 use Rattle.json.proofs.Claims.{elements-in-order}
 use Rattle.entries.specs.Places.{andThen, isString, contents, arrayAt}
-use Rattle.entries.specs.Rows.{Row, entryDepth, elementDepth, rowK, entryK, rowM, entryM, entryFor}
+use Rattle.entries.specs.Rows.{Row, rowK, rowM, rowOf, entryOf}
+use Rattle.entries.specs.declared.Form.{Form}
+use Rattle.entries.specs.declared.Form.the-variants.{Triple, Pair}
 use Rattle.entries.proofs.Stops.{broken-at, string-byte}
 
 -- ---- a string has two quotes: past the first, it ends past where it begins
@@ -73,17 +75,13 @@ pub record StringAt (s : List ℕ) (a : Span) : Type 0 where
   pub room : a .from + 2 ≤ a .to
   pub inside : a .to ≤ length s
 
-string-at : (s : List ℕ) (a : Span) → value elementDepth s (a .from) ≡ At (a .to) → isString s a ≡ true → StringAt s a
+string-at : (d : ℕ) (s : List ℕ) (a : Span) → value d s (a .from) ≡ At (a .to) → isString s a ≡ true → StringAt s a
 unfolding isString
-string-at s a v h =
+string-at d s a v h =
     let b : byteAt s (a .from) ≡ 34 = eqb-true _ _ h in
-    let q : string s (a .from) ≡ At (a .to) = sym (value-string s (a .from) elementDepth b) ∙ v in
+    let q : string s (a .from) ≡ At (a .to) = sym (value-string s (a .from) d b) ∙ v in
     let c = string-two s (a .from) (a .to) q in
     record { opens = b; is-string = q; room = c .0; inside = c .1 }
-
--- an entry's reader finds strings only
-abbrev pub Sound : (List ℕ → Span → Reading Row) → List ℕ → Type 0
-Sound entry s = (a : Span) (r : Row) → entry s a ≡ reads r → StringAt s (r .price) × StringAt s (r .size)
 
 pub no-row : {A B : Type 0} {r : B} → refused ≡ reads r → A
 no-row h = let z : _≡_ {A = ℕ} 0 1 = cc in absurd (omega arith)
@@ -101,66 +99,52 @@ record Begins (s : List ℕ) (l : List Span) (r : Row) : Type 0 where
   second-is : isString s second ≡ true
   row-is : r ≡ record { price = first; size = second }
 
-module _ (s : List ℕ) (row : List Span → Reading Row) (front : (l : List Span) (r : Row) → row l ≡ reads r → Begins s l r) where
-  in-order : (hi lo : ℕ) (p z : Span) (k : List Span) → In-order (Is-element elementDepth s) hi lo (p ∷ (z ∷ k)) → (value elementDepth s (p .from) ≡ At (p .to)) × (value elementDepth s (z .from) ≡ At (z .to))
-  in-order hi lo p z k (then lo1 from1 to1 p1 l1 a b c (then lo2 from2 to2 z1 k1 d e f o)) = (c .a-value, f .a-value)
-
-  sound-items : (i : ℕ) (x : Items Span) → elements (value elementDepth s) s i ≡ x → (r : Row) → andThen (contents x) row ≡ reads r → StringAt s (r .price) × StringAt s (r .size)
-  unfolding contents andThen
-  sound-items i (items l e) q r h =
-      let g = front l r h in
-      let p = g .first in
-      let z = g .second in
-      let o : In-order (Is-element elementDepth s) e i (p ∷ (z ∷ g .others)) = rw (g .all-of) at (elements-in-order elementDepth s i l e q .0) in
-      let v = in-order e i p z (g .others) o in
-      rw (g .row-is) (string-at s p (v .0) (g .first-is), string-at s z (v .1) (g .second-is))
-  sound-items i noItems q r h = no-row h
-
-  sound-array : (a : Span) (r : Row) → andThen (arrayAt entryDepth s a) row ≡ reads r → StringAt s (r .price) × StringAt s (r .size)
-  unfolding arrayAt andThen
-  sound-array a r h = go (eqb (byteAt s (a .from)) 91) h
-    where
-      go : (b : Bool) → andThen (cond b (contents (elements (value elementDepth s) s (a .from + 1))) refused) row ≡ reads r → StringAt s (r .price) × StringAt s (r .size)
-      go true g = sound-items (a .from + 1) (elements (value elementDepth s) s (a .from + 1)) refl r g
-      go false g = no-row g
-
-k-sound : (s : List ℕ) → Sound entryK s
-unfolding entryK rowK
-k-sound s a r h = sound-array s (rowK s) front a r h
+rows-begin : (form : Form) (s : List ℕ) (l : List Span) (r : Row) → rowOf form s l ≡ reads r → Begins s l r
+unfolding rowK rowM
+rows-begin Triple s [] r g = no-row g
+rows-begin Triple s (p ∷ []) r g = no-row g
+rows-begin Triple s (p ∷ (z ∷ [])) r g = no-row g
+rows-begin Triple s (p ∷ (z ∷ (t ∷ k))) r g = strings (isString s p && (isString s z && isString s t)) refl g
   where
-    strings : (p z t : Span) (k : List Span) (r : Row) (b : Bool) → (isString s p && (isString s z && isString s t)) ≡ b
-        → cond b (reads (record { price = p; size = z })) refused ≡ reads r
+    strings : (b : Bool) → (isString s p && (isString s z && isString s t)) ≡ b → cond b (reads (record { price = p; size = z })) refused ≡ reads r
         → Begins s (p ∷ (z ∷ (t ∷ k))) r
-    strings p z t k r true q g =
+    strings true q g =
         let c = and-eq-true-iff (isString s p) (isString s z && isString s t) .0 q in
         let d = and-eq-true-iff (isString s z) (isString s t) .0 (c .1) in
         record { first = p; second = z; others = t ∷ k; all-of = refl; first-is = c .0; second-is = d .0; row-is = same-row g }
-    strings p z t k r false q g = no-row g
-
-    front : (l : List Span) (r : Row) → rowK s l ≡ reads r → Begins s l r
-    front [] r g = no-row g
-    front (p ∷ []) r g = no-row g
-    front (p ∷ (z ∷ [])) r g = no-row g
-    front (p ∷ (z ∷ (t ∷ k))) r g = strings p z t k r (isString s p && (isString s z && isString s t)) refl g
-
-m-sound : (s : List ℕ) → Sound entryM s
-unfolding entryM rowM
-m-sound s a r h = sound-array s (rowM s) front a r h
+    strings false q g = no-row g
+rows-begin Pair s [] r g = no-row g
+rows-begin Pair s (p ∷ []) r g = no-row g
+rows-begin Pair s (p ∷ (z ∷ [])) r g = strings (isString s p && isString s z) refl g
   where
-    strings : (p z : Span) (r : Row) (b : Bool) → (isString s p && isString s z) ≡ b
-        → cond b (reads (record { price = p; size = z })) refused ≡ reads r
-        → Begins s (p ∷ (z ∷ [])) r
-    strings p z r true q g =
+    strings : (b : Bool) → (isString s p && isString s z) ≡ b → cond b (reads (record { price = p; size = z })) refused ≡ reads r → Begins s (p ∷ (z ∷ [])) r
+    strings true q g =
         let c = and-eq-true-iff (isString s p) (isString s z) .0 q in
         record { first = p; second = z; others = []; all-of = refl; first-is = c .0; second-is = c .1; row-is = same-row g }
-    strings p z r false q g = no-row g
+    strings false q g = no-row g
+rows-begin Pair s (p ∷ (z ∷ (x ∷ k))) r g = no-row g
 
-    front : (l : List Span) (r : Row) → rowM s l ≡ reads r → Begins s l r
-    front [] r g = no-row g
-    front (p ∷ []) r g = no-row g
-    front (p ∷ (z ∷ [])) r g = strings p z r (isString s p && isString s z) refl g
-    front (p ∷ (z ∷ (x ∷ k))) r g = no-row g
+-- ---- an entry's price and size are strings
+module _ (form : Form) (d : ℕ) (s : List ℕ) where
+  in-order : (hi lo : ℕ) (p z : Span) (k : List Span) → In-order (Is-element d s) hi lo (p ∷ (z ∷ k)) → (value d s (p .from) ≡ At (p .to)) × (value d s (z .from) ≡ At (z .to))
+  in-order hi lo p z k (then lo1 from1 to1 p1 l1 a b c (then lo2 from2 to2 z1 k1 d e f o)) = (c .a-value, f .a-value)
 
-pub sound-for : (m : Bool) (s : List ℕ) → Sound (entryFor m) s
-sound-for true s = m-sound s
-sound-for false s = k-sound s
+  sound-items : (i : ℕ) (x : Items Span) → elements (value d s) s i ≡ x → (r : Row) → andThen (contents x) (rowOf form s) ≡ reads r → StringAt s (r .price) × StringAt s (r .size)
+  unfolding contents andThen
+  sound-items i (items l e) q r h =
+      let g = rows-begin form s l r h in
+      let p = g .first in
+      let z = g .second in
+      let o : In-order (Is-element d s) e i (p ∷ (z ∷ g .others)) = rw (g .all-of) at (elements-in-order d s i l e q .0) in
+      let v = in-order e i p z (g .others) o in
+      rw (g .row-is) (string-at d s p (v .0) (g .first-is), string-at d s z (v .1) (g .second-is))
+  sound-items i noItems q r h = no-row h
+
+pub sound : (form : Form) (d : ℕ) (s : List ℕ) (a : Span) (r : Row) → entryOf form d s a ≡ reads r → StringAt s (r .price) × StringAt s (r .size)
+unfolding entryOf arrayAt andThen
+sound form zero s a r h = no-row h
+sound form (suc d) s a r h = go (eqb (byteAt s (a .from)) 91) h
+  where
+    go : (b : Bool) → andThen (cond b (contents (elements (value d s) s (a .from + 1))) refused) (rowOf form s) ≡ reads r → StringAt s (r .price) × StringAt s (r .size)
+    go true g = sound-items form d s (a .from + 1) (elements (value d s) s (a .from + 1)) refl r g
+    go false g = no-row g

@@ -1,7 +1,6 @@
 -- Decimals in quotes, read where they lie, and the numbers of an entry.
 -- Assumes nothing: these are definitions.
 use Prim.Native.Nat.{ℕ}
-use mathlib.Core.Bool.{Bool}
 use mathlib.Core.List.{List}
 use mathlib.Core.Path.{_≡_}
 use Rattle.decimal.specs.Digits.{reads}
@@ -11,9 +10,10 @@ use Rattle.decimal.specs.declared.Decimal.{Decimal}
 use Rattle.json_tokens.specs.Tokens.{At, string}
 use Rattle.json.specs.Json.{Span}
 use Rattle.entries.specs.Places.{inner}
-use Rattle.entries.specs.Rows.{entryFor, numberAt}
+use Rattle.entries.specs.Rows.{numberAt}
 use Rattle.entries.specs.Summary.{priceSpan, sizeSpan, entryPlaceAt}
 use Rattle.entries.specs.Front.{Two}
+use Rattle.entries.specs.declared.Form.{Form}
 use Rattle.entries.specs.declared.EntryPlace.{EntryPlace}
 use Rattle.entries.specs.declared.Amounts.{Amounts}
 use Rattle.entries.specs.declared.QuotedDecimal.{QuotedDecimal}
@@ -40,7 +40,7 @@ pub record NumberOf (s : List ℕ) (a : Span) (d : Decimal) : Type 0 where
   pub within : Within (number d)
 
 -- The price and the size of the entry that is found at a position, and its end.
-pub record EntryAt (m : Bool) (s : List ℕ) (at : ℕ) (r : Amounts) : Type 0 where
-  pub end : r .end ≡ entryPlaceAt (entryFor m) s at .end
-  pub price : NumberOf s (priceSpan (entryPlaceAt (entryFor m) s at)) (r .price)
-  pub size : NumberOf s (sizeSpan (entryPlaceAt (entryFor m) s at)) (r .size)
+pub record EntryAt (form : Form) (depth : ℕ) (s : List ℕ) (at : ℕ) (r : Amounts) : Type 0 where
+  pub end : r .end ≡ entryPlaceAt form depth s at .end
+  pub price : NumberOf s (priceSpan (entryPlaceAt form depth s at)) (r .price)
+  pub size : NumberOf s (sizeSpan (entryPlaceAt form depth s at)) (r .size)

@@ -1,12 +1,14 @@
 -- The entries of a message, as document 01 has them under "Messages": where the price's and the size's text of each lie, and which of these texts
 -- break a decimal rule. Assumes nothing: these are definitions.
-use Prim.Native.Nat.{ℕ, _-_}
-use mathlib.Core.Bool.{Bool, true, false, _&&_, cond}
+use Prim.Native.Nat.{ℕ, zero, suc}
+use mathlib.Core.Bool.{Bool, true, _&&_, cond}
 use mathlib.Core.List.{List, [], _∷_, _++_}
 use Rattle.decimal.specs.Digits.{Reading, reads, refused}
 use Rattle.decimal.specs.Decimal.{Number, read, isZero}
-use Rattle.json.specs.Json.{Span, maxDepth}
+use Rattle.json.specs.Json.{Span}
 use Rattle.entries.specs.Places.{andThen, all, isString, inner, arrayAt}
+use Rattle.entries.specs.declared.Form.{Form}
+use Rattle.entries.specs.declared.Form.the-variants.{Triple, Pair}
 
 -- Where the price's text and the size's text of an entry lie, quotes included.
 pub record Row : Type 0 where
@@ -17,45 +19,33 @@ pub record Row : Type 0 where
 abbrev pub maxEntries : ℕ
 maxEntries = 100
 
--- How deep arrays and objects may nest in an array of entries, in an entry and in an element of one. Entries lie in an array in an object in the
--- message's own array or object: two levels of nesting are used up outside.
-abbrev pub entriesDepth : ℕ
-entriesDepth = maxDepth - 2
+-- ---- an entry is an array of one of two forms
 
-abbrev pub entryDepth : ℕ
-entryDepth = entriesDepth - 1
-
-abbrev pub elementDepth : ℕ
-elementDepth = entryDepth - 1
-
--- ---- K: an entry is an array of three or more elements, the first three strings: price, size, timestamp. The rest is passed over.
+-- K: three or more elements, the first three strings: price, size, timestamp. The rest is passed over.
 unfoldable pub rowK : List ℕ → List Span → Reading Row
 rowK s [] = refused
 rowK s (p ∷ []) = refused
 rowK s (p ∷ (z ∷ [])) = refused
 rowK s (p ∷ (z ∷ (t ∷ l))) = cond (isString s p && (isString s z && isString s t)) (reads (record { price = p; size = z })) refused
 
-unfoldable pub entryK : List ℕ → Span → Reading Row
-entryK s a = andThen (arrayAt entryDepth s a) (rowK s)
-
--- ---- M: an entry is an array of exactly two strings.
+-- M: exactly two strings.
 unfoldable pub rowM : List ℕ → List Span → Reading Row
 rowM s [] = refused
 rowM s (p ∷ []) = refused
 rowM s (p ∷ (z ∷ [])) = cond (isString s p && isString s z) (reads (record { price = p; size = z })) refused
 rowM s (p ∷ (z ∷ (x ∷ l))) = refused
 
-unfoldable pub entryM : List ℕ → Span → Reading Row
-entryM s a = andThen (arrayAt entryDepth s a) (rowM s)
+abbrev pub rowOf : Form → List ℕ → List Span → Reading Row
+rowOf Triple = rowK
+rowOf Pair = rowM
 
--- An entry of a dialect: M's, or else K's.
-abbrev pub entryFor : Bool → List ℕ → Span → Reading Row
-entryFor true = entryM
-entryFor false = entryK
+-- The entry that a value is, and the rows of the array of entries that it is, perhaps none; depth is how deep arrays and objects may nest in it.
+unfoldable pub entryOf : Form → ℕ → List ℕ → Span → Reading Row
+entryOf form depth s a = andThen (arrayAt depth s a) (rowOf form s)
 
--- The rows of the array of entries that a value is, perhaps none; `entry` is K's or M's.
-unfoldable pub entriesAt : (List ℕ → Span → Reading Row) → List ℕ → Span → Reading (List Row)
-entriesAt entry s a = andThen (arrayAt entriesDepth s a) (all (entry s))
+unfoldable pub entriesAt : Form → ℕ → List ℕ → Span → Reading (List Row)
+entriesAt form zero s a = refused
+entriesAt form (suc depth) s a = andThen (arrayAt (suc depth) s a) (all (entryOf form depth s))
 
 -- ---- check 8: a decimal rule broken, price zero, or size zero in a snapshot
 

@@ -10,7 +10,8 @@ use Rattle.decimal.specs.Decimal.{Number, read, isZero}
 use Rattle.json_tokens.specs.Tokens.{At, Broken}
 use Rattle.json.specs.Json.{Span, value}
 use Rattle.entries.specs.Places.{inner}
-use Rattle.entries.specs.Rows.{Row, entriesDepth, entryDepth, entriesAt, badPrice, badSize}
+use Rattle.entries.specs.Rows.{Row, entryOf, entriesAt, badPrice, badSize}
+use Rattle.entries.specs.declared.Form.{Form}
 use Rattle.entries.specs.declared.EntryPlace.{EntryPlace}
 use Rattle.entries.specs.declared.Entries.{Entries}
 
@@ -28,9 +29,9 @@ priceSpan f = record { from = f .«price_from»; to = f .«price_to» }
 abbrev pub sizeSpan : EntryPlace → Span
 sizeSpan f = record { from = f .«size_from»; to = f .«size_to» }
 
--- The value at a position as an entry; `entry` is K's or M's.
-unfoldable pub entryPlaceAt : (List ℕ → Span → Reading Row) → List ℕ → ℕ → EntryPlace
-entryPlaceAt entry s at = elim (value entryDepth s at) [ At e ↦ entryPlaceOf e (entry s (record { from = at; to = e })) | Broken ↦ entryPlaceOf 0 refused ]
+-- The value at a position as an entry.
+unfoldable pub entryPlaceAt : Form → ℕ → List ℕ → ℕ → EntryPlace
+entryPlaceAt form depth s at = elim (value depth s at) [ At e ↦ entryPlaceOf e (entryOf form depth s (record { from = at; to = e })) | Broken ↦ entryPlaceOf 0 refused ]
 
 -- ---- an array of entries
 
@@ -61,5 +62,5 @@ summaryOf s end (reads rows) = record { end = end; «well_formed» = true; count
 summaryOf s end refused = noEntries end
 
 -- The value at a position as an array of entries.
-unfoldable pub summaryAt : (List ℕ → Span → Reading Row) → List ℕ → ℕ → Entries
-summaryAt entry s at = elim (value entriesDepth s at) [ At e ↦ summaryOf s e (entriesAt entry s (record { from = at; to = e })) | Broken ↦ noEntries 0 ]
+unfoldable pub summaryAt : Form → ℕ → List ℕ → ℕ → Entries
+summaryAt form depth s at = elim (value depth s at) [ At e ↦ summaryOf s e (entriesAt form depth s (record { from = at; to = e })) | Broken ↦ noEntries 0 ]

@@ -1,15 +1,14 @@
 // The entries of a message, read where they lie, with no copy: an entry is an array that begins with
-// two strings, a price and a size. Dialect K has more elements, of which the third is a string;
-// dialect M has these two and no more.
+// two strings, a price and a size. What else it has is its form.
 //
 // Any position may be asked for. Each answer has the position past the value there, whatever it is,
 // or 0 where it is not JSON, so that one walk over a message finds out whether it is JSON and reads it.
 //
-// `m` says that the dialect is M, else it is K.
+// `depth` is how deep arrays and objects may nest in what is read.
 //
 // Example: the price of an entry of dialect K, `["5541.30","2.50700000","1534614248.123678"]`.
 //
-//     let found = entries::entry_at(s, at, false);
+//     let found = entries::entry_at(s, at, depth, Form::Triple);
 //     if found.well_formed {
 //         let price = entries::parse_quoted(s, found.price_from, found.price_to);
 //         ..
@@ -30,16 +29,16 @@ use text::byte_at;
 use text::either;
 ghost use mathlib.Core.Path.{_≡_};
 ghost use mathlib.Core.Bool.{true, false, _||_};
-ghost use Prim.Native.Nat.{_+_, _≤_};
+ghost use Prim.Native.Nat.{suc, _+_, _≤_};
 ghost use Rattle.decimal.specs.Digits.{refused};
 ghost use Rattle.decimal.specs.Decimal.{number, read};
 ghost use Rattle.decimal.specs.Reads.{parsed};
 ghost use Rattle.json_tokens.specs.Ends.{endOf};
 ghost use Rattle.json.specs.Json.{value};
 ghost use Rattle.entries.specs.Places.{inner};
-ghost use Rattle.entries.specs.Rows.{entryDepth, entryK, entryFor, isBadPrice, isBadSize};
+ghost use Rattle.entries.specs.Rows.{isBadPrice, isBadSize};
 ghost use Rattle.entries.specs.Summary.{entryPlaceOf, entryPlaceAt, isZeroSize, noEntries, summaryAt};
-ghost use Rattle.entries.specs.Arrays.{firstAt};
+ghost use Rattle.entries.specs.Arrays.{formOf, firstAt};
 ghost use Rattle.entries.specs.Counting.{Quoted, Placed, Laid, withNumbers, counted};
 ghost use Rattle.entries.specs.Front.{Front, RestEnd, EntryEnd, EndedAt};
 ghost use Rattle.entries.specs.Decimals.{QuotedAt, TwoDecimals, NumberOf, EntryAt};
@@ -47,12 +46,16 @@ ghost use Rattle.entries.specs.Decimals.{QuotedAt, TwoDecimals, NumberOf
 // The most entries of a side in one message.
 pub const MAX_ENTRIES: usize = 100;
 
-// How deep arrays and objects may nest in an array of entries, in an entry, and in an element of one.
-const ENTRIES_DEPTH: usize = MAX_DEPTH - 2;
+// How deep arrays and objects may nest in an entry of a message of dialect K or M.
+pub const ENTRY_DEPTH: usize = MAX_DEPTH - 3;
 
-const ENTRY_DEPTH: usize = ENTRIES_DEPTH - 1;
-
-const ELEMENT_DEPTH: usize = ENTRY_DEPTH - 1;
+// What makes an array an entry.
+pub enum Form {
+    // Three elements or more, the first three strings: dialect K.
+    Triple,
+    // Two strings and no more: dialect M.
+    Pair,
+}
 
 // What stands at a position, as an entry.
 pub struct EntryPlace {
@@ -93,12 +96,23 @@ struct QuotedDecimal {
     end: usize,
 }
 
+// The form of the entries of dialect M, or else of K.
+pub fn form_of(m: bool) -> Form
+    ensures { λ r. ⌜ r ≡ formOf m ⌝ }
+{
+    if m {
+        return Form::Pair;
+    }
+    Form::Triple
+}
+
 // The value at `at` as an array of entries.
-pub fn entries_at(s: &[u8], at: usize, m: bool) -> Entries
-    ensures { λ r. ⌜ r ≡ summaryAt (entryFor m) (now (s .entry)) at ⌝ }
+pub fn entries_at(s: &[u8], at: usize, depth: usize, form: Form) -> Entries
+    requires { ⌜ 2 ≤ depth ⌝ }
+    ensures { λ r. ⌜ r ≡ summaryAt form depth (now (s .entry)) at ⌝ }
 {
     if byte_at(s, at) != OPEN_ARRAY {
-        return refused(value_end(s, at, ENTRIES_DEPTH));
+        return refused(value_end(s, at, depth));
     }
     let none = array_close_end(s, at + 1);
     if 0 < none {
@@ -107,7 +121,7 @@ pub fn entries_at(s: &[u8], at: usize, m: bool) -> Entries
     let mut i = skip_blanks(s, at + 1);
     let mut sum = empty(0);
     loop {
-        let more = next_entry(s, i, m, sum);
+        let more = next_entry(s, i, depth - 1, form, sum);
         let past = more.end;
         if past == 0 {
             return refused(0);
@@ -126,17 +140,16 @@ pub fn entries_at(s: &[u8], at: usize, m: bool) -> Entries
 }
 
 // The value at `at` as an entry.
-pub fn entry_at(s: &[u8], at: usize, m: bool) -> EntryPlace
-    ensures { λ r. ⌜ r ≡ entryPlaceAt (entryFor m) (now (s .entry)) at ⌝ }
+pub fn entry_at(s: &[u8], at: usize, depth: usize, form: Form) -> EntryPlace
+    requires { ⌜ 1 ≤ depth ⌝ }
+    ensures { λ r. ⌜ r ≡ entryPlaceAt form depth (now (s .entry)) at ⌝ }
 {
     let front = two_strings(s, at);
     if front.well_formed {
-        if m {
-            return ended_at(s, at, front, array_close_end(s, front.end));
-        }
-        return ended_at(s, at, front, k_rest_end(s, front.end));
+        let end = entry_end(s, front.end, depth, form);
+        return ended_at(s, at, depth, front, end);
     }
-    passed_over(s, at)
+    passed_over(s, at, depth)
 }
 
 // Where the first entry of the array begins that the text begins with, or 0 where it has none.
@@ -150,20 +163,20 @@ pub fn first_at(s: &[u8]) -> usize
 }
 
 // The price and the size of the entry at `at`, and the position past it. Most often they are decimals, read on the way to its end.
-pub fn read_entry(s: &[u8], at: usize, m: bool) -> Amounts
-    requires { ⌜ Placed (now s) (entryPlaceAt (entryFor m) (now s) at) ⌝ }
-    ensures { λ r. ⌜ EntryAt m (now (s .entry)) at r ⌝ }
+pub fn read_entry(s: &[u8], at: usize, depth: usize, form: Form) -> Amounts
+    requires { ⌜ (1 ≤ depth) × Placed (now s) (entryPlaceAt form depth (now s) at) ⌝ }
+    ensures { λ r. ⌜ EntryAt form depth (now (s .entry)) at r ⌝ }
 {
     let front = two_amounts(s, at);
     if 0 < front.end {
-        let end = entry_end(s, front.end, m);
+        let end = entry_end(s, front.end, depth, form);
         if 0 < end {
             let price = front.price;
             let size = front.size;
             return Amounts { price, size, end };
         }
     }
-    any_entry(s, at, m)
+    any_entry(s, at, depth, form)
 }
 
 // What the string from `from` to `to`, quotes included, says. The decimal is read where it lies.
@@ -205,18 +218,18 @@ pub fn is_bad_size(size: Parsed, snapshot: bool) -> bool
 
 // What was counted, and the entry at `at` more. Most entries have two decimals, which are read in one go on the way to the entry's end;
 // any other is found first. Where the value there is not JSON, the end is 0.
-fn next_entry(s: &[u8], at: usize, m: bool, sum: Entries) -> Entries
-    requires { ⌜ sum .count ≤ at ⌝ }
-    ensures { λ r. ⌜ r ≡ counted (now (s .entry)) sum (entryPlaceAt (entryFor m) (now (s .entry)) at) ⌝ }
+fn next_entry(s: &[u8], at: usize, depth: usize, form: Form, sum: Entries) -> Entries
+    requires { ⌜ (1 ≤ depth) × (sum .count ≤ at) ⌝ }
+    ensures { λ r. ⌜ r ≡ counted (now (s .entry)) sum (entryPlaceAt form depth (now (s .entry)) at) ⌝ }
 {
     let front = two_amounts(s, at);
     if 0 < front.end {
-        let end = entry_end(s, front.end, m);
+        let end = entry_end(s, front.end, depth, form);
         if 0 < end {
             return with_amounts(sum, front, end);
         }
     }
-    let found = entry_at(s, at, m);
+    let found = entry_at(s, at, depth, form);
     if found.end == 0 {
         return refused(0);
     }
@@ -348,19 +361,20 @@ fn two_strings(s: &[u8], at: usize) -> EntryPlace
 }
 
 // Past the entry whose second string ends at `at`, or 0 where what follows does not fit. It is inlined into the loops that read entries;
-// `k_rest_end`, which `entry_at` calls too, is not, and an entry of dialect M does not pay for it.
-fn entry_end(s: &[u8], at: usize, m: bool) -> usize
-    ensures { λ r. ⌜ EntryEnd (entryFor m) (now (s .entry)) at r ⌝ }
+// `triple_end` is not, and a pair does not pay for it.
+fn entry_end(s: &[u8], at: usize, depth: usize, form: Form) -> usize
+    requires { ⌜ 1 ≤ depth ⌝ }
+    ensures { λ r. ⌜ EntryEnd form depth (now (s .entry)) at r ⌝ }
 {
-    if m {
-        return array_close_end(s, at);
+    match form {
+        Form::Triple => triple_end(s, at, depth - 1),
+        Form::Pair => array_close_end(s, at),
     }
-    k_rest_end(s, at)
 }
 
-// The same of dialect K: a third string, and whatever else the array has.
-fn k_rest_end(s: &[u8], at: usize) -> usize
-    ensures { λ r. ⌜ EntryEnd entryK (now (s .entry)) at r ⌝ }
+// The same of a triple, whose elements have this depth: a third string, and whatever else the array has.
+fn triple_end(s: &[u8], at: usize, depth: usize) -> usize
+    ensures { λ r. ⌜ EntryEnd Form.Triple (suc depth) (now (s .entry)) at r ⌝ }
 {
     let third = comma_end(s, at);
     if third == 0 {
@@ -370,12 +384,12 @@ fn k_rest_end(s: &[u8], at: usize) -> usize
     if past == 0 {
         return 0;
     }
-    rest_end(s, past)
+    rest_end(s, past, depth)
 }
 
-// Past the array that has an element which ends at `at`.
-fn rest_end(s: &[u8], at: usize) -> usize
-    ensures { λ r. ⌜ RestEnd (now (s .entry)) at r ⌝ }
+// Past the array that has an element which ends at `at`; the elements have this depth.
+fn rest_end(s: &[u8], at: usize, depth: usize) -> usize
+    ensures { λ r. ⌜ RestEnd depth (now (s .entry)) at r ⌝ }
 {
     let mut i = at;
     loop {
@@ -383,7 +397,7 @@ fn rest_end(s: &[u8], at: usize) -> usize
         if j == 0 {
             return array_close_end(s, i);
         }
-        let e = value_end(s, j, ELEMENT_DEPTH);
+        let e = value_end(s, j, depth);
         if e == 0 {
             return 0;
         }
@@ -392,18 +406,18 @@ fn rest_end(s: &[u8], at: usize) -> usize
 }
 
 // The value at `at`, which is no entry.
-fn passed_over(s: &[u8], at: usize) -> EntryPlace
-    ensures { λ r. ⌜ r ≡ entryPlaceOf (endOf (value entryDepth (now (s .entry)) at)) refused ⌝ }
+fn passed_over(s: &[u8], at: usize, depth: usize) -> EntryPlace
+    ensures { λ r. ⌜ r ≡ entryPlaceOf (endOf (value depth (now (s .entry)) at)) refused ⌝ }
 {
-    no_entry(value_end(s, at, ENTRY_DEPTH))
+    no_entry(value_end(s, at, depth))
 }
 
 // The entry at `at` that has this front and ends at `end`; an end of 0 says that it is none, and the value is passed over.
-fn ended_at(s: &[u8], at: usize, front: EntryPlace, end: usize) -> EntryPlace
-    ensures { λ r. ⌜ EndedAt (now (s .entry)) at front end r ⌝ }
+fn ended_at(s: &[u8], at: usize, depth: usize, front: EntryPlace, end: usize) -> EntryPlace
+    ensures { λ r. ⌜ EndedAt depth (now (s .entry)) at front end r ⌝ }
 {
     if end == 0 {
-        return passed_over(s, at);
+        return passed_over(s, at, depth);
     }
     EntryPlace {
         end,
@@ -432,11 +446,11 @@ fn no_entry(end: usize) -> EntryPlace
 // ---- its price and its size
 
 // The price and the size of the entry at `at`, whatever its strings hold.
-fn any_entry(s: &[u8], at: usize, m: bool) -> Amounts
-    requires { ⌜ Placed (now s) (entryPlaceAt (entryFor m) (now s) at) ⌝ }
-    ensures { λ r. ⌜ EntryAt m (now (s .entry)) at r ⌝ }
+fn any_entry(s: &[u8], at: usize, depth: usize, form: Form) -> Amounts
+    requires { ⌜ (1 ≤ depth) × Placed (now s) (entryPlaceAt form depth (now s) at) ⌝ }
+    ensures { λ r. ⌜ EntryAt form depth (now (s .entry)) at r ⌝ }
 {
-    let found = entry_at(s, at, m);
+    let found = entry_at(s, at, depth, form);
     let price = number_at(s, found.price_from, found.price_to);
     let size = number_at(s, found.size_from, found.size_to);
     Amounts {

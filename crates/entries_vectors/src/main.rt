@@ -6,8 +6,10 @@
 //     m TEXT    an array of entries of dialect M
 //
 // Other lines are headings. What is to come was worked out apart from the crate, by tools/entries_vectors.py.
+use entries::ENTRY_DEPTH;
 use entries::Entries;
 use entries::EntryPlace;
+use entries::Form;
 use libc::STDIN_FILENO;
 use libc::STDOUT_FILENO;
 use lines::LINE_END;
@@ -50,13 +52,13 @@ fn line(s: &[u8]) {
     let c = s[0];
     let text = &s[2..];
     if c == b'K' {
-        tell_entry(text, entries::entry_at(text, 0, false));
+        tell_entry(text, entries::entry_at(text, 0, ENTRY_DEPTH, Form::Triple));
     } else if c == b'M' {
-        tell_entry(text, entries::entry_at(text, 0, true));
+        tell_entry(text, entries::entry_at(text, 0, ENTRY_DEPTH, Form::Pair));
     } else if c == b'k' {
-        tell_entries(entries::entries_at(text, 0, false));
+        tell_entries(entries::entries_at(text, 0, ENTRY_DEPTH + 1, Form::Triple));
     } else if c == b'm' {
-        tell_entries(entries::entries_at(text, 0, true));
+        tell_entries(entries::entries_at(text, 0, ENTRY_DEPTH + 1, Form::Pair));
     }
 }
 

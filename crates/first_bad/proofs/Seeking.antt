@@ -16,34 +16,34 @@ use Rattle.json.specs.Json.{Span}
 use Rattle.entries.specs.Places.{inner}
 use Rattle.entries.specs.Rows.{Row, isBadPrice, isBadSize, badPrice, badSize, badTexts}
 use Rattle.entries.specs.Summary.{entryPlaceOf, priceSpan, sizeSpan, entryPlaceAt}
-use Rattle.entries.specs.Arrays.{rowsAt, Loadable, firstAt}
+use Rattle.entries.specs.Arrays.{entryDepth, rowsAt, Loadable, firstAt}
+use Rattle.entries.specs.declared.Form.{Form}
 use Rattle.entries.specs.Counting.{Placed}
 use Rattle.entries.specs.declared.EntryPlace.{EntryPlace}
-use Rattle.entries.proofs.Strings.{Sound}
 use Rattle.entries.proofs.Summary.{found-broken, found-laid, found-past}
 use Rattle.entries.proofs.Rows.{Left, first-left, Here, left-here}
 use Rattle.first_bad.specs.Places.{noPlace, placeOf}
 
 -- `at` is where the next entry begins, or 0 where there is none
-pub record Seeking (entry : List ℕ → Span → Reading Row) (s : List ℕ) (snapshot : Bool) (at : ℕ) : Type 0 where
+pub record Seeking (form : Form) (s : List ℕ) (snapshot : Bool) (at : ℕ) : Type 0 where
   pub left : List Row
-  pub same : placeOf (badTexts snapshot s (rowsAt entry s)) ≡ placeOf (badTexts snapshot s left)
+  pub same : placeOf (badTexts snapshot s (rowsAt form s)) ≡ placeOf (badTexts snapshot s left)
   pub over : at ≡ 0 → left ≡ []
-  pub on : (at ≡ 0 → ⊥) → Left entry s at left
+  pub on : (at ≡ 0 → ⊥) → Left form s at left
 
-module _ (entry : List ℕ → Span → Reading Row) (s : List ℕ) (snapshot : Bool) where
-  pub seeking-start : (at : ℕ) → at ≡ firstAt s → Loadable entry s → Seeking entry s snapshot at
+module _ (form : Form) (s : List ℕ) (snapshot : Bool) where
+  pub seeking-start : (at : ℕ) → at ≡ firstAt s → Loadable form s → Seeking form s snapshot at
   seeking-start at e a =
-      let f = first-left entry s (a .end) (rowsAt entry s) (a .listed) in
-      record { left = rowsAt entry s; same = refl; over = λ z. f .0 (sym e ∙ z); on = λ n. rw e (f .1 (λ z. n (e ∙ z))) }
+      let f = first-left form s (a .end) (rowsAt form s) (a .listed) in
+      record { left = rowsAt form s; same = refl; over = λ z. f .0 (sym e ∙ z); on = λ n. rw e (f .1 (λ z. n (e ∙ z))) }
 
-  pub seeking-end : {at : ℕ} → Seeking entry s snapshot at → at ≡ 0 → noPlace ≡ placeOf (badTexts snapshot s (rowsAt entry s))
+  pub seeking-end : {at : ℕ} → Seeking form s snapshot at → at ≡ 0 → noPlace ≡ placeOf (badTexts snapshot s (rowsAt form s))
   unfolding placeOf badTexts
   seeking-end g z = sym (g .same ∙ ap (λ (x : List Row). placeOf (badTexts snapshot s x)) (g .over z))
 
-  module _ {at : ℕ} (g : Seeking entry s snapshot at) (n : 0 < at) (f : EntryPlace) (told : f ≡ entryPlaceAt entry s at) where
-    here : Here entry s (g .left) f
-    here = left-here entry s at (g .left) (g .on (λ z. omega arith)) f told
+  module _ {at : ℕ} (g : Seeking form s snapshot at) (n : 0 < at) (f : EntryPlace) (told : f ≡ entryPlaceAt form entryDepth s at) where
+    here : Here form s (g .left) f
+    here = left-here form s at (g .left) (g .on (λ z. omega arith)) f told
 
     abbrev price : Span
     price = priceSpan f
@@ -51,9 +51,9 @@ module _ (entry : List ℕ → Span → Reading Row) (s : List ℕ) (snapshot : 
     abbrev size : Span
     size = sizeSpan f
 
-    pub seeking-placed : Sound entry s → Placed s f
+    pub seeking-placed : Placed s f
     unfolding entryPlaceOf
-    seeking-placed sound = found-laid entry s at f told sound (ap (λ (x : EntryPlace). x .«well_formed») (here .is-row))
+    seeking-placed = found-laid form entryDepth s at f told (ap (λ (x : EntryPlace). x .«well_formed») (here .is-row))
 
     row-is : here .row ≡ record { price = price; size = size }
     unfolding entryPlaceOf
@@ -62,19 +62,19 @@ module _ (entry : List ℕ → Span → Reading Row) (s : List ℕ) (snapshot : 
     left-is : g .left ≡ record { price = price; size = size } ∷ here .later
     left-is = here .both ∙ ap (λ (r : Row). r ∷ here .later) row-is
 
-    first-is : placeOf (badTexts snapshot s (rowsAt entry s)) ≡ placeOf (badTexts snapshot s (record { price = price; size = size } ∷ here .later))
+    first-is : placeOf (badTexts snapshot s (rowsAt form s)) ≡ placeOf (badTexts snapshot s (record { price = price; size = size } ∷ here .later))
     first-is = g .same ∙ ap (λ (x : List Row). placeOf (badTexts snapshot s x)) left-is
 
-    pub price-found : badPrice s price ≡ true → record { bad = true; from = price .from; to = price .to } ≡ placeOf (badTexts snapshot s (rowsAt entry s))
+    pub price-found : badPrice s price ≡ true → record { bad = true; from = price .from; to = price .to } ≡ placeOf (badTexts snapshot s (rowsAt form s))
     unfolding placeOf badTexts
     price-found h = sym (first-is ∙ rw h)
 
     module _ (h : badPrice s price ≡ false) where
-      pub size-found : badSize snapshot s size ≡ true → record { bad = true; from = size .from; to = size .to } ≡ placeOf (badTexts snapshot s (rowsAt entry s))
+      pub size-found : badSize snapshot s size ≡ true → record { bad = true; from = size .from; to = size .to } ≡ placeOf (badTexts snapshot s (rowsAt form s))
       unfolding placeOf badTexts
       size-found k = sym (first-is ∙ rw (h, k))
 
-      pub seeking-on : badSize snapshot s size ≡ false → (j : ℕ) → j ≡ endOf (separator 44 s (f .end)) → Seeking entry s snapshot j
+      pub seeking-on : badSize snapshot s size ≡ false → (j : ℕ) → j ≡ endOf (separator 44 s (f .end)) → Seeking form s snapshot j
       unfolding badTexts
       seeking-on k j c =
           let o = here .onwards j c in
@@ -85,7 +85,7 @@ module _ (entry : List ℕ → Span → Reading Row) (s : List ℕ) (snapshot : 
     unfolding entryPlaceOf
     ends =
         let fair = ap (λ (x : EntryPlace). x .«well_formed») (here .is-row) in
-        found-past entry s at f told (λ z. true≢false (sym fair ∙ ap (λ (x : EntryPlace). x .«well_formed») (found-broken entry s at f told z)))
+        found-past form entryDepth s at f told (λ z. true≢false (sym fair ∙ ap (λ (x : EntryPlace). x .«well_formed») (found-broken form entryDepth s at f told z)))
 
     pub inside : at ≤ length s
     inside = let e = ends in omega arith

@@ -1,7 +1,9 @@
 // The first text of an array of entries that breaks a rule of decimals.
-ghost use Rattle.entries.specs.Rows.{entryFor, badTexts};
+ghost use Rattle.entries.specs.Rows.{badTexts};
 ghost use Rattle.entries.specs.Arrays.{Loadable, rowsAt};
 ghost use Rattle.first_bad.specs.Places.{First};
+use entries::ENTRY_DEPTH;
+use entries::Form;
 use entries::entry_at;
 use entries::first_at;
 use entries::is_bad_price;
@@ -18,14 +20,14 @@ pub struct Place {
 }
 
 // Where the first bad text of the array of entries lies that the text begins with, quotes included.
-// `m` says that the dialect is M, else it is K; in a snapshot a size of zero is bad too.
-pub fn first_bad(s: &[u8], m: bool, snapshot: bool) -> Place
-    requires { ⌜ Loadable (entryFor m) (now s) ⌝ }
-    ensures { λ r. ⌜ First (badTexts snapshot (now (s .entry)) (rowsAt (entryFor m) (now (s .entry)))) (now (s .entry)) r ⌝ }
+// In a snapshot a size of zero is bad too.
+pub fn first_bad(s: &[u8], form: Form, snapshot: bool) -> Place
+    requires { ⌜ Loadable form (now s) ⌝ }
+    ensures { λ r. ⌜ First (badTexts snapshot (now (s .entry)) (rowsAt form (now (s .entry)))) (now (s .entry)) r ⌝ }
 {
     let mut at = first_at(s);
     while 0 < at {
-        let found = entry_at(s, at, m);
+        let found = entry_at(s, at, ENTRY_DEPTH, form);
         if is_bad_price(parse_quoted(s, found.price_from, found.price_to)) {
             return Place {
                 bad: true,

@@ -9,6 +9,7 @@ use Rattle.decimal.specs.Digits.{Reading, reads, refused}
 use Rattle.json.specs.Json.{Span}
 use Rattle.entries.specs.Places.{andThen}
 use Rattle.entries.specs.Rows.{Row, entriesAt}
+use Rattle.entries.specs.declared.Form.{Form}
 use Rattle.entries.specs.Summary.{noEntries, summaryOf}
 use Rattle.entries.specs.declared.Entries.{Entries}
 use Rattle.layout.specs.Layout.{isSnapshot, Printed, printed, unprinted, Listed, Layout, listedAt, laid}
@@ -46,10 +47,10 @@ zero-flags false true = refl
 zero-flags true true = refl
 
 -- The listing of a value is made of the summary of it.
-pub listing-of : (entry : List ℕ → Span → Reading Row) (s : List ℕ) (a : Span) (e : ℕ)
-    → entryArrayFrom (a .from) (summaryOf s e (entriesAt entry s a)) ≡ entryArrayOf s (listedAt entry s a)
+pub listing-of : (form : Form) (depth : ℕ) (s : List ℕ) (a : Span) (e : ℕ)
+    → entryArrayFrom (a .from) (summaryOf s e (entriesAt form depth s a)) ≡ entryArrayOf s (listedAt form depth s a)
 unfolding listedAt entryArrayFrom summaryOf noEntries entryArrayOf andThen
-listing-of entry s a e = go (entriesAt entry s a)
+listing-of form depth s a e = go (entriesAt form depth s a)
   where
     go : (x : Reading (List Row)) → entryArrayFrom (a .from) (summaryOf s e x) ≡ entryArrayOf s (andThen x (λ rows. reads (record { at = a .from; rows = rows })))
     go (reads rows) = refl

@@ -6,6 +6,7 @@ use Rattle.decimal.specs.Digits.{Reading, reads, refused}
 use Rattle.json.specs.Json.{Span}
 use Rattle.entries.specs.Places.{andThen}
 use Rattle.entries.specs.Rows.{Row, entriesAt}
+use Rattle.entries.specs.declared.Form.{Form}
 use Rattle.layout.specs.declared.Kind.{Kind}
 use Rattle.layout.specs.declared.Kind.the-variants.{Snapshot, Update}
 
@@ -41,9 +42,9 @@ pub record Envelope : Type 0 where
 abbrev pub unlisted : Listed
 unlisted = record { at = 0; rows = [] }
 
--- The array of entries that a value is; `entry` is K's or M's.
-unfoldable pub listedAt : (List ℕ → Span → Reading Row) → List ℕ → Span → Reading Listed
-listedAt entry s a = andThen (entriesAt entry s a) (λ rows. reads (record { at = a .from; rows = rows }))
+-- The array of entries that a value is; depth is how deep arrays and objects may nest in it.
+unfoldable pub listedAt : Form → ℕ → List ℕ → Span → Reading Listed
+listedAt form depth s a = andThen (entriesAt form depth s a) (λ rows. reads (record { at = a .from; rows = rows }))
 
 unfoldable pub laid : Kind → Printed → ℕ → Reading Listed → Reading Listed → Reading Layout
 laid kind sum number bids asks =

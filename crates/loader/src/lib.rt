@@ -5,13 +5,14 @@
 //     side::apply(bids, Side::Bids, depth, &prices[..n], &sizes[..n], &packs[..n])
 ghost use Rattle.decimal.specs.Decimal.{number};
 ghost use Rattle.decimal.specs.Limits.{Within};
-ghost use Rattle.entries.specs.Rows.{entryFor};
-ghost use Rattle.entries.specs.Arrays.{Loadable, rowsAt};
+ghost use Rattle.entries.specs.Arrays.{formOf, Loadable, rowsAt};
 ghost use Rattle.checksum.specs.Carried.{Made};
 ghost use Rattle.loader.specs.Loaded.{pieceFor, Loaded, Room};
 use decimal::Decimal;
+use entries::ENTRY_DEPTH;
 use entries::MAX_ENTRIES;
 use entries::first_at;
+use entries::form_of;
 use entries::read_entry;
 use json_tokens::comma_end;
 use level::Level;
@@ -25,13 +26,14 @@ pub fn load(
     sizes: &mut [u64; MAX_ENTRIES],
     packs: &mut [u64; MAX_ENTRIES],
 ) -> usize
-    requires { ⌜ Loadable (entryFor m) (now s) × Room (now prices) (now sizes) (now packs) ⌝ }
-    ensures { λ r. ⌜ Loaded (pieceFor m) (now (s .entry)) (rowsAt (entryFor m) (now (s .entry))) (now (prices .exit)) (now (sizes .exit)) (now (packs .exit)) r ⌝ }
+    requires { ⌜ Loadable (formOf m) (now s) × Room (now prices) (now sizes) (now packs) ⌝ }
+    ensures { λ r. ⌜ Loaded (pieceFor m) (now (s .entry)) (rowsAt (formOf m) (now (s .entry))) (now (prices .exit)) (now (sizes .exit)) (now (packs .exit)) r ⌝ }
 {
+    let form = form_of(m);
     let mut at = first_at(s);
     let mut k = 0;
     while 0 < at {
-        let entry = read_entry(s, at, m);
+        let entry = read_entry(s, at, ENTRY_DEPTH, form);
         let level = level_of(entry.price, entry.size, m);
         let words = level::words_of(level);
         prices[k] = words.price;

@@ -13,19 +13,20 @@ use Rattle.text.specs.Text.{byteAt}
 use Rattle.json_tokens.proofs.Laws.{in-byte}
 use Rattle.json.specs.Json.{Span, text}
 use Rattle.settings.specs.Settings.{Config, good, goodDepth}
-use Rattle.settings.specs.Kept.{isM}
 use Rattle.settings.specs.Rules.{rulesOf}
 use Rattle.settings.specs.declared.Dialect.{Dialect}
 use Rattle.settings.specs.declared.Dialect.the-variants.{K, M, Unknown}
 use Rattle.entries.specs.Places.{andThen, arrayAt, top}
-use Rattle.entries.specs.Rows.{Row, entryFor, entriesAt}
-use Rattle.entries.proofs.Shift.{Even, k-even, m-even, shifted-loadable}
+use Rattle.entries.specs.Rows.{Row, entriesAt}
+use Rattle.entries.proofs.Shift.{shifted-loadable}
 use Rattle.layout.specs.Layout.{Listed, Layout, Envelope}
 use Rattle.message.specs.Meaning.{Checked, fails, passes, bad, decimals, alsoDecimals, tooMany, counted, laidOut, addressed, envelopeIn, framed, checked}
 use Rattle.answer.specs.declared.Answer.{Answer}
 use Rattle.answer.specs.declared.Answer.the-variants.{TooLong, NotJson, Escaped, NotOurs, BadLayout, TooManyEntries, BadDecimal}
-use Rattle.message.proofs.Where.{entryIn, Lies, nowhere, there}
+use Rattle.message.proofs.Where.{Lies, nowhere, there}
 use Rattle.entries.specs.Arrays.{Ready}
+use Rattle.entries.specs.declared.Form.{Form}
+use Rattle.layout.specs.Depths.{sideDepth}
 
 pub no-pass : {A : Type 0} (a : Answer) (l : Layout) → fails a ≡ passes l → A
 no-pass a l h = let z : _≡_ {A = ℕ} 0 1 = cc in absurd (omega arith)
@@ -97,7 +98,7 @@ framed-few t s l h = let f = first (ltb (rulesOf (t .dialect) .longest) (length 
     first false true g = few-addressed (rulesOf (t .dialect) .entries) l (envelopeIn (t .dialect) t s (top s)) g
     first false false g = no-pass NotJson l g
 
--- ---- the entries of dialect K or M
+-- ---- dialect K or M
 
 -- a dialect that can be read
 pub data Readable : Dialect → Type 0 where
@@ -113,32 +114,21 @@ good-readable t h = go (t .dialect) refl
     go M e = is-m
     go Unknown e = absurd (true≢false (sym h ∙ rw e))
 
-pub entry-same : {d : Dialect} → Readable d → entryIn d ≡ entryFor (isM d)
-unfolding entryIn isM
-entry-same is-k = refl
-entry-same is-m = refl
-
-pub entry-even : {d : Dialect} (k : ℕ) (s : List ℕ) → Readable d → Even k s (entryFor (isM d))
-unfolding isM
-entry-even k s is-k = k-even k s
-entry-even k s is-m = m-even k s
-
 -- an array of entries lies in the text
-array-inside : (entry : List ℕ → Span → Reading Row) (s : List ℕ) (a : Span) (rows : List Row) → entriesAt entry s a ≡ reads rows → a .from ≤ length s
+array-inside : (form : Form) (s : List ℕ) (a : Span) (rows : List Row) → entriesAt form sideDepth s a ≡ reads rows → a .from ≤ length s
 unfolding entriesAt arrayAt andThen
-array-inside entry s a rows h = go (eqb (byteAt s (a .from)) 91) refl
+array-inside form s a rows h = go (eqb (byteAt s (a .from)) 91) refl
   where
     go : (b : Bool) → eqb (byteAt s (a .from)) 91 ≡ b → a .from ≤ length s
     go true q = let l : a .from < length s = in-byte s (a .from) 91 (lit< tt) (eqb-true (byteAt s (a .from)) 91 q) in omega arith
     go false q = no-reading (sym (rw q) ∙ h)
 
-module _ {d : Dialect} (r : Readable d) (s : List ℕ) (l : Listed) (few : length (l .rows) ≤ 100) where
+module _ (form : Form) (s : List ℕ) (l : Listed) (few : length (l .rows) ≤ 100) where
   -- the array can be loaded
-  pub listed-ready : Lies (entryIn d) s l → Ready (isM d) s (l .at) (length (l .rows))
+  pub listed-ready : Lies form s l → Ready form s (l .at) (length (l .rows))
   listed-ready (nowhere e) = let z : length (l .rows) ≡ 0 = ap length e in record { inside = λ n. absurd (n z); loadable = λ n. absurd (n z) }
   listed-ready (there to q) =
-      let q′ : entriesAt (entryFor (isM d)) s (record { from = l .at; to = to }) ≡ reads (l .rows) = subst (λ (e : List ℕ → Span → Reading Row). entriesAt e s (record { from = l .at; to = to }) ≡ reads (l .rows)) (entry-same r) q in
       record {
-        inside = λ n. array-inside (entryFor (isM d)) s (record { from = l .at; to = to }) (l .rows) q′;
-        loadable = λ n. shifted-loadable (l .at) s (drop (l .at) s) refl (entryFor (isM d)) (entry-even (l .at) s r) to (l .rows) q′ few;
+        inside = λ n. array-inside form s (record { from = l .at; to = to }) (l .rows) q;
+        loadable = λ n. shifted-loadable (l .at) s (drop (l .at) s) refl form to (l .rows) q few;
       }

@@ -8,18 +8,17 @@ use native.Mathlib.Omega.{arith}
 use borrow.Author.Tests.{eq-eqb, ne-eqb, lt-ltb, le-ltb}
 use lib.Dec.{eqb, ltb}
 use lib.ListN.{length, drop, length-drop}
-use Rattle.decimal.specs.Digits.{Reading, reads}
+use Rattle.decimal.specs.Digits.{reads}
 use Rattle.json.specs.Json.{Span}
 use Rattle.json.proofs.Shift.{shiftedSpan}
 use Rattle.settings.specs.Settings.{Config, good}
-use Rattle.settings.specs.Kept.{isM}
-use Rattle.settings.specs.declared.Dialect.{Dialect}
-use Rattle.entries.specs.Rows.{Row, entryFor, entriesAt, badTexts, firstOf}
+use Rattle.entries.specs.Rows.{Row, badTexts, firstOf}
 use Rattle.entries.proofs.Shift.{texts-shift, shifted-rows}
 use Rattle.layout.specs.Layout.{isSnapshot, Listed, Layout}
 use Rattle.layout.specs.Scan.{outlineOf}
 use Rattle.layout.specs.declared.Outline.{Outline}
 use Rattle.entries.specs.Arrays.{rowsAt, Ready}
+use Rattle.entries.specs.declared.Form.{Form}
 use Rattle.first_bad.specs.Places.{noPlace, placeOf, First}
 use Rattle.first_bad.specs.declared.Place.{Place}
 use Rattle.message.specs.Meaning.{Checked, fails, passes, framed, earlier, firstBad, firstBadOf, badDecimal}
@@ -29,8 +28,8 @@ use Rattle.answer.specs.declared.Answer.{Answer}
 use Rattle.message.specs.declared.Part.{Part}
 use Rattle.message.specs.declared.Verdict.{Verdict}
 use Rattle.message.specs.declared.Verdict.the-variants.{Fails, Passes}
-use Rattle.message.proofs.Where.{entryIn, Lies, nowhere, there, framed-lies}
-use Rattle.message.proofs.Entering.{Readable, good-readable, entry-same, entry-even, framed-few, listed-ready}
+use Rattle.message.proofs.Where.{formIn, Lies, nowhere, there, framed-lies}
+use Rattle.message.proofs.Entering.{framed-few, listed-ready}
 
 -- ---- of two places the one that is written first
 
@@ -81,20 +80,20 @@ unfolding movedBy placeOf shiftedSpan
 moved-place k [] = refl
 moved-place k (a ∷ x) = refl
 
-module _ (m : Bool) (s : List ℕ) (at count : ℕ) (snapshot : Bool) where
+module _ (form : Form) (s : List ℕ) (at count : ℕ) (snapshot : Bool) where
   abbrev texts : List Span
-  texts = badTexts snapshot (drop at s) (rowsAt (entryFor m) (drop at s))
+  texts = badTexts snapshot (drop at s) (rowsAt form (drop at s))
 
-  pub bad-none : count ≡ 0 → PlaceIs s (badAt m s at count snapshot) noPlace
+  pub bad-none : count ≡ 0 → PlaceIs s (badAt form s at count snapshot) noPlace
   unfolding badAt
   bad-none h = let e = eq-eqb count 0 h in record { is = sym (rw (e, badAt)); within = record { order = omega arith; inside = omega arith } }
 
   module _ (h : count ≡ 0 → ⊥) (r : Place) (f : First texts (drop at s) r) where
-    at-is : badAt m s at count snapshot ≡ movedBy at r
+    at-is : badAt form s at count snapshot ≡ movedBy at r
     unfolding badAt
     at-is = let e = ne-eqb count 0 h in rw (e, badAt) (ap (movedBy at) (sym (f .is)))
 
-    pub bad-found : r .bad ≡ true → at ≤ length s → PlaceIs s (badAt m s at count snapshot) (record { bad = true; from = at + r .from; to = at + r .to })
+    pub bad-found : r .bad ≡ true → at ≤ length s → PlaceIs s (badAt form s at count snapshot) (record { bad = true; from = at + r .from; to = at + r .to })
     unfolding movedBy
     bad-found g l =
         let n = length-drop at s in
@@ -102,7 +101,7 @@ module _ (m : Bool) (s : List ℕ) (at count : ℕ) (snapshot : Bool) where
         let i = f .inside in
         record { is = sym (at-is ∙ rw (g, movedBy)); within = record { order = omega arith; inside = omega arith } }
 
-    pub bad-missed : r .bad ≡ false → PlaceIs s (badAt m s at count snapshot) r
+    pub bad-missed : r .bad ≡ false → PlaceIs s (badAt form s at count snapshot) r
     unfolding movedBy placeOf
     bad-missed g = record { is = go texts (f .is) ∙ sym (at-is ∙ rw (g, movedBy)); within = record { order = f .order; inside = let n = length-drop at s in let i = f .inside in omega arith } }
       where
@@ -111,20 +110,19 @@ module _ (m : Bool) (s : List ℕ) (at count : ℕ) (snapshot : Bool) where
         go (a ∷ x) e = absurd (true≢false (sym (ap (λ (z : Place). z .bad) e) ∙ g))
 
 -- the entries of a side, in the whole message
-module _ {d : Dialect} (r : Readable d) (s : List ℕ) (snapshot : Bool) (l : Listed) where
-  side-bad : Lies (entryIn d) s l → badAt (isM d) s (l .at) (length (l .rows)) snapshot ≡ placeOf (badTexts snapshot s (l .rows))
+module _ (form : Form) (s : List ℕ) (snapshot : Bool) (l : Listed) where
+  side-bad : Lies form s l → badAt form s (l .at) (length (l .rows)) snapshot ≡ placeOf (badTexts snapshot s (l .rows))
   unfolding badAt badTexts placeOf
   side-bad (nowhere e) = rw e
   side-bad (there to q) =
-      let q′ : entriesAt (entryFor (isM d)) s (record { from = l .at; to = to }) ≡ reads (l .rows) = subst (λ (e : List ℕ → Span → Reading Row). entriesAt e s (record { from = l .at; to = to }) ≡ reads (l .rows)) (entry-same r) q in
-      let x = shifted-rows (l .at) s (drop (l .at) s) refl (entryFor (isM d)) (entry-even (l .at) s r) to (l .rows) q′ in
-      let w : movedBy (l .at) (placeOf (badTexts snapshot (drop (l .at) s) (rowsAt (entryFor (isM d)) (drop (l .at) s)))) ≡ placeOf (badTexts snapshot s (l .rows)) =
-      moved-place (l .at) (badTexts snapshot (drop (l .at) s) (rowsAt (entryFor (isM d)) (drop (l .at) s)))
-      ∙ ap placeOf (sym (texts-shift (l .at) s snapshot (rowsAt (entryFor (isM d)) (drop (l .at) s))) ∙ ap (badTexts snapshot s) (sym x)) in
+      let x = shifted-rows (l .at) s (drop (l .at) s) refl form to (l .rows) q in
+      let w : movedBy (l .at) (placeOf (badTexts snapshot (drop (l .at) s) (rowsAt form (drop (l .at) s)))) ≡ placeOf (badTexts snapshot s (l .rows)) =
+      moved-place (l .at) (badTexts snapshot (drop (l .at) s) (rowsAt form (drop (l .at) s)))
+      ∙ ap placeOf (sym (texts-shift (l .at) s snapshot (rowsAt form (drop (l .at) s))) ∙ ap (badTexts snapshot s) (sym x)) in
       at (l .rows) refl w
     where
-      at : (rows : List Row) → l .rows ≡ rows → movedBy (l .at) (placeOf (badTexts snapshot (drop (l .at) s) (rowsAt (entryFor (isM d)) (drop (l .at) s)))) ≡ placeOf (badTexts snapshot s (l .rows))
-          → cond (eqb (length (l .rows)) 0) noPlace (movedBy (l .at) (placeOf (badTexts snapshot (drop (l .at) s) (rowsAt (entryFor (isM d)) (drop (l .at) s))))) ≡ placeOf (badTexts snapshot s (l .rows))
+      at : (rows : List Row) → l .rows ≡ rows → movedBy (l .at) (placeOf (badTexts snapshot (drop (l .at) s) (rowsAt form (drop (l .at) s)))) ≡ placeOf (badTexts snapshot s (l .rows))
+          → cond (eqb (length (l .rows)) 0) noPlace (movedBy (l .at) (placeOf (badTexts snapshot (drop (l .at) s) (rowsAt form (drop (l .at) s))))) ≡ placeOf (badTexts snapshot s (l .rows))
       at [] e w = rw e
       at (x ∷ rows) e w = let n : eqb (length (l .rows)) 0 ≡ false = ne-eqb (length (l .rows)) 0 (λ z. let y = ap length e in omega arith) in rw n w
 
@@ -148,24 +146,24 @@ module _ (t : Config) (s : List ℕ) (h : good t ≡ true) (v : Verdict) (is : v
         go (fails b) k = let z : _≡_ {A = ℕ} 0 1 = cc in absurd (omega arith)
         go (passes l) k = let e : outlineOf s (reads l) ≡ o = cc in (l, refl, sym e)
 
-    pub frame-ready : (m : Bool) → m ≡ isM (t .dialect) → Ready m s (o .«bids_at») (o .bids) × Ready m s (o .«asks_at») (o .asks)
+    pub frame-ready : (form : Form) → form ≡ formIn (t .dialect) → Ready form s (o .«bids_at») (o .bids) × Ready form s (o .«asks_at») (o .asks)
     unfolding outlineOf
-    frame-ready m q =
+    frame-ready form q =
         let p = passed in
         let l = p .0 in
         let w = framed-lies t s l (p .1) in
         let f = framed-few t s l (p .1) in
-        let d = good-readable t h in
+        let d = formIn (t .dialect) in
         rw (q, p .2) (listed-ready d s (l .bids) (f .0) (w .bids), listed-ready d s (l .asks) (f .1) (w .asks))
 
-    pub frame-bad : (m : Bool) → m ≡ isM (t .dialect)
-        → earlierPlace (badAt m s (o .«bids_at») (o .bids) (isSnapshot (o .kind))) (badAt m s (o .«asks_at») (o .asks) (isSnapshot (o .kind))) ≡ partOf (firstBadOf s (framed t s))
+    pub frame-bad : (form : Form) → form ≡ formIn (t .dialect)
+        → earlierPlace (badAt form s (o .«bids_at») (o .bids) (isSnapshot (o .kind))) (badAt form s (o .«asks_at») (o .asks) (isSnapshot (o .kind))) ≡ partOf (firstBadOf s (framed t s))
     unfolding outlineOf firstBadOf firstBad
-    frame-bad m q =
+    frame-bad form q =
         let p = passed in
         let l = p .0 in
         let w = framed-lies t s l (p .1) in
-        let d = good-readable t h in
+        let d = formIn (t .dialect) in
         let b = side-bad d s (isSnapshot (l .kind)) (l .bids) (w .bids) in
         let a = side-bad d s (isSnapshot (l .kind)) (l .asks) (w .asks) in
         rw (q, p .2, p .1) (ap₂ earlierPlace b a ∙ earlier-places (badTexts (isSnapshot (l .kind)) s (l .bids .rows)) (badTexts (isSnapshot (l .kind)) s (l .asks .rows)))

@@ -15,11 +15,16 @@ use Rattle.decimal.proofs.Scan.{leading-whole}
 use Rattle.json.specs.Names.{part}
 use Rattle.json.specs.Json.{Span, Pair, text}
 use Rattle.settings.specs.Settings.{Config}
+use Rattle.settings.specs.Kept.{isM}
 use Rattle.settings.specs.Rules.{rulesOf}
 use Rattle.settings.specs.declared.Dialect.{Dialect}
 use Rattle.settings.specs.declared.Dialect.the-variants.{K, M, Unknown}
 use Rattle.entries.specs.Places.{isString, inner, andThen, all, arrayAt, objectAt, valuesOf, only, wholeAt, checksumAt, quotedChecksumAt, top}
-use Rattle.entries.specs.Rows.{Row, entryK, entryM, entriesAt}
+use Rattle.entries.specs.Rows.{Row, entriesAt}
+use Rattle.entries.specs.Arrays.{formOf}
+use Rattle.entries.specs.declared.Form.{Form}
+use Rattle.entries.specs.declared.Form.the-variants as forms
+use Rattle.layout.specs.Depths.{sideDepth}
 use Rattle.layout.specs.Layout.{Printed, printed, unprinted, Listed, Layout, Envelope, unlisted, listedAt, laid}
 use Rattle.layout.specs.declared.Kind.{Kind}
 use Rattle.layout.specs.declared.Kind.the-variants.{Snapshot, Update}
@@ -31,21 +36,19 @@ use Rattle.message.specs.Meaning.{fails, passes, tooMany, counted, laidO
 use Rattle.answer.specs.declared.Answer.{Answer}
 use Rattle.answer.specs.declared.Answer.the-variants.{TooLong, NotJson, Escaped, NotOurs, BadLayout, TooManyEntries}
 
--- The entries of dialect d.
-unfoldable pub entryIn : Dialect → List ℕ → Span → Reading Row
-entryIn K = entryK
-entryIn M = entryM
-entryIn Unknown = λ s a. refused
+-- The form of the entries of a dialect.
+abbrev pub formIn : Dialect → Form
+formIn d = formOf (isM d)
 
 -- The rows are those of the array of entries at the position, or there are none.
-pub data Lies (entry : List ℕ → Span → Reading Row) (s : List ℕ) (l : Listed) : Type 0 where
-  nowhere : l .rows ≡ [] → Lies entry s l
-  there : (to : ℕ) → entriesAt entry s (record { from = l .at; to = to }) ≡ reads (l .rows) → Lies entry s l
+pub data Lies (form : Form) (s : List ℕ) (l : Listed) : Type 0 where
+  nowhere : l .rows ≡ [] → Lies form s l
+  there : (to : ℕ) → entriesAt form sideDepth s (record { from = l .at; to = to }) ≡ reads (l .rows) → Lies form s l
 
 -- The entries of both sides, a sequence number of at most 19 digits, and a checksum within its bound.
-pub record LieIn (entry : List ℕ → Span → Reading Row) (s : List ℕ) (l : Layout) : Type 0 where
-  pub bids : Lies entry s (l .bids)
-  pub asks : Lies entry s (l .asks)
+pub record LieIn (form : Form) (s : List ℕ) (l : Layout) : Type 0 where
+  pub bids : Lies form s (l .bids)
+  pub asks : Lies form s (l .asks)
   pub small : l .number < 10 ^ 19
   pub low : (n : ℕ) → l .checksum ≡ printed n → n ≤ 4294967295
 
@@ -117,20 +120,20 @@ quoted-low s a n h = go (isString s a) h
     go false g = no-reading g
 
 -- ---- a side, and a layout of two
-module _ (entry : List ℕ → Span → Reading Row) (s : List ℕ) where
-  listed-lies : (a : Span) (l : Listed) → listedAt entry s a ≡ reads l → Lies entry s l
+module _ (form : Form) (s : List ℕ) where
+  listed-lies : (a : Span) (l : Listed) → listedAt form sideDepth s a ≡ reads l → Lies form s l
   unfolding listedAt andThen
-  listed-lies a l h = go (entriesAt entry s a) refl h
+  listed-lies a l h = go (entriesAt form sideDepth s a) refl h
     where
-      go : (x : Reading (List Row)) → entriesAt entry s a ≡ x → andThen x (λ rows. reads (record { at = a .from; rows = rows })) ≡ reads l → Lies entry s l
+      go : (x : Reading (List Row)) → entriesAt form sideDepth s a ≡ x → andThen x (λ rows. reads (record { at = a .from; rows = rows })) ≡ reads l → Lies form s l
       go (reads rows) q g =
           let e : l ≡ record { at = a .from; rows = rows } = sym (reads-same g) in
           rw e (there (a .to) q)
       go refused q g = no-reading g
 
   laid-lies : (kind : Kind) (p : Printed) (n : ℕ) (b a : Reading Listed)
-      → ((x : Listed) → b ≡ reads x → Lies entry s x) → ((x : Listed) → a ≡ reads x → Lies entry s x)
-      → n < 10 ^ 19 → ((k : ℕ) → p ≡ printed k → k ≤ 4294967295) → (l : Layout) → laid kind p n b a ≡ reads l → LieIn entry s l
+      → ((x : Listed) → b ≡ reads x → Lies form s x) → ((x : Listed) → a ≡ reads x → Lies form s x)
+      → n < 10 ^ 19 → ((k : ℕ) → p ≡ printed k → k ≤ 4294967295) → (l : Layout) → laid kind p n b a ≡ reads l → LieIn form s l
   unfolding laid andThen
   laid-lies kind p n (reads b) (reads a) f g small low l h =
       let e : l ≡ record { kind = kind; bids = b; asks = a; checksum = p; number = n } = sym (reads-same h) in
@@ -140,17 +143,17 @@ module _ (entry : List ℕ → Span → Reading Row) (s : List ℕ) where
 
 -- ---- K
 module _ (s : List ℕ) where
-  k-list-lies : (l : List Span) (x : Listed) → listedOf s l ≡ reads x → Lies entryK s x
+  k-list-lies : (l : List Span) (x : Listed) → listedOf s l ≡ reads x → Lies forms.Triple s x
   unfolding listedOf
   k-list-lies [] x h = let e : x ≡ unlisted = sym (reads-same h) in rw e (nowhere refl)
-  k-list-lies (a ∷ []) x h = listed-lies entryK s a x h
+  k-list-lies (a ∷ []) x h = listed-lies forms.Triple s a x h
   k-list-lies (a ∷ (b ∷ l)) x h = no-reading h
 
-  k-objects-lie : (o : List (List Pair)) (l : Layout) → objectsLayout s o ≡ reads l → LieIn entryK s l
+  k-objects-lie : (o : List (List Pair)) (l : Layout) → objectsLayout s o ≡ reads l → LieIn forms.Triple s l
   unfolding objectsLayout listedIn
   k-objects-lie o l h = at (isSnapshot s o) (isUpdate s o) h
     where
-      lies : (name : List ℕ) (x : Listed) → listedIn s name o ≡ reads x → Lies entryK s x
+      lies : (name : List ℕ) (x : Listed) → listedIn s name o ≡ reads x → Lies forms.Triple s x
       lies name = k-list-lies (valuesOf s name (together o))
 
       at : (x y : Bool)
@@ -159,15 +162,15 @@ module _ (s : List ℕ) where
           (andThen (only (valuesOf s (ascii "c") (together o))) (λ c.
           andThen (quotedChecksumAt s c) (λ sum. laid Update (printed sum) 0 (listedIn s (ascii "b") o) (listedIn s (ascii "a") o))))
           refused)
-          ≡ reads l → LieIn entryK s l
-      at true y g = laid-lies entryK s Snapshot unprinted 0 _ _ (lies (ascii "bs")) (lies (ascii "as")) (lit< tt) (λ k e. no-print e) l g
+          ≡ reads l → LieIn forms.Triple s l
+      at true y g = laid-lies forms.Triple s Snapshot unprinted 0 _ _ (lies (ascii "bs")) (lies (ascii "as")) (lit< tt) (λ k e. no-print e) l g
       at false true g =
           let c = then-reads (only (valuesOf s (ascii "c") (together o))) _ l g in
           let d = then-reads (quotedChecksumAt s (c .0)) _ l (c .1) in
-          laid-lies entryK s Update (printed (d .0)) 0 _ _ (lies (ascii "b")) (lies (ascii "a")) (lit< tt) (λ k e. subst (λ (x : ℕ). x ≤ 4294967295) (printed-same e) (quoted-low s (c .0) (d .0) (d .2))) l (d .1)
+          laid-lies forms.Triple s Update (printed (d .0)) 0 _ _ (lies (ascii "b")) (lies (ascii "a")) (lit< tt) (λ k e. subst (λ (x : ℕ). x ≤ 4294967295) (printed-same e) (quoted-low s (c .0) (d .0) (d .2))) l (d .1)
       at false false g = no-reading g
 
-  k-lies : (f : Frame) (l : Layout) → layoutK s f ≡ reads l → LieIn entryK s l
+  k-lies : (f : Frame) (l : Layout) → layoutK s f ≡ reads l → LieIn forms.Triple s l
   unfolding layoutK
   k-lies f l h =
       let n = then-reads (wholeAt s (f .first)) _ l h in
@@ -175,13 +178,13 @@ module _ (s : List ℕ) where
       k-objects-lie (o .0) l (o .1)
 
   -- ---- M
-  m-list-lies : (name : List ℕ) (ms : List Pair) (x : Listed) → listedInM s name ms ≡ reads x → Lies entryM s x
+  m-list-lies : (name : List ℕ) (ms : List Pair) (x : Listed) → listedInM s name ms ≡ reads x → Lies forms.Pair s x
   unfolding listedInM
   m-list-lies name ms x h =
-      let a = then-reads (only (valuesOf s name ms)) (listedAt entryM s) x h in
-      listed-lies entryM s (a .0) x (a .1)
+      let a = then-reads (only (valuesOf s name ms)) (listedAt forms.Pair sideDepth s) x h in
+      listed-lies forms.Pair s (a .0) x (a .1)
 
-  m-lies : (ms : List Pair) (l : Layout) → layoutM s ms ≡ reads l → LieIn entryM s l
+  m-lies : (ms : List Pair) (l : Layout) → layoutM s ms ≡ reads l → LieIn forms.Pair s l
   unfolding layoutM wholeAt checksumAt
   m-lies ms l h =
       let a = then-reads (only (valuesOf s (ascii "channel") ms)) _ l h in
@@ -194,35 +197,35 @@ module _ (s : List ℕ) where
       let n = then-reads (checksumAt s (k .0)) _ l (k .1) in
       let g = then-reads (only (valuesOf s (ascii "gsn") ms)) _ l (n .1) in
       let w = then-reads (wholeAt s (g .0)) _ l (g .1) in
-      laid-lies entryM s (t .0) (printed (n .0)) (w .0) _ _ (m-list-lies (ascii "bids") (o .0)) (m-list-lies (ascii "asks") (o .0)) (whole-small (part s (g .0)) (w .0) (w .2)) (λ i e. subst (λ (x : ℕ). x ≤ 4294967295) (printed-same e) (checksum-low (part s (k .0)) (n .0) (n .2))) l (w .1)
+      laid-lies forms.Pair s (t .0) (printed (n .0)) (w .0) _ _ (m-list-lies (ascii "bids") (o .0)) (m-list-lies (ascii "asks") (o .0)) (whole-small (part s (g .0)) (w .0) (w .2)) (λ i e. subst (λ (x : ℕ). x ≤ 4294967295) (printed-same e) (checksum-low (part s (k .0)) (n .0) (n .2))) l (w .1)
 
 -- ---- the whole: a message that passes checks 2 to 7, and one that passes 8 too
 no-pass : {A : Type 0} (a : Answer) (l : Layout) → fails a ≡ passes l → A
 no-pass a l h = let z : _≡_ {A = ℕ} 0 1 = cc in absurd (omega arith)
 
-module _ (entry : List ℕ → Span → Reading Row) (s : List ℕ) where
-  counted-lies : (most : ℕ) (r : Reading Layout) → ((x : Layout) → r ≡ reads x → LieIn entry s x) → (l : Layout) → laidOut most r ≡ passes l → LieIn entry s l
+module _ (form : Form) (s : List ℕ) where
+  counted-lies : (most : ℕ) (r : Reading Layout) → ((x : Layout) → r ≡ reads x → LieIn form s x) → (l : Layout) → laidOut most r ≡ passes l → LieIn form s l
   unfolding laidOut counted
   counted-lies most (reads x) f l h = at (tooMany most x) h
     where
-      at : (b : Bool) → cond b (fails TooManyEntries) (passes x) ≡ passes l → LieIn entry s l
+      at : (b : Bool) → cond b (fails TooManyEntries) (passes x) ≡ passes l → LieIn form s l
       at true g = no-pass TooManyEntries l g
       at false g = let e : l ≡ x = cc in rw e (f x refl)
   counted-lies most refused f l h = no-pass BadLayout l h
 
-  addressed-lies : (most : ℕ) (r : Reading Envelope) → ((x : Envelope) → r ≡ reads x → (y : Layout) → x .layout ≡ reads y → LieIn entry s y)
-      → (l : Layout) → addressed most r ≡ passes l → LieIn entry s l
+  addressed-lies : (most : ℕ) (r : Reading Envelope) → ((x : Envelope) → r ≡ reads x → (y : Layout) → x .layout ≡ reads y → LieIn form s y)
+      → (l : Layout) → addressed most r ≡ passes l → LieIn form s l
   unfolding addressed
   addressed-lies most (reads x) f l h = at (x .escaped) (x .ours) h
     where
-      at : (a b : Bool) → cond a (fails Escaped) (cond b (laidOut most (x .layout)) (fails NotOurs)) ≡ passes l → LieIn entry s l
+      at : (a b : Bool) → cond a (fails Escaped) (cond b (laidOut most (x .layout)) (fails NotOurs)) ≡ passes l → LieIn form s l
       at true b g = no-pass Escaped l g
       at false true g = counted-lies most (x .layout) (f x refl) l g
       at false false g = no-pass NotOurs l g
   addressed-lies most refused f l h = no-pass NotOurs l h
 
-heard-lies : (d : Dialect) (t : Config) (s : List ℕ) (a : Span) (x : Envelope) → envelopeIn d t s a ≡ reads x → (y : Layout) → x .layout ≡ reads y → LieIn (entryIn d) s y
-unfolding envelopeIn entryIn envelopeK envelopeM
+heard-lies : (d : Dialect) (t : Config) (s : List ℕ) (a : Span) (x : Envelope) → envelopeIn d t s a ≡ reads x → (y : Layout) → x .layout ≡ reads y → LieIn (formIn d) s y
+unfolding envelopeIn isM envelopeK envelopeM
 heard-lies K t s a x h y g =
     let f = then-reads (andThen (arrayAt 16 s a) frameOf) _ x h in
     let e = reads-same (f .1) in
@@ -233,11 +236,11 @@ heard-lies M t s a x h y g =
     m-lies s (f .0) y (ap (λ (z : Envelope). z .layout) e ∙ g)
 heard-lies Unknown t s a x h y g = no-reading h
 
-pub framed-lies : (t : Config) (s : List ℕ) (l : Layout) → framed t s ≡ passes l → LieIn (entryIn (t .dialect)) s l
+pub framed-lies : (t : Config) (s : List ℕ) (l : Layout) → framed t s ≡ passes l → LieIn (formIn (t .dialect)) s l
 unfolding framed
 framed-lies t s l h = at (ltb (rulesOf (t .dialect) .longest) (length s)) (text s) h
   where
-    at : (a b : Bool) → cond a (fails TooLong) (cond b (addressed (rulesOf (t .dialect) .entries) (envelopeIn (t .dialect) t s (top s))) (fails NotJson)) ≡ passes l → LieIn (entryIn (t .dialect)) s l
+    at : (a b : Bool) → cond a (fails TooLong) (cond b (addressed (rulesOf (t .dialect) .entries) (envelopeIn (t .dialect) t s (top s))) (fails NotJson)) ≡ passes l → LieIn (formIn (t .dialect)) s l
     at true b g = no-pass TooLong l g
-    at false true g = addressed-lies (entryIn (t .dialect)) s (rulesOf (t .dialect) .entries) (envelopeIn (t .dialect) t s (top s)) (heard-lies (t .dialect) t s (top s)) l g
+    at false true g = addressed-lies (formIn (t .dialect)) s (rulesOf (t .dialect) .entries) (envelopeIn (t .dialect) t s (top s)) (heard-lies (t .dialect) t s (top s)) l g
     at false false g = no-pass NotJson l g

@@ -6,8 +6,9 @@ use mathlib.Core.List.{List}
 use lib.Dec.{eqb, ltb}
 use lib.ListN.{length, drop}
 use Rattle.json.specs.Json.{Span}
-use Rattle.entries.specs.Rows.{entryFor, badTexts}
+use Rattle.entries.specs.Rows.{badTexts}
 use Rattle.entries.specs.Arrays.{rowsAt}
+use Rattle.entries.specs.declared.Form.{Form}
 use Rattle.first_bad.specs.Places.{noPlace, placeOf}
 use Rattle.first_bad.specs.declared.Place.{Place}
 use Rattle.message.specs.declared.Part.{Part}
@@ -19,8 +20,8 @@ partOf a = record { from = a .from; to = a .to }
 unfoldable pub movedBy : ℕ → Place → Place
 movedBy k p = cond (p .bad) (record { bad = true; from = k + p .from; to = k + p .to }) noPlace
 
-unfoldable pub badAt : Bool → List ℕ → ℕ → ℕ → Bool → Place
-badAt m s at count snapshot = cond (eqb count 0) noPlace (movedBy at (placeOf (badTexts snapshot (drop at s) (rowsAt (entryFor m) (drop at s)))))
+unfoldable pub badAt : Form → List ℕ → ℕ → ℕ → Bool → Place
+badAt form s at count snapshot = cond (eqb count 0) noPlace (movedBy at (placeOf (badTexts snapshot (drop at s) (rowsAt form (drop at s)))))
 
 -- Of two of them the one that is written first.
 unfoldable pub earlierPlace : Place → Place → Part

@@ -10,6 +10,8 @@ ghost use Rattle.message.specs.Bad.{partOf, badAt, earlierPlace, PlaceIs
 use crate::Part;
 use crate::Verdict;
 use crate::read_frame;
+use entries::Form;
+use entries::form_of;
 use first_bad::Place;
 use first_bad::first_bad;
 use layout::Outline;
@@ -44,19 +46,19 @@ fn bad_in_frame(dialect: Dialect, depth: usize, name: &[u8], s: &[u8]) -> Part
 {
     match read_frame(dialect, depth, name, s) {
         Verdict::Fails(_) => Part { from: 0, to: 0 },
-        Verdict::Passes(outline) => bad_in(s, is_m(dialect), outline),
+        Verdict::Passes(outline) => bad_in(s, form_of(is_m(dialect)), outline),
     }
 }
 
 // Of the first bad texts of both sides the one that is written first.
-fn bad_in(s: &[u8], m: bool, outline: Outline) -> Part
-    requires { ⌜ Ready m (now s) (outline .«bids_at») (outline .bids) × Ready m (now s) (outline .«asks_at») (outline .asks) ⌝ }
-    ensures { λ r. ⌜ PartIs (now (s .entry)) (earlierPlace (badAt m (now (s .entry)) (outline .«bids_at») (outline .bids) (isSnapshot (outline .kind))) (badAt m (now (s .entry)) (outline .«asks_at») (outline .asks) (isSnapshot (outline .kind)))) r ⌝ }
+fn bad_in(s: &[u8], form: Form, outline: Outline) -> Part
+    requires { ⌜ Ready form (now s) (outline .«bids_at») (outline .bids) × Ready form (now s) (outline .«asks_at») (outline .asks) ⌝ }
+    ensures { λ r. ⌜ PartIs (now (s .entry)) (earlierPlace (badAt form (now (s .entry)) (outline .«bids_at») (outline .bids) (isSnapshot (outline .kind))) (badAt form (now (s .entry)) (outline .«asks_at») (outline .asks) (isSnapshot (outline .kind)))) r ⌝ }
 {
     let kind = outline.kind;
     let snapshot = is_snapshot(kind);
-    let bid = bad_at(s, m, outline.bids_at, outline.bids, snapshot);
-    let ask = bad_at(s, m, outline.asks_at, outline.asks, snapshot);
+    let bid = bad_at(s, form, outline.bids_at, outline.bids, snapshot);
+    let ask = bad_at(s, form, outline.asks_at, outline.asks, snapshot);
     earlier(bid, ask)
 }
 
@@ -88,9 +90,9 @@ fn earlier(bid: Place, ask: Place) -> Part
 }
 
 // The first bad text of the entries at a position.
-fn bad_at(s: &[u8], m: bool, at: usize, count: usize, snapshot: bool) -> Place
-    requires { ⌜ Ready m (now s) at count ⌝ }
-    ensures { λ r. ⌜ PlaceIs (now (s .entry)) (badAt m (now (s .entry)) at count snapshot) r ⌝ }
+fn bad_at(s: &[u8], form: Form, at: usize, count: usize, snapshot: bool) -> Place
+    requires { ⌜ Ready form (now s) at count ⌝ }
+    ensures { λ r. ⌜ PlaceIs (now (s .entry)) (badAt form (now (s .entry)) at count snapshot) r ⌝ }
 {
     if count == 0 {
         return Place {
@@ -99,7 +101,7 @@ fn bad_at(s: &[u8], m: bool, at: usize, count: usize, snapshot: bool) -> Place
             to: 0,
         };
     }
-    let place = first_bad(&s[at..], m, snapshot);
+    let place = first_bad(&s[at..], form, snapshot);
     if place.bad {
         return Place {
             bad: true,

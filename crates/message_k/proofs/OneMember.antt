@@ -11,7 +11,7 @@ use Rattle.json_tokens.specs.Tokens.{At}
 use Rattle.json_tokens.specs.Ends.{endOf}
 use Rattle.json.specs.Json.{Span, Pair, value}
 use Rattle.json.specs.Names.{means}
-use Rattle.entries.specs.Rows.{entryK}
+use Rattle.entries.specs.declared.Form.the-variants.{Triple}
 use Rattle.entries.specs.Summary.{summaryAt}
 use Rattle.entries.specs.declared.Entries.{Entries}
 use Rattle.entries.proofs.Summary.{summary-end, summary-is}
@@ -29,16 +29,16 @@ mix [] = 0
 mix (c ∷ l) = c + 256 * mix l
 
 -- ---- what a slot has, once the entries at `from` are read
-module _ (s : List ℕ) (from : ℕ) (g : Entries) (h : g ≡ summaryAt entryK s from) where
+module _ (s : List ℕ) (from : ℕ) (g : Entries) (h : g ≡ summaryAt Triple 14 s from) where
   pub entries-end : g .end ≡ endOf (value 14 s from)
-  entries-end = ap (λ (x : Entries). x .end) h ∙ summary-end entryK s from
+  entries-end = ap (λ (x : Entries). x .end) h ∙ summary-end Triple 14 s from
 
   slot-is : (t w : EntryMember) → w ≡ record { times = fewMore (t .times); listing = entryArrayFrom from g } → (e : ℕ) → value 14 s from ≡ At e
       → w ≡ withEntryArray (entryArrayK s) t (record { from = from; to = e })
   unfolding withEntryArray entryArrayK
   slot-is t w q e v =
       q ∙ ap (λ l. record { times = fewMore (t .times); listing = l })
-      (ap (entryArrayFrom from) (h ∙ summary-is entryK s from e v) ∙ listing-of entryK s (record { from = from; to = e }) e)
+      (ap (entryArrayFrom from) (h ∙ summary-is Triple 14 s from e v) ∙ listing-of Triple 14 s (record { from = from; to = e }) e)
 
   end-is : (e : ℕ) → value 14 s from ≡ At e → g .end ≡ e
   unfolding endOf
@@ -76,7 +76,7 @@ module _ (s : List ℕ) (t : Members) (name : Span) (from : ℕ) where
       at false g = refl
 
   -- ---- members that hold entries: g is what is told of the entries, and w the slot with them
-  module _ (g : Entries) (h : g ≡ summaryAt entryK s from) (w : EntryMember) where
+  module _ (g : Entries) (h : g ≡ summaryAt Triple 14 s from) (w : EntryMember) where
     abbrev Put : EntryMember → Type 0
     Put old = w ≡ record { times = fewMore (old .times); listing = entryArrayFrom from g }
 

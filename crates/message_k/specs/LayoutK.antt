@@ -9,8 +9,8 @@ use Rattle.decimal.specs.Digits.{Reading, reads, refused, written}
 use Rattle.json.specs.Json.{Span, Pair, maxDepth}
 use Rattle.json.specs.Names.{means, hasBackslash}
 use Rattle.entries.specs.Places.{andThen, all, isString, arrayAt, objectAt, valuesOf, only, wholeAt, quotedChecksumAt}
-use Rattle.entries.specs.Rows.{entryK}
-use Rattle.layout.specs.Depths.{itemDepth}
+use Rattle.entries.specs.declared.Form.the-variants.{Triple}
+use Rattle.layout.specs.Depths.{itemDepth, sideDepth}
 use Rattle.layout.specs.Layout.{printed, unprinted, Listed, Layout, Envelope, unlisted, listedAt, laid}
 use Rattle.layout.specs.declared.Kind.the-variants.{Snapshot, Update}
 
@@ -79,7 +79,7 @@ isUpdate s objects =
 -- The array of entries that the members of a name hold, of which there is one at the most.
 unfoldable pub listedOf : List ℕ → List Span → Reading Listed
 listedOf s [] = reads unlisted
-listedOf s (a ∷ []) = listedAt entryK s a
+listedOf s (a ∷ []) = listedAt Triple sideDepth s a
 listedOf s (a ∷ (b ∷ l)) = refused
 
 unfoldable pub listedIn : List ℕ → List ℕ → List (List Pair) → Reading Listed

@@ -11,7 +11,7 @@ use Rattle.json_tokens.specs.Ends.{endOf}
 use Rattle.json.specs.Json.{Span, Pair, value}
 use Rattle.json.specs.Names.{means}
 use Rattle.entries.specs.Places.{objectAt, quotedChecksumAt}
-use Rattle.entries.specs.Rows.{entryK}
+use Rattle.entries.specs.declared.Form.the-variants.{Triple}
 use Rattle.layout.specs.Depths.{itemDepth, sideDepth}
 use Rattle.layout.specs.Layout.{listedAt}
 use Rattle.layout.specs.declared.Kind.the-variants.{Snapshot, Update}
@@ -36,7 +36,7 @@ orZero refused = 0
 
 -- The entries that a value holds.
 unfoldable pub entryArrayK : List ℕ → Span → EntryArray
-entryArrayK s a = entryArrayOf s (listedAt entryK s a)
+entryArrayK s a = entryArrayOf s (listedAt Triple sideDepth s a)
 
 unfoldable pub entryMemberWith : List ℕ → List ℕ → EntryMember → Pair → EntryMember
 entryMemberWith s name t m = cond (means s (m .name) name) (withEntryArray (entryArrayK s) t (m .value)) t

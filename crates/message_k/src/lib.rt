@@ -10,6 +10,7 @@ use decimal::ParsedWhole;
 use decimal::parse_checksum;
 use decimal::parse_whole;
 use entries::Entries;
+use entries::Form;
 use entries::entries_at;
 use json::MAX_DEPTH;
 use json::has_backslash;
@@ -299,25 +300,25 @@ fn k_member(s: &[u8], members: Members, name_from: usize, name_to: usize, from: 
         return with_checksum(s, next, from);
     }
     if is_short_name(s, name_from, name_to, A_NAME, 1) {
-        let entries = entries_at(s, from, false);
+        let entries = entries_at(s, from, SIDE_DEPTH, Form::Triple);
         next.end = entries.end;
         next.asks = with_entries(next.asks, from, entries);
         return next;
     }
     if is_short_name(s, name_from, name_to, B_NAME, 1) {
-        let entries = entries_at(s, from, false);
+        let entries = entries_at(s, from, SIDE_DEPTH, Form::Triple);
         next.end = entries.end;
         next.bids = with_entries(next.bids, from, entries);
         return next;
     }
     if is_short_name(s, name_from, name_to, AS_NAME, 2) {
-        let entries = entries_at(s, from, false);
+        let entries = entries_at(s, from, SIDE_DEPTH, Form::Triple);
         next.end = entries.end;
         next.snapshot_asks = with_entries(next.snapshot_asks, from, entries);
         return next;
     }
     if is_short_name(s, name_from, name_to, BS_NAME, 2) {
-        let entries = entries_at(s, from, false);
+        let entries = entries_at(s, from, SIDE_DEPTH, Form::Triple);
         next.end = entries.end;
         next.snapshot_bids = with_entries(next.snapshot_bids, from, entries);
         return next;

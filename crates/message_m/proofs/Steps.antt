@@ -18,7 +18,8 @@ use Rattle.json.specs.Ends.{spelled}
 use Rattle.json.proofs.Laws.{value-array}
 use Rattle.json.proofs.Claims.{backslash-no-name}
 use Rattle.entries.specs.Places.{andThen, contents, isString, arrayAt, objectAt}
-use Rattle.entries.specs.Rows.{entriesAt, entryM}
+use Rattle.entries.specs.Rows.{entriesAt}
+use Rattle.entries.specs.declared.Form.the-variants as forms
 use Rattle.entries.specs.Summary.{noEntries, summaryOf, summaryAt}
 use Rattle.entries.specs.declared.Entries.{Entries}
 use Rattle.entries.proofs.Summary.{summary-is}
@@ -303,21 +304,21 @@ array-broken d s a h = go (eqb (byteAt s (a .from)) 91) refl
     go false q = refl
 
 -- the listing of a value, as the code has it
-pub side-is : (s : List ℕ) (at : ℕ) (e : Entries) → e ≡ summaryAt entryM s at → (l : EntryArray) → l ≡ entryArrayFrom at e
+pub side-is : (s : List ℕ) (at : ℕ) (e : Entries) → e ≡ summaryAt forms.Pair 14 s at → (l : EntryArray) → l ≡ entryArrayFrom at e
     → l ≡ sideM s (record { from = at; to = endOf (value 14 s at) })
 unfolding entriesAt andThen summaryAt endOf summaryOf
 side-is s at e h l g = g ∙ ap (entryArrayFrom at) h ∙ go (value 14 s at) refl
   where
-    none : (t : ℕ) → value 14 s at ≡ Broken → entriesAt entryM s (record { from = at; to = t }) ≡ refused
+    none : (t : ℕ) → value 14 s at ≡ Broken → entriesAt forms.Pair 14 s (record { from = at; to = t }) ≡ refused
     none t q = rw (array-broken 13 s (record { from = at; to = t }) q)
 
-    nothing : value 14 s at ≡ Broken → summaryAt entryM s at ≡ noEntries 0
+    nothing : value 14 s at ≡ Broken → summaryAt forms.Pair 14 s at ≡ noEntries 0
     nothing q = rw (q, summaryAt)
 
-    go : (x : End) → value 14 s at ≡ x → entryArrayFrom at (summaryAt entryM s at) ≡ sideM s (record { from = at; to = endOf x })
-    go (At t) q = ap (entryArrayFrom at) (summary-is entryM s at t q) ∙ listing-of entryM s (record { from = at; to = t }) t
+    go : (x : End) → value 14 s at ≡ x → entryArrayFrom at (summaryAt forms.Pair 14 s at) ≡ sideM s (record { from = at; to = endOf x })
+    go (At t) q = ap (entryArrayFrom at) (summary-is forms.Pair 14 s at t q) ∙ listing-of forms.Pair 14 s (record { from = at; to = t }) t
     go Broken q =
-        ap (entryArrayFrom at) (nothing q ∙ sym (ap (summaryOf s 0) (none 0 q))) ∙ listing-of entryM s (record { from = at; to = 0 }) 0
+        ap (entryArrayFrom at) (nothing q ∙ sym (ap (summaryOf s 0) (none 0 q))) ∙ listing-of forms.Pair 14 s (record { from = at; to = 0 }) 0
 
 -- one more in its slot
 pub slot-more : (s : List ℕ) (t : EntryMember) (a : Span) {l : EntryArray} {r : EntryMember} → r ≡ record { times = fewMore (t .times); listing = l } → l ≡ sideM s a → r ≡ withEntryArray (sideM s) t a

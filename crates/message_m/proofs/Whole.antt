@@ -16,7 +16,7 @@ use Rattle.json.specs.Json.{Span, Pair, value}
 use Rattle.json.specs.Names.{means, hasBackslash}
 use Rattle.json.proofs.Fold.{Loop, Left, overMembers}
 use Rattle.entries.specs.Places.{andThen, objectAt, valuesOf, only, wholeAt, checksumAt}
-use Rattle.entries.specs.Rows.{entryM}
+use Rattle.entries.specs.declared.Form.the-variants as forms
 use Rattle.json.specs.Fold.{foldFrom}
 use Rattle.layout.specs.Layout.{printed, Listed, Layout, Envelope, listedAt, laid}
 use Rattle.layout.specs.MemberSpans.{few, fewMore, withMemberSpan, memberSpanOf, withEntryArray, entryMemberOf}
@@ -152,7 +152,7 @@ then-out s {A} f g x y h k = go x refl ∙ ap (λ (z : Reading A). outlineWhere 
 
 module _ (s : List ℕ) where
   -- a side of `data`
-  side-of : (l : List Span) → entryArrayOf s (andThen (only l) (listedAt entryM s)) ≡ onceListed (entryMemberOf (sideM s) l)
+  side-of : (l : List Span) → entryArrayOf s (andThen (only l) (listedAt forms.Pair 14 s)) ≡ onceListed (entryMemberOf (sideM s) l)
   unfolding andThen only entryArrayOf onceListed foldFrom withEntryArray fewMore few
   side-of [] = refl
   side-of (a ∷ []) = refl

@@ -11,8 +11,8 @@ use Rattle.json_tokens.specs.Ends.{endOf}
 use Rattle.json.specs.Json.{Span, Pair, value}
 use Rattle.json.specs.Names.{means, hasBackslash}
 use Rattle.entries.specs.Places.{andThen, isString, objectAt, valuesOf, wholeAt, checksumAt}
-use Rattle.entries.specs.Rows.{entryM}
-use Rattle.layout.specs.Depths.{itemDepth}
+use Rattle.entries.specs.declared.Form.the-variants as forms
+use Rattle.layout.specs.Depths.{itemDepth, sideDepth}
 use Rattle.layout.specs.Layout.{listedAt}
 use Rattle.layout.specs.MemberSpans.{noMemberSpan, withMemberSpan, noEntryMember, withEntryArray, entryMemberOf}
 use Rattle.layout.specs.Scan.{notEntryArray, entryArrayOf, noOutline, outlineFrom}
@@ -41,7 +41,7 @@ memberAt depth s first past from = record { name = record { from = first; to = p
 -- ---- the value of a member `data`
 
 abbrev pub sideM : List ℕ → Span → EntryArray
-sideM s a = entryArrayOf s (listedAt entryM s a)
+sideM s a = entryArrayOf s (listedAt forms.Pair sideDepth s a)
 
 -- A value that ends at `end` and has no sides.
 unfoldable pub noData : ℕ → Data

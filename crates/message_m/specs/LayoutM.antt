@@ -7,8 +7,8 @@ use Rattle.decimal.specs.Digits.{Reading, reads, refused}
 use Rattle.json.specs.Json.{Span, Pair, maxDepth}
 use Rattle.json.specs.Names.{means, hasBackslash}
 use Rattle.entries.specs.Places.{andThen, isString, objectAt, valuesOf, only, wholeAt, checksumAt}
-use Rattle.entries.specs.Rows.{entryM}
-use Rattle.layout.specs.Depths.{itemDepth}
+use Rattle.entries.specs.declared.Form.the-variants as forms
+use Rattle.layout.specs.Depths.{itemDepth, sideDepth}
 use Rattle.layout.specs.Layout.{printed, Listed, Layout, Envelope, listedAt, laid}
 use Rattle.layout.specs.declared.Kind.{Kind}
 use Rattle.layout.specs.declared.Kind.the-variants.{Snapshot, Update}
@@ -39,7 +39,7 @@ unfoldable pub kindAt : List ℕ → Span → Reading Kind
 kindAt s a = cond (means s a (ascii "snapshot")) (reads Snapshot) (cond (means s a (ascii "update")) (reads Update) refused)
 
 unfoldable pub listedIn : List ℕ → List ℕ → List Pair → Reading Listed
-listedIn s name ms = andThen (only (valuesOf s name ms)) (listedAt entryM s)
+listedIn s name ms = andThen (only (valuesOf s name ms)) (listedAt forms.Pair sideDepth s)
 
 unfoldable pub layoutM : List ℕ → List Pair → Reading Layout
 layoutM s ms =

@@ -6,6 +6,7 @@ use decimal::ParsedChecksum;
 use decimal::ParsedWhole;
 use decimal::parse_checksum;
 use decimal::parse_whole;
+use entries::Form;
 use entries::entries_at;
 use json::MAX_DEPTH;
 use json::has_backslash;
@@ -365,7 +366,7 @@ fn more_data(s: &[u8], met: Data, first: usize, past: usize, from: usize) -> Dat
     let bids = met.bids;
     let asks = met.asks;
     if is_short_name(s, first, past, BIDS_NAME, 4) {
-        let entries = entries_at(s, from, true);
+        let entries = entries_at(s, from, SIDE_DEPTH, Form::Pair);
         return Data {
             end: entries.end,
             bids: with_entry_array(bids, entry_array_at(from, entries)),
@@ -373,7 +374,7 @@ fn more_data(s: &[u8], met: Data, first: usize, past: usize, from: usize) -> Dat
         };
     }
     if is_short_name(s, first, past, ASKS_NAME, 4) {
-        let entries = entries_at(s, from, true);
+        let entries = entries_at(s, from, SIDE_DEPTH, Form::Pair);
         return Data {
             end: entries.end,
             bids,

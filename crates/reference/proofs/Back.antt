@@ -39,7 +39,7 @@ use Rattle.layout.specs.declared.Kind.the-variants.{Snapshot}
 use Rattle.layout.specs.Layout.{isSnapshot, Printed, printed, unprinted, Layout}
 use Rattle.message.specs.Meaning.{LevelChange, levelChangeAt, Message, messageOf, Checked, fails, passes, bad, checked, decodedOf, decode, decodes, refuses}
 use Rattle.answer.specs.declared.Answer.the-variants.{Taken}
-use Rattle.message.proofs.Where.{LieIn, entryIn, framed-lies}
+use Rattle.message.proofs.Where.{LieIn, framed-lies}
 use Rattle.message.proofs.Entering.{Readable, is-k, is-m, good-readable, also-framed}
 use Rattle.round_trip.specs.Claims.{levelChangeOf, Positive, ValidLevel, Each, each-none, each-more, Valid}
 use Rattle.round_trip.proofs.Claims.{k-round-trip, m-round-trip}

@@ -13,7 +13,9 @@ use Rattle.decimal.proofs.RoundTrip.{read-text}
 use Rattle.json_tokens.specs.Ends.{unescaped}
 use Rattle.json.specs.Json.{Span}
 use Rattle.entries.specs.Places.{andThen, all, arrayAt, inner}
-use Rattle.entries.specs.Rows.{Row, rowK, entryK, rowM, entryM, entriesAt, badPrice, badSize, badTexts, numberAt}
+use Rattle.entries.specs.Rows.{Row, rowK, rowM, entryOf, entriesAt, badPrice, badSize, badTexts, numberAt}
+use Rattle.entries.specs.declared.Form.{Form}
+use Rattle.entries.specs.declared.Form.the-variants.{Triple, Pair}
 use Rattle.layout.specs.Layout.{Listed, listedAt}
 use Rattle.message.specs.Meaning.{LevelChange, levelChangeAt}
 use Rattle.level.specs.Level.{PriceLevel}
@@ -132,8 +134,8 @@ k-row s parts l f (both-more {a = p} h (both-more {a = z} k (both-more m both-no
   row-is = level-is l f h k;
 }
 
-pub k-entry : Entry kEntry entryK
-unfolding kEntry entryTexts entryK
+pub k-entry : Entry kEntry (entryOf Triple 13)
+unfolding kEntry entryTexts entryOf
 k-entry = entry-of (entryTexts (stamp ∷ [])) rowK (strings-read (stamp ∷ []) stamp-reads) k-row
 
 -- ---- M's entries
@@ -145,8 +147,8 @@ m-row s parts l f (both-more {a = p} h (both-more {a = z} k both-none)) = record
   row-is = level-is l f h k;
 }
 
-pub m-entry : Entry mEntry entryM
-unfolding mEntry entryTexts entryM
+pub m-entry : Entry mEntry (entryOf Pair 13)
+unfolding mEntry entryTexts entryOf
 m-entry = entry-of (entryTexts []) rowM (strings-read [] each-none) m-row
 
 -- ---- an array of entries
@@ -160,12 +162,12 @@ pub record SideAt (s : List ℕ) (levels : List PriceLevel) (x : Reading Listed)
   pub is-listed : x ≡ reads listed
   pub rows-are : Matched (IsLevel s) (listed .rows) levels
 
-module _ (write : PriceLevel → List ℕ) (entry : List ℕ → Span → Reading Row) (e : Entry write entry) where
+module _ (write : PriceLevel → List ℕ) (form : Form) (e : Entry write (entryOf form 13)) where
   pub side-reads : (levels : List PriceLevel) → Reads 14 (array (map write levels))
   side-reads levels = array-reads 13 write levels (each-of (e .entry-reads) levels)
 
   all-rows : (s : List ℕ) {parts : List Span} {levels : List PriceLevel} → Each ValidLevel levels → Matched (IsText write s) parts levels
-      → Gives (IsLevel s) levels (all (entry s) parts)
+      → Gives (IsLevel s) levels (all (entryOf form 13 s) parts)
   unfolding all andThen
   all-rows s each-none both-none = record { found = []; gives = refl; matches = both-none }
   all-rows s (each-more {a = l} f r) (both-more {a} h m) =
@@ -173,14 +175,14 @@ module _ (write : PriceLevel → List ℕ) (entry : List ℕ → Span → Readin
       let g = all-rows s r m in
       record { found = x .row ∷ g .found; gives = rw (x .is-row, g .gives); matches = both-more (x .row-is) (g .matches) }
 
-  entries-at : (s : List ℕ) (a : Span) (levels : List PriceLevel) → Each ValidLevel levels → Is s a (array (map write levels)) → Gives (IsLevel s) levels (entriesAt entry s a)
+  entries-at : (s : List ℕ) (a : Span) (levels : List PriceLevel) → Each ValidLevel levels → Is s a (array (map write levels)) → Gives (IsLevel s) levels (entriesAt form 14 s a)
   unfolding entriesAt andThen
   entries-at s a levels each h =
       let p = array-at 13 write levels (each-of (e .entry-reads) levels) s a h in
       let g = all-rows s each (p .matches) in
       record { found = g .found; gives = rw (p .gives, andThen) (g .gives); matches = g .matches }
 
-  pub listed-at : (s : List ℕ) (a : Span) (levels : List PriceLevel) → Each ValidLevel levels → Is s a (array (map write levels)) → SideAt s levels (listedAt entry s a)
+  pub listed-at : (s : List ℕ) (a : Span) (levels : List PriceLevel) → Each ValidLevel levels → Is s a (array (map write levels)) → SideAt s levels (listedAt form 14 s a)
   unfolding listedAt andThen
   listed-at s a levels each h =
       let g = entries-at s a levels each h in

@@ -13,7 +13,7 @@ use Rattle.decimal.proofs.Digits.{written-digits}
 use Rattle.json_tokens.specs.Ends.{unescaped}
 use Rattle.json.specs.Json.{Span, Pair}
 use Rattle.entries.specs.Places.{andThen, all, arrayAt, objectAt, valuesOf, wholeAt}
-use Rattle.entries.specs.Rows.{entryK}
+use Rattle.entries.specs.declared.Form.the-variants.{Triple}
 use Rattle.settings.specs.Rules.{rulesOf}
 use Rattle.layout.specs.Layout.{unprinted, laid}
 use Rattle.layout.specs.declared.Kind.the-variants.{Snapshot}
@@ -74,8 +74,8 @@ module _ (bids asks : List PriceLevel) where
   fields-good : Each (GoodField 14) (fields (side asks) (side bids))
   unfolding plain unescaped
   fields-good =
-      each-more (record { plainly = refl; value-reads = side-reads kEntry entryK k-entry asks })
-      (each-more (record { plainly = refl; value-reads = side-reads kEntry entryK k-entry bids }) each-none)
+      each-more (record { plainly = refl; value-reads = side-reads kEntry Triple k-entry asks })
+      (each-more (record { plainly = refl; value-reads = side-reads kEntry Triple k-entry bids }) each-none)
 
   abbrev tree : ℕ → List ℕ → List (List ℕ)
   tree depth name = elements (side asks) (side bids) (quoted (channel depth)) (quoted name)
@@ -114,7 +114,7 @@ module _ (s : List ℕ) (bids asks : List PriceLevel) (fine-bids : Each ValidLev
 
     side-in : (name : List ℕ) (levels : List PriceLevel) → Each ValidLevel levels → One (Is s) (valuesOf s name (together (ms ∷ []))) (side levels) → SideAt s levels (listedIn s name (ms ∷ []))
     unfolding listedIn listedOf
-    side-in name levels each o = rw (o .alone, listedOf) (listed-at kEntry entryK k-entry s (o .the) levels each (o .is-it))
+    side-in name levels each o = rw (o .alone, listedOf) (listed-at kEntry Triple k-entry s (o .the) levels each (o .is-it))
 
     bids-at : SideAt s bids (listedIn s (ascii "bs") (ms ∷ []))
     unfolding named same

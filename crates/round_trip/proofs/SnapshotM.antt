@@ -14,7 +14,7 @@ use Rattle.decimal.proofs.RoundTrip.{written-read}
 use Rattle.json_tokens.specs.Ends.{unescaped}
 use Rattle.json.specs.Json.{Span, Pair}
 use Rattle.entries.specs.Places.{andThen, objectAt, valuesOf, only, wholeAt, checksumAt}
-use Rattle.entries.specs.Rows.{entryM}
+use Rattle.entries.specs.declared.Form.the-variants as forms
 use Rattle.settings.specs.Rules.{rulesOf}
 use Rattle.layout.specs.Layout.{printed, laid}
 use Rattle.layout.specs.declared.Kind.the-variants.{Snapshot}
@@ -82,8 +82,8 @@ module _ (bids asks : List PriceLevel) where
   sides-good : Each (GoodField 14) (sides (side bids) (side asks))
   unfolding plain unescaped
   sides-good =
-      each-more (record { plainly = refl; value-reads = side-reads mEntry entryM m-entry bids })
-      (each-more (record { plainly = refl; value-reads = side-reads mEntry entryM m-entry asks }) each-none)
+      each-more (record { plainly = refl; value-reads = side-reads mEntry forms.Pair m-entry bids })
+      (each-more (record { plainly = refl; value-reads = side-reads mEntry forms.Pair m-entry asks }) each-none)
 
   abbrev tree : List ℕ → ℕ → ℕ → List Field
   tree name checksum number = fields (quoted name) (side bids) (side asks) (written checksum) (written number)
@@ -123,7 +123,7 @@ module _ (s : List ℕ) where
 
   side-in : (name : List ℕ) (ms : List Pair) (levels : List PriceLevel) → Each ValidLevel levels → One (Is s) (valuesOf s name ms) (side levels) → SideAt s levels (listedIn s name ms)
   unfolding listedIn andThen
-  side-in name ms levels each o = rw (only-one o) (listed-at mEntry entryM m-entry s (o .the) levels each (o .is-it))
+  side-in name ms levels each o = rw (only-one o) (listed-at mEntry forms.Pair m-entry s (o .the) levels each (o .is-it))
 
 -- ---- what is read of the message
 module _ (s : List ℕ) (bids asks : List PriceLevel) (fine-bids : Each ValidLevel bids) (fine-asks : Each ValidLevel asks) (name : List ℕ) (name-is : plain name ≡ true) (checksum number : ℕ)

@@ -10,8 +10,8 @@ use lib.ListN.{length, take, drop, length-map}
 use lib.Seq.{take-all}
 use Rattle.decimal.specs.Decimal.{isZero}
 use Rattle.decimal.specs.Limits.{Within}
-use Rattle.entries.specs.Rows.{Row, entryFor, numberAt}
-use Rattle.entries.specs.Arrays.{rowsAt}
+use Rattle.entries.specs.Rows.{Row, numberAt}
+use Rattle.entries.specs.Arrays.{formOf, rowsAt}
 use Rattle.entries.proofs.Numbers.{number-within}
 use Rattle.level.specs.Level.{PriceLevel, shownPrice}
 use Rattle.level.specs.Words.{levelPrice, levelSize, shown}
@@ -63,7 +63,7 @@ module _ (m : Bool) (side : Side) (depth : ℕ) (kept : Levels) (s : List ℕ) (
   unfolding editsAt
   no-edits h = let e = eq-eqb count 0 h in rw (e, editsAt)
 
-  edits-are : (count ≡ 0 → ⊥) → editsAt m s at count ≡ map (editAt (drop at s)) (rowsAt (entryFor m) (drop at s))
+  edits-are : (count ≡ 0 → ⊥) → editsAt m s at count ≡ map (editAt (drop at s)) (rowsAt (formOf m) (drop at s))
   unfolding editsAt
   edits-are h = let e = ne-eqb count 0 h in rw (e, editsAt)
 
@@ -90,7 +90,7 @@ module _ (m : Bool) (side : Side) (depth : ℕ) (kept : Levels) (s : List ℕ) (
     abbrev es : List (Edit Level)
     es = entriesOf (take n prices) (take n sizes) (take n packs)
 
-    pub some-worked : (count ≡ 0 → ⊥) → Sound m side kept → Loaded (pieceFor m) (drop at s) (rowsAt (entryFor m) (drop at s)) prices sizes packs n
+    pub some-worked : (count ≡ 0 → ⊥) → Sound m side kept → Loaded (pieceFor m) (drop at s) (rowsAt (formOf m) (drop at s)) prices sizes packs n
         → AfterEntries side depth es kept words r → Worked m side depth (editsAt m s at count) kept (sideAfter words r)
     some-worked h k l a =
         let q : map (mapEdit shown) es ≡ editsAt m s at count = l .edits ∙ sym (edits-are h) in
@@ -98,7 +98,7 @@ module _ (m : Bool) (side : Side) (depth : ℕ) (kept : Levels) (s : List ℕ) (
           sound = record {
             good = a .good;
             carried = subst (All (Carries (pieceFor m))) (sym (a .levels)) (all-afterMessage levelPrice (Carries (pieceFor m)) side depth es (held kept) (l .carried) (k .carried));
-            sized = subst (All Sized) (sym (a .levels)) (all-afterMessage levelPrice Sized side depth es (held kept) (edits-sized (drop at s) es (rowsAt (entryFor m) (drop at s)) (l .edits)) (k .sized));
+            sized = subst (All Sized) (sym (a .levels)) (all-afterMessage levelPrice Sized side depth es (held kept) (edits-sized (drop at s) es (rowsAt (formOf m) (drop at s)) (l .edits)) (k .sized));
           };
           levels = applied-levels a ∙ ap (λ (x : List (Edit PriceLevel)). afterMessage shownPrice side depth x (map shown (held kept))) q;
           count = applied-count a ∙ ap (λ (x : List (Edit PriceLevel)). length (applyAll shownPrice x (map shown (held kept)))) q;

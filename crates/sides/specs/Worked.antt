@@ -15,8 +15,7 @@ use Rattle.level.specs.declared.Side.{Side}
 use Rattle.level.specs.declared.Levels.{Levels}
 use Rattle.side.specs.declared.Applied.{Applied}
 use Rattle.checksum.specs.Carried.{Carries}
-use Rattle.entries.specs.Rows.{entryFor}
-use Rattle.entries.specs.Arrays.{rowsAt}
+use Rattle.entries.specs.Arrays.{formOf, rowsAt}
 use Rattle.loader.specs.Loaded.{editAt, pieceFor}
 
 -- What holds of a side that a book keeps; m says that the dialect is M, else it is K.
@@ -27,7 +26,7 @@ pub record Sound (m : Bool) (side : Side) (kept : Levels) : Type 0 where
 
 -- What the entries at a position do to a side.
 unfoldable pub editsAt : Bool → List ℕ → ℕ → ℕ → List (Edit PriceLevel)
-editsAt m s at count = cond (eqb count 0) [] (map (editAt (drop at s)) (rowsAt (entryFor m) (drop at s)))
+editsAt m s at count = cond (eqb count 0) [] (map (editAt (drop at s)) (rowsAt (formOf m) (drop at s)))
 
 -- A side after entries: its levels, how many stood before the cut, and whether some entry set a level at a price where one stood by then.
 pub record SideAfter : Type 0 where

@@ -3,7 +3,7 @@ ghost use mathlib.Core.Path.{_≡_};
 ghost use Prim.Native.Nat.{_≤_};
 ghost use lib.ListN.{length};
 ghost use Rattle.level.specs.Kept.{keptIn, held};
-ghost use Rattle.entries.specs.Arrays.{Ready};
+ghost use Rattle.entries.specs.Arrays.{formOf, Ready};
 ghost use Rattle.sides.specs.Worked.{Sound, editsAt, sideAfter, Worked};
 use entries::MAX_ENTRIES;
 use level::MAX_WORDS;
@@ -23,7 +23,7 @@ pub fn apply_entries(
     at: usize,
     count: usize,
 ) -> Applied
-    requires { ⌜ Sound m side (keptIn (now words) kept) × Ready m (now s) at count × (depth ≤ 100) × (length (held (keptIn (now words) kept)) ≤ depth) ⌝ }
+    requires { ⌜ Sound m side (keptIn (now words) kept) × Ready (formOf m) (now s) at count × (depth ≤ 100) × (length (held (keptIn (now words) kept)) ≤ depth) ⌝ }
     ensures { λ r. ⌜ Worked m side depth (editsAt m (now (s .entry)) at count) (keptIn (now (words .entry)) kept) (sideAfter (now (words .exit)) r) × (count ≡ 0 → now (words .exit) ≡ now (words .entry)) ⌝ }
 {
     if count == 0 {

@@ -11,12 +11,12 @@ use Rattle.entries.proofs.any_entry.Tie as tie
 number-at-requires : tie.Need-number-at-requires
 number-at-requires c κs =
     let b = c .before .before in
-    subst (Placed (b .args .s .now)) (sym (c .entry-at .ensures)) (b .pre) .0
+    subst (Placed (b .args .s .now)) (sym (c .entry-at .ensures)) (b .pre .1) .0
 
 number-at-requires-2 : tie.Need-number-at-requires-2
 number-at-requires-2 c κs =
     let b = c .before .before .before in
-    subst (Placed (b .args .s .now)) (sym (c .before .entry-at .ensures)) (b .pre) .1
+    subst (Placed (b .args .s .now)) (sym (c .before .entry-at .ensures)) (b .pre .1) .1
 
 returns : tie.Need-returns
 returns c =

@@ -4,9 +4,7 @@
 use borrow.Author.Needs.{needs}
 use mathlib.Core.Path.{_∙_, ap}
 use native.Mathlib.Omega.{arith}
-use Rattle.entries.specs.Rows.{entryFor}
 use Rattle.entries.specs.Counting.{counted}
-use Rattle.entries.proofs.Strings.{sound-for}
 use Rattle.entries.proofs.Counting.{counted-none}
 use Rattle.entries.proofs.Summary.{found-broken, found-laid, found-past}
 use Rattle.entries.proofs.Decimals.{decimals-counted, decimals-past}
@@ -20,7 +18,7 @@ with-amounts-requires c κs =
     let some = c .before .before .if1 .taken in
     let e = c .before .entry-end in
     let more = c .if2 .taken in
-    let past = decimals-past (entryFor (a .m)) (a .s .now) (a .at) (front .result) (front .ensures (λ z. omega arith)) (e .result) (e .ensures) (λ z. omega arith) in
+    let past = decimals-past (a .form) (a .depth) (a .s .now) (a .at) (front .result) (front .ensures (λ z. omega arith)) (e .result) (e .ensures) (λ z. omega arith) in
     let few = c .before .before .before .before .before .before .pre in
     omega arith
 
@@ -32,14 +30,14 @@ returns c =
     let e = c .before .before .entry-end in
     let more = c .before .if2 .taken in
     c .with-amounts .ensures
-    ∙ decimals-counted (entryFor (a .m)) (a .s .now) (a .at) (front .result) (front .ensures (λ z. omega arith)) (e .result) (e .ensures) (λ z. omega arith) (a .sum)
+    ∙ decimals-counted (a .form) (a .depth) (a .s .now) (a .at) (front .result) (front .ensures (λ z. omega arith)) (e .result) (e .ensures) (λ z. omega arith) (a .sum)
 
 returns-2 : tie.Need-returns-2
 returns-2 c =
     let a = c .before .before .before .before .before .before .before .before .args in
     let s = a .s .now in
     let f = c .before .before .before .entry-at in
-    c .refused .ensures ∙ counted-none s (a .sum) (f .result) 0 (found-broken (entryFor (a .m)) s (a .at) (f .result) (f .ensures) (c .before .if3 .taken))
+    c .refused .ensures ∙ counted-none s (a .sum) (f .result) 0 (found-broken (a .form) (a .depth) s (a .at) (f .result) (f .ensures) (c .before .if3 .taken))
     ∙ ap (counted s (a .sum)) (f .ensures)
 
 counted-requires : tie.Need-counted-requires
@@ -47,9 +45,9 @@ counted-requires c κs =
     let a = c .before .before .before .before .before .before .before .args in
     let s = a .s .now in
     let f = c .before .before .entry-at in
-    let past = found-past (entryFor (a .m)) s (a .at) (f .result) (f .ensures) (c .if3 .left) in
+    let past = found-past (a .form) (a .depth) s (a .at) (f .result) (f .ensures) (c .if3 .left) in
     let few = c .before .before .before .before .before .before .before .pre in
-    (found-laid (entryFor (a .m)) s (a .at) (f .result) (f .ensures) (sound-for (a .m) s), omega arith)
+    (found-laid (a .form) (a .depth) s (a .at) (f .result) (f .ensures), omega arith)
 
 returns-3 : tie.Need-returns-3
 returns-3 c =

@@ -14,7 +14,7 @@ returns c =
     let some = c .before .before .before .before .if1 .taken in
     let e = c .before .before .before .entry-end in
     let more = c .before .before .if2 .taken in
-    entry-numbers (a .m) (a .s .now) (a .at) (front .result) (front .ensures (λ z. omega arith)) (e .result) (e .ensures) (λ z. omega arith)
+    entry-numbers (a .form) (a .depth) (a .s .now) (a .at) (front .result) (front .ensures (λ z. omega arith)) (e .result) (e .ensures) (λ z. omega arith)
 
 pub read-entry-spec : {M : Type 1} → statement M
 read-entry-spec =

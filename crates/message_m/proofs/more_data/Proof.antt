@@ -3,7 +3,7 @@
 use denote.Ref.{now}
 use mathlib.Core.Path.{_∙_, ap}
 use Rattle.json.specs.Json.{Pair}
-use Rattle.entries.specs.Rows.{entryM}
+use Rattle.entries.specs.declared.Form.the-variants as forms
 use Rattle.entries.specs.declared.Entries.{Entries}
 use Rattle.entries.proofs.Summary.{summary-end}
 use Rattle.message_m.specs.Collected.{memberAt}
@@ -17,7 +17,7 @@ returns c =
     let a = c .before .before .before .before .before .before .before .before .args in
     let s = now (a .s) in
     let m : Pair = memberAt 14 s (a .first) (a .past) (a .from) in
-    let h = ap (λ (x : Entries). x .end) (c .before .before .entries-at .ensures) ∙ summary-end entryM s (a .from) in
+    let h = ap (λ (x : Entries). x .end) (c .before .before .entries-at .ensures) ∙ summary-end forms.Pair 14 s (a .from) in
     let g = slot-more s (a .met .bids) (m .value) (c .with-entry-array .ensures) (side-is s (a .from) (c .before .before .entries-at .result) (c .before .before .entries-at .ensures) (c .before .entry-array-at .result) (c .before .entry-array-at .ensures)) in
     data-bids s (a .met) m h (named s (m .name) bids-name (c .before .before .before .before .is-short-name .ensures) (c .before .before .before .if1 .taken)) g
 
@@ -26,7 +26,7 @@ returns-2 c =
     let a = c .before .before .before .before .before .before .before .before .before .before .args in
     let s = now (a .s) in
     let m : Pair = memberAt 14 s (a .first) (a .past) (a .from) in
-    let h = ap (λ (x : Entries). x .end) (c .before .before .entries-at2 .ensures) ∙ summary-end entryM s (a .from) in
+    let h = ap (λ (x : Entries). x .end) (c .before .before .entries-at2 .ensures) ∙ summary-end forms.Pair 14 s (a .from) in
     let g = slot-more s (a .met .asks) (m .value) (c .with-entry-array2 .ensures) (side-is s (a .from) (c .before .before .entries-at2 .result) (c .before .before .entries-at2 .ensures) (c .before .entry-array-at2 .result) (c .before .entry-array-at2 .ensures)) in
     data-asks s (a .met) m h (named s (m .name) bids-name (c .before .before .before .before .before .before .is-short-name .ensures) (c .before .before .before .before .before .if1 .left)) (named s (m .name) asks-name (c .before .before .before .before .is-short-name2 .ensures) (c .before .before .before .if2 .taken)) g
 

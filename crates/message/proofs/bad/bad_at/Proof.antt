@@ -9,7 +9,7 @@ use Rattle.message.proofs.bad.bad_at.Tie as tie
 returns : tie.Need-returns
 returns c =
     let a = c .before .before .args in
-    bad-none (a .m) (now (a .s)) (a .at) (a .count) (a .snapshot) (c .if1 .taken)
+    bad-none (a .form) (now (a .s)) (a .at) (a .count) (a .snapshot) (c .if1 .taken)
 
 sub-first-bad : tie.Need-sub-first-bad
 sub-first-bad c = c .before .before .pre .inside (c .if1 .left)
@@ -25,12 +25,12 @@ first-bad-requires c κs =
 returns-2 : tie.Need-returns-2
 returns-2 c =
     let a = c .before .before .before .before .before .before .before .args in
-    bad-found (a .m) (now (a .s)) (a .at) (a .count) (a .snapshot) (c .before .before .before .before .before .if1 .left) (c .before .before .before .first-bad .result) (rw (part-is (a .at) (now (a .s))) at (c .before .before .before .first-bad .ensures)) (c .before .before .if2 .taken) (c .before .before .before .before .before .before .before .pre .inside (c .before .before .before .before .before .if1 .left))
+    bad-found (a .form) (now (a .s)) (a .at) (a .count) (a .snapshot) (c .before .before .before .before .before .if1 .left) (c .before .before .before .first-bad .result) (rw (part-is (a .at) (now (a .s))) at (c .before .before .before .first-bad .ensures)) (c .before .before .if2 .taken) (c .before .before .before .before .before .before .before .pre .inside (c .before .before .before .before .before .if1 .left))
 
 returns-3 : tie.Need-returns-3
 returns-3 c =
     let a = c .before .before .before .before .before .args in
-    bad-missed (a .m) (now (a .s)) (a .at) (a .count) (a .snapshot) (c .before .before .before .if1 .left) (c .before .first-bad .result) (rw (part-is (a .at) (now (a .s))) at (c .before .first-bad .ensures)) (c .if2 .left)
+    bad-missed (a .form) (now (a .s)) (a .at) (a .count) (a .snapshot) (c .before .before .before .if1 .left) (c .before .first-bad .result) (rw (part-is (a .at) (now (a .s))) at (c .before .first-bad .ensures)) (c .if2 .left)
 
 pub bad-at-spec : {M : Type 1} → statement M
 bad-at-spec =

@@ -19,9 +19,9 @@ ghost use Rattle.crc32.specs.Table.{ShiftTable};
 ghost use Rattle.feed.specs.Feed.{carried, maxReply};
 ghost use Rattle.feed.specs.Stream.{Holds};
 
-const INPUT: usize = 262144;
+const INPUT: usize = 65536;
 
-const OUTPUT: usize = 65536;
+const OUTPUT: usize = 16384;
 
 fn main() {
     let mut input = [0; INPUT];

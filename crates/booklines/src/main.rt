@@ -16,12 +16,12 @@ ghost use mathlib.Core.Bool.{false};
 ghost use Prim.Native.Nat.{_+_, _≤_, _<_};
 ghost use lib.ListN.{length};
 ghost use Rattle.crc32.specs.Table.{ShiftTable};
-ghost use Rattle.feed.specs.Feed.{carried};
+ghost use Rattle.feed.specs.Feed.{carried, maxReply};
 ghost use Rattle.feed.specs.Stream.{Holds};
 
-const INPUT: usize = 262144;
+const INPUT: usize = 65536;
 
-const OUTPUT: usize = 65536;
+const OUTPUT: usize = 16384;
 
 fn main() {
     let mut input = [0; INPUT];
@@ -39,7 +39,7 @@ struct Served {
 
 // Serves block after block until the input ends, or reading or writing fails.
 fn run(input: &mut [u8], output: &mut [u8], table: &[u32])
-    requires { ⌜ (carried < length (now input)) × ShiftTable (now table) ⌝ }
+    requires { ⌜ (carried < length (now input)) × (maxReply ≤ length (now output)) × ShiftTable (now table) ⌝ }
 {
     let mut stream = feed::start();
     let mut sink = streams::standard_output();
@@ -109,7 +109,7 @@ fn serve(
 
 // Writes the reply to a last line that has no line end.
 fn finish(stream: Stream, input: &mut [u8], output: &mut [u8], table: &[u32], sink: Sink)
-    requires { ⌜ Holds stream (now input) × (stream .to < length (now input)) × ShiftTable (now table) ⌝ }
+    requires { ⌜ Holds stream (now input) × (stream .to < length (now input)) × (maxReply ≤ length (now output)) × ShiftTable (now table) ⌝ }
 {
     let written = feed::finish(stream, input, table, output);
     let after = streams::write_all(sink, &output[..written]);

@@ -2,7 +2,7 @@
 use Prim.Native.Nat.{ℕ, _+_, _<_, _≤_}
 use mathlib.Core.Path.{_≡_, refl, sym, ap, _∙_}
 use mathlib.Core.Bool.{Bool, true, false, cond}
-use mathlib.Core.List.{List, [], _∷_, _++_, map}
+use mathlib.Core.List.{List, [], _∷_, _++_, map, append-assoc, append-nil}
 use native.Mathlib.Omega.{arith}
 use borrow.Author.Tests.{lt-ltb, leb-true, leb-false}
 use lib.Dec.{leb}
@@ -15,11 +15,9 @@ use Rattle.settings.specs.declared.Dialect.{Dialect}
 use Rattle.settings.specs.declared.Dialect.the-variants.{K, M, Unknown}
 use Rattle.message.specs.Meaning.{framed, alsoDecimals, checked, Decoded, refuses, decodedOf, decode}
 use Rattle.reference.specs.Reference.{Reference, opened, isShut, After, receive, received}
-use Rattle.text.specs.Text.{joined}
-use Rattle.lines.specs.Lines.{linesOf, inBlocks}
-use Rattle.lines.proofs.Blocks.{blocks-lines}
 use Rattle.line_text.specs.Opening.{lineOne}
-use Rattle.feed.specs.Feed.{replyTo, replies, session, output, carried}
+use Rattle.feed.specs.Feed.{replyTo, replies, session, carried}
+use Rattle.feed.specs.Stream.{State, lineOneAwaited, bookOpen, Transcript, extend, after, begun}
 use Rattle.feed.proofs.LongLine.{carried-opened}
 
 -- no dialect has longer messages
@@ -47,20 +45,35 @@ pub carried-hear : (p : Reference) (s : List ℕ) → receive p (take carried s)
 unfolding receive
 carried-hear p s = ap (λ (x : Decoded). cond (isShut (p .status)) (record { book = p; answer = Shut }) (received p x)) (carried-said (p .config) s)
 
-pub carried-replies : (p : Reference) (ls : List (List ℕ)) → replies p (map (take carried) ls) ≡ replies p ls
-unfolding replies
-carried-replies p [] = refl
-carried-replies p (line ∷ ls) =
-    ap (λ (a : After). replyTo a ++ replies (a .book) (map (take carried) ls)) (carried-hear p line)
-    ∙ ap (λ (t : List ℕ). replyTo (receive p line) ++ t) (carried-replies (receive p line .book) ls)
+-- ---- line by line
 
-carried-session : (ls : List (List ℕ)) → session (map (take carried) ls) ≡ session ls
-unfolding session
-carried-session [] = refl
-carried-session (line ∷ ls) = ap (λ (p : Reference). replies p (map (take carried) ls)) (carried-opened line) ∙ carried-replies (opened (lineOne line)) ls
+extend-cut : (state : State) (said line : List ℕ) → extend state said (take carried line) ≡ extend state said line
+unfolding extend
+extend-cut lineOneAwaited said line = ap (λ (p : Reference). record { state = bookOpen p; replies = said }) (carried-opened line)
+extend-cut (bookOpen p) said line = ap (λ (a : After). record { state = bookOpen (a .book); replies = said ++ replyTo a }) (carried-hear p line)
 
--- However a feed is cut into blocks, the replies are those to the whole text.
-pub blocks-output : (blocks : List (List ℕ)) → session (inBlocks carried [] blocks) ≡ output (joined blocks)
-unfolding output
-blocks-output blocks =
-    sym (carried-session (inBlocks carried [] blocks)) ∙ ap session (blocks-lines 32768 blocks) ∙ carried-session (linesOf (joined blocks))
+after-cut : (t : Transcript) (ls : List (List ℕ)) → after t (map (take carried) ls) ≡ after t ls
+unfolding after
+after-cut t [] = refl
+after-cut t (line ∷ ls) = ap (λ (u : Transcript). after u (map (take carried) ls)) (extend-cut (t .state) (t .replies) line) ∙ after-cut (extend (t .state) (t .replies) line) ls
+
+-- Lines that begin alike are answered alike.
+pub same-after : (t : Transcript) (ks ls : List (List ℕ)) → map (take carried) ks ≡ map (take carried) ls → after t ks ≡ after t ls
+same-after t ks ls e = sym (after-cut t ks) ∙ ap (after t) e ∙ after-cut t ls
+
+pub after-append : (t : Transcript) (ks ls : List (List ℕ)) → after t (ks ++ ls) ≡ after (after t ks) ls
+unfolding after
+after-append t [] ls = refl
+after-append t (line ∷ ks) ls = after-append (extend (t .state) (t .replies) line) ks ls
+
+after-open : (p : Reference) (said : List ℕ) (ls : List (List ℕ)) → after (record { state = bookOpen p; replies = said }) ls .replies ≡ said ++ replies p ls
+unfolding after extend replies
+after-open p said [] = sym (append-nil said)
+after-open p said (line ∷ ls) =
+    after-open (receive p line .book) (said ++ replyTo (receive p line)) ls ∙ append-assoc said (replyTo (receive p line)) (replies (receive p line .book) ls)
+
+-- The replies line by line are those to the lines together.
+pub after-session : (ls : List (List ℕ)) → after begun ls .replies ≡ session ls
+unfolding after extend session
+after-session [] = refl
+after-session (line ∷ ls) = after-open (opened (lineOne line)) [] ls

@@ -1,23 +1,25 @@
 -- Lines heard one after another: what is left gives what the whole gives. Assumes nothing.
 use Prim.Native.Nat.{ℕ, suc, _+_, _-_, _≤_, _<_, zero-le}
 use mathlib.Core.Path.{_≡_, refl, sym, ap, ap₂, _∙_, subst}
-use mathlib.Core.List.{List, [], _∷_, _++_}
+use mathlib.Core.List.{List, [], _∷_, _++_, append-assoc, append-nil}
 use native.Mathlib.Omega.{arith}
 use borrow.Author.Tests.{le-leb, lt-leb, leb-true, leb-false}
 use lib.Dec.{leb}
 use mathlib.Core.Bool.{Bool, true, false}
 use native.Mathlib.Nat.{le-refl}
-use Rattle.decimal.proofs.Buffer.{overlaid-none}
-use lib.ListN.{length, take, drop}
+use lib.ListN.{length, take, drop, length-append, length-drop}
+use lib.Seq.{length-take-le, take-at, drop-drop}
 use Rattle.decimal.specs.Buffer.{overlaid}
 use Rattle.lines.specs.Lines.{bytesBefore, lineEnd, complete, unfinished}
 use Rattle.lines.proofs.Split.{next-complete, next-unfinished, no-more}
 use Rattle.writer.specs.Parts.{Room, Put}
-use Rattle.writer.proofs.Owed.{put-length, length-overlaid, overlaid-twice}
+use Rattle.writer.proofs.Owed.{put-length, length-overlaid}
 use Rattle.reference.specs.Reference.{Reference, receive}
 use Rattle.book.specs.Shown.{Good, shows}
 use Rattle.book.specs.declared.Book.{Book}
-use Rattle.feed.specs.Feed.{replyTo, replies, maxReply, Progress, processing, ProcessedLines}
+use Rattle.feed.specs.declared.Processed.{Processed}
+use Rattle.feed.specs.Feed.{replyTo, maxReply, Progress, processing, ProcessedLines}
+use Rattle.feed.specs.Stream.{bookOpen, Transcript, extend, after, stateOf, AnsweredLines}
 
 module _ (p : Reference) (buffer : List ℕ) (at : ℕ) where
   stopped : List (List ℕ) → Progress
@@ -99,15 +101,11 @@ heard-as {s} {buffer₀} {buffer} {p} {q} {b} {c} {next} {written} e f h =
     subst (λ (x : Reference). ProcessedLines s x buffer₀ (record { book = c; next = next; written = written }) buffer) e
     (subst (λ (x : Book). ProcessedLines s p buffer₀ (record { book = x; next = next; written = written }) buffer) (sym f) h)
 
--- ---- where all lines were heard, the buffer has the replies
+-- ---- what the lines that were processed give, and those that are left
 
 -- what follows the first line
 abbrev later : List ℕ → List (List ℕ) → Reference → List ℕ → ℕ → Progress
 later line ls p buffer at = processing ls (receive p line .book) (overlaid buffer at (replyTo (receive p line))) (at + length (replyTo (receive p line)))
-
-left-all : (p : Reference) (buffer : List ℕ) (at : ℕ) (ls : List (List ℕ)) → length buffer < at + maxReply → ls ≡ processing ls p buffer at .left
-unfolding stopped
-left-all p buffer at ls h = ap (λ (x : Progress). x .left) (no-room p buffer at ls h)
 
 past-grows : (ls : List (List ℕ)) (p : Reference) (buffer : List ℕ) (at : ℕ) → at ≤ processing ls p buffer at .past
 unfolding processing
@@ -121,24 +119,99 @@ past-grows (line ∷ ls) p buffer at =
     go true q ih = rw (q, processing) (let h = ih in omega arith)
     go false q ih = rw (q, processing) (le-refl at)
 
-pub heard-replies : (ls : List (List ℕ)) (p : Reference) (buffer : List ℕ) (at : ℕ) → processing ls p buffer at .past ≤ length buffer → processing ls p buffer at .left ≡ [] →
-    processing ls p buffer at .buffer ≡ overlaid buffer at (replies p ls)
-unfolding processing replies
-heard-replies [] p buffer at room e = sym (overlaid-none buffer at)
-heard-replies (line ∷ ls) p buffer at room e =
-    go (leb (at + maxReply) (length buffer)) refl (heard-replies ls (receive p line .book) (overlaid buffer at (replyTo (receive p line))) (at + length (replyTo (receive p line))))
+-- the text past which a text was laid
+laid-front : (b : List ℕ) (at : ℕ) (t : List ℕ) → at + length t ≤ length b → take (at + length t) (overlaid b at t) ≡ take at b ++ t
+unfolding overlaid
+laid-front b at t h =
+    let l : length (take at b) ≡ at = length-take-le at b (omega arith) in
+    let n : length (take at b ++ t) ≡ at + length t = length-append (take at b) t ∙ ap (λ (k : ℕ). k + length t) l in
+    ap (take (at + length t)) (sym (append-assoc (take at b) t (drop (at + length t) b))) ∙ take-at (take at b ++ t) (drop (at + length t) b) (at + length t) n
+
+-- the transcript where the buffer has the replies past those of before
+abbrev reached : List ℕ → Progress → Transcript
+reached said x = after (record { state = bookOpen (x .book); replies = said ++ take (x .past) (x .buffer) }) (x .left)
+
+processing-after : (said : List ℕ) (ls : List (List ℕ)) (p : Reference) (buffer : List ℕ) (at : ℕ) → processing ls p buffer at .past ≤ length buffer →
+    after (record { state = bookOpen p; replies = said ++ take at buffer }) ls ≡ reached said (processing ls p buffer at)
+unfolding processing after extend stopped
+processing-after said [] p buffer at room = refl
+processing-after said (line ∷ ls) p buffer at room =
+    go (leb (at + maxReply) (length buffer)) refl (processing-after said ls (receive p line .book) (overlaid buffer at (replyTo (receive p line))) (at + length (replyTo (receive p line))))
   where
     go : (b : Bool) → leb (at + maxReply) (length buffer) ≡ b →
-        (later line ls p buffer at .past ≤ length (overlaid buffer at (replyTo (receive p line))) → later line ls p buffer at .left ≡ [] → later line ls p buffer at .buffer ≡ overlaid (overlaid buffer at (replyTo (receive p line))) (at + length (replyTo (receive p line))) (replies (receive p line .book) ls)) →
-        processing (line ∷ ls) p buffer at .buffer ≡ overlaid buffer at ((replyTo (receive p line)) ++ replies (receive p line .book) ls)
+        (later line ls p buffer at .past ≤ length (overlaid buffer at (replyTo (receive p line))) →
+        after (record { state = bookOpen (receive p line .book); replies = said ++ take (at + length (replyTo (receive p line))) (overlaid buffer at (replyTo (receive p line))) }) ls ≡ reached said (later line ls p buffer at)) →
+        after (record { state = bookOpen (receive p line .book); replies = (said ++ take at buffer) ++ replyTo (receive p line) }) ls ≡ reached said (processing (line ∷ ls) p buffer at)
     go true q ih =
         let one : processing (line ∷ ls) p buffer at ≡ later line ls p buffer at = one-line p buffer at line ls (leb-true (at + maxReply) (length buffer) q) in
         let past : later line ls p buffer at .past ≤ length buffer = subst (λ (x : Progress). x .past ≤ length buffer) one room in
-        let left : later line ls p buffer at .left ≡ [] = sym (ap (λ (x : Progress). x .left) one) ∙ e in
         let g : at + length (replyTo (receive p line)) ≤ later line ls p buffer at .past = past-grows ls (receive p line .book) (overlaid buffer at (replyTo (receive p line))) (at + length (replyTo (receive p line))) in
         let l : length (overlaid buffer at (replyTo (receive p line))) ≡ length buffer = length-overlaid buffer at (replyTo (receive p line)) (omega arith) in
-        ap (λ (x : Progress). x .buffer) one ∙ ih (omega arith) left ∙ overlaid-twice buffer at (replyTo (receive p line)) (replies (receive p line .book) ls) (omega arith)
+        let front : take (at + length (replyTo (receive p line))) (overlaid buffer at (replyTo (receive p line))) ≡ take at buffer ++ replyTo (receive p line) = laid-front buffer at (replyTo (receive p line)) (omega arith) in
+        ap (λ (w : List ℕ). after (record { state = bookOpen (receive p line .book); replies = w }) ls)
+        (append-assoc said (take at buffer) (replyTo (receive p line)) ∙ ap (λ (w : List ℕ). said ++ w) (sym front))
+        ∙ ih (omega arith)
+        ∙ ap (reached said) (sym one)
+    go false q ih = ap (reached said) (no-room p buffer at (line ∷ ls) (leb-false (at + maxReply) (length buffer) q))
+
+-- where there is still room, no line is left
+processing-all : (ls : List (List ℕ)) (p : Reference) (buffer : List ℕ) (at : ℕ) → processing ls p buffer at .past + maxReply ≤ length (processing ls p buffer at .buffer) →
+    processing ls p buffer at .left ≡ []
+unfolding processing stopped
+processing-all [] p buffer at room = refl
+processing-all (line ∷ ls) p buffer at room =
+    go (leb (at + maxReply) (length buffer)) refl (processing-all ls (receive p line .book) (overlaid buffer at (replyTo (receive p line))) (at + length (replyTo (receive p line))))
+  where
+    go : (b : Bool) → leb (at + maxReply) (length buffer) ≡ b →
+        (later line ls p buffer at .past + maxReply ≤ length (later line ls p buffer at .buffer) → later line ls p buffer at .left ≡ []) →
+        processing (line ∷ ls) p buffer at .left ≡ []
+    go true q ih =
+        let one : processing (line ∷ ls) p buffer at ≡ later line ls p buffer at = one-line p buffer at line ls (leb-true (at + maxReply) (length buffer) q) in
+        ap (λ (x : Progress). x .left) one ∙ ih (subst (λ (x : Progress). x .past + maxReply ≤ length (x .buffer)) one room)
     go false q ih =
-        let all : line ∷ ls ≡ [] = left-all p buffer at (line ∷ ls) (leb-false (at + maxReply) (length buffer) q) ∙ e in
-        let z : suc (length ls) ≡ 0 = ap length all in
-        absurd (omega (arith, z))
+        let h : length buffer < at + maxReply = leb-false (at + maxReply) (length buffer) q in
+        let k : at + maxReply ≤ length buffer = subst (λ (x : Progress). x .past + maxReply ≤ length (x .buffer)) (sym (no-room p buffer at (line ∷ ls) h)) room in
+        absurd (omega (arith, h, k))
+
+-- one line has room
+processing-one : (ls : List (List ℕ)) (p : Reference) (buffer : List ℕ) → length ls ≤ 1 → maxReply ≤ length buffer → processing ls p buffer 0 .left ≡ []
+unfolding processing
+processing-one [] p buffer few room = refl
+processing-one (line ∷ []) p buffer few room = ap (λ (x : Progress). x .left) (one-line p buffer 0 line [] room)
+processing-one (line ∷ (next ∷ ls)) p buffer few room = absurd (omega (arith, few))
+
+-- ---- of the code's answer
+
+module _ {s : List ℕ} {p : Reference} {before : List ℕ} {r : Processed} {filled : List ℕ} (h : ProcessedLines s p before r filled) where
+  processed-lines : (said : List ℕ) → after (record { state = bookOpen p; replies = said }) (complete s)
+      ≡ after (record { state = bookOpen (shows (r .book)); replies = said ++ take (r .written) filled }) (complete (drop (r .next) s))
+  processed-lines said =
+      let past : r .written ≡ processing (complete s) p before 0 .past = ap (λ (x : Progress). x .past) (h .same) in
+      let room = h .room in
+      ap (λ (w : List ℕ). after (record { state = bookOpen p; replies = w }) (complete s)) (sym (append-nil said))
+      ∙ processing-after said (complete s) p before 0 (omega arith) ∙ ap (reached said) (sym (h .same))
+
+  processed-all : r .written + maxReply ≤ length filled → complete (drop (r .next) s) ≡ []
+  processed-all room = ap (λ (x : Progress). x .left) (h .same) ∙ processing-all (complete s) p before 0 (subst (λ (x : Progress). x .past + maxReply ≤ length (x .buffer)) (h .same) room)
+
+  processed-one : length (complete s) ≤ 1 → maxReply ≤ length before → complete (drop (r .next) s) ≡ []
+  processed-one few room = ap (λ (x : Progress). x .left) (h .same) ∙ processing-one (complete s) p before few room
+
+  pub processed-from : (whole : List ℕ) (from : ℕ) → s ≡ drop from whole → from ≤ length whole → length filled ≡ length before →
+      AnsweredLines whole from (bookOpen p) before (record { book = r .book; next = from + r .next; written = r .written; opened = true }) filled
+  unfolding stateOf
+  processed-from whole from e within same =
+      let w = h .within in
+      let l : length s ≡ length whole - from = ap length e ∙ length-drop from whole in
+      let room = h .room in
+      let d : drop (r .next) s ≡ drop (from + r .next) whole = ap (drop (r .next)) e ∙ drop-drop (r .next) from whole in
+      record {
+        good = h .good;
+        within = omega arith;
+        room = omega arith;
+        lines = λ said. ap (λ (x : List ℕ). after (record { state = bookOpen p; replies = said }) (complete x)) (sym e) ∙ processed-lines said
+            ∙ ap (λ (x : List ℕ). after (record { state = bookOpen (shows (r .book)); replies = said ++ take (r .written) filled }) (complete x)) d;
+        rest = ap unfinished (sym d) ∙ h .rest ∙ ap unfinished e;
+        all = λ k. ap complete (sym d) ∙ processed-all k;
+        one = λ few k. ap complete (sym d) ∙ processed-one (subst (λ (x : List ℕ). length (complete x) ≤ 1) (sym e) few) k;
+      }

@@ -1,12 +1,95 @@
--- A feed that comes in blocks. Assumes nothing: these are definitions.
-use Prim.Native.Nat.{ℕ, _≤_}
-use mathlib.Core.List.{List}
-use lib.ListN.{length}
-use Rattle.book.specs.Shown.{Good}
+-- A feed that comes in blocks: what was replied to the text so far. Assumes nothing: these are definitions.
+use Prim.Native.Nat.{ℕ, _+_, _-_, _≤_, _<_}
+use mathlib.Core.Path.{_≡_}
+use mathlib.Core.Bool.{Bool, true, false}
+use mathlib.Core.List.{List, [], _∷_, _++_}
+use lib.ListN.{length, take, drop}
+use Rattle.lines.specs.Lines.{complete, unfinished}
+use Rattle.line_text.specs.Opening.{lineOne}
+use Rattle.reference.specs.Reference.{Reference, opened, receive}
+use Rattle.book.specs.Shown.{Good, shows}
 use Rattle.feed.specs.declared.Stream.{Stream}
+use Rattle.feed.specs.declared.Block.{Block}
+use Rattle.feed.specs.declared.Answered.{Answered}
+use Rattle.feed.specs.Feed.{replyTo, session, output, carried, maxReply}
+
+-- ---- line by line
+
+-- Line 1 is awaited, or it opened the book.
+pub data State : Type 0 where
+  lineOneAwaited : State
+  bookOpen : Reference → State
+
+-- What a feed has come to, and the replies so far.
+pub record Transcript : Type 0 where
+  pub state : State
+  pub replies : List ℕ
+
+unfoldable pub extend : State → List ℕ → List ℕ → Transcript
+extend lineOneAwaited said line = record { state = bookOpen (opened (lineOne line)); replies = said }
+extend (bookOpen p) said line = record { state = bookOpen (receive p line .book); replies = said ++ replyTo (receive p line) }
+
+unfoldable pub after : Transcript → List (List ℕ) → Transcript
+after t [] = t
+after t (line ∷ ls) = after (extend (t .state) (t .replies) line) ls
+
+abbrev pub begun : Transcript
+begun = record { state = lineOneAwaited; replies = [] }
+
+-- A text was read, of which the bytes `pending` are not answered: answered, their lines give what the lines of the text give, and the
+-- line that they leave unfinished begins as the text's.
+pub record SoFar (text : List ℕ) (t : Transcript) (pending : List ℕ) : Type 0 where
+  pub lines : after t (complete pending) ≡ after begun (complete text)
+  pub rest : take carried (unfinished pending) ≡ take carried (unfinished text)
+
+-- ---- in the code's terms
+
+unfoldable pub stateOf : Bool → Reference → State
+stateOf true p = bookOpen p
+stateOf false p = lineOneAwaited
+
+abbrev pub transcriptOf : Stream → List ℕ → Transcript
+transcriptOf stream said = record { state = stateOf (stream .opened) (shows (stream .book)); replies = said }
 
 -- What is not answered yet lies in the input buffer.
 pub record Holds (stream : Stream) (input : List ℕ) : Type 0 where
   pub good : Good (stream .book)
   pub order : stream .from ≤ stream .to
   pub within : stream .to ≤ length input
+
+abbrev pub pendingOf : Stream → List ℕ → List ℕ
+pendingOf stream input = take (stream .to - stream .from) (drop (stream .from) input)
+
+pub record Started (r : Stream) : Type 0 where
+  pub holds : (input : List ℕ) → Holds r input
+  pub none : r .to ≡ 0
+  pub so-far : (input : List ℕ) → SoFar [] (transcriptOf r []) (pendingOf r input)
+
+-- After `got` bytes more: all that was read so far is accounted for, and once no room is missing, the replies are those to all the lines that end.
+pub record AnsweredBlock (stream : Stream) (input : List ℕ) (got : ℕ) (r : Block) (input' buffer' : List ℕ) : Type 0 where
+  pub holds : Holds (r .stream) input'
+  pub room : r .written ≤ length buffer'
+  pub so-far : (text said : List ℕ) → SoFar text (transcriptOf stream said) (pendingOf stream input) →
+      SoFar (text ++ take got (drop (stream .to) input)) (transcriptOf (r .stream) (said ++ take (r .written) buffer')) (pendingOf (r .stream) input')
+  pub full : r .more ≡ true → length buffer' < r .written + maxReply
+  pub short : r .more ≡ false → r .stream .to ≤ carried
+  pub none-left : r .more ≡ false → complete (pendingOf (r .stream) input') ≡ []
+  pub all : r .more ≡ false → (text said : List ℕ) → SoFar text (transcriptOf stream said) (pendingOf stream input) →
+      said ++ take (r .written) buffer' ≡ session (complete (text ++ take got (drop (stream .to) input)))
+
+-- At the end of the input: the replies are those to the whole text.
+pub record Finished (stream : Stream) (input : List ℕ) (r : ℕ) (buffer' : List ℕ) : Type 0 where
+  pub room : r ≤ length buffer'
+  pub all : complete (pendingOf stream input) ≡ [] → (text said : List ℕ) → SoFar text (transcriptOf stream said) (pendingOf stream input) →
+      said ++ take r buffer' ≡ output text
+
+-- The lines of a text from a position on, as far as the buffer had room.
+pub record AnsweredLines (s : List ℕ) (from : ℕ) (state : State) (before : List ℕ) (r : Answered) (buffer' : List ℕ) : Type 0 where
+  pub good : Good (r .book)
+  pub within : r .next ≤ length s
+  pub room : r .written ≤ length buffer'
+  pub lines : (said : List ℕ) → after (record { state = state; replies = said }) (complete (drop from s))
+      ≡ after (record { state = stateOf (r .opened) (shows (r .book)); replies = said ++ take (r .written) buffer' }) (complete (drop (r .next) s))
+  pub rest : unfinished (drop (r .next) s) ≡ unfinished (drop from s)
+  pub all : r .written + maxReply ≤ length buffer' → complete (drop (r .next) s) ≡ []
+  pub one : length (complete (drop from s)) ≤ 1 → maxReply ≤ length before → complete (drop (r .next) s) ≡ []

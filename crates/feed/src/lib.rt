@@ -8,10 +8,8 @@
 ghost use Rattle.crc32.specs.Table.{ShiftTable};
 ghost use Rattle.line_text.specs.Opening.{lineOne};
 ghost use Rattle.book.specs.Shown.{Good, Opened, shows};
-ghost use Rattle.feed.specs.Feed.{ProcessedLines, carried, maxReply};
-ghost use Rattle.feed.specs.Stream.{Holds};
-ghost use mathlib.Core.Path.{_≡_};
-ghost use mathlib.Core.Bool.{true, false};
+ghost use Rattle.feed.specs.Feed.{ProcessedLines, maxReply};
+ghost use Rattle.feed.specs.Stream.{Holds, Started, AnsweredBlock, Finished, AnsweredLines, stateOf, bookOpen};
 ghost use Prim.Native.Nat.{_+_, _≤_, _<_};
 ghost use lib.ListN.{length};
 use book::Book;
@@ -98,7 +96,7 @@ pub struct Block {
 
 // Nothing is read yet.
 pub fn start() -> Stream
-    ensures { λ r. ⌜ Good (r .book) × (r .from ≡ 0) × (r .to ≡ 0) ⌝ }
+    ensures { λ r. ⌜ Started r ⌝ }
 {
     Stream {
         book: open(b""),
@@ -118,7 +116,7 @@ pub fn answer(
     buffer: &mut [u8],
 ) -> Block
     requires { ⌜ Holds stream (now input) × (stream .to + got ≤ length (now input)) × ShiftTable (now table) ⌝ }
-    ensures { λ r. ⌜ Holds (r .stream) (now (input .exit)) × (r .written ≤ length (now (buffer .entry))) × (r .more ≡ false → r .stream .to ≤ carried) ⌝ }
+    ensures { λ r. ⌜ AnsweredBlock stream (now (input .entry)) got r (now (input .exit)) (now (buffer .exit)) ⌝ }
 {
     let from = stream.from;
     let to = stream.to + got;
@@ -154,8 +152,8 @@ pub fn answer(
 
 // At the end of the input: lays the reply to the last line, if it has no line end and isn't empty, and answers how many bytes it has.
 pub fn finish(stream: Stream, input: &mut [u8], table: &[u32], buffer: &mut [u8]) -> usize
-    requires { ⌜ Holds stream (now input) × (stream .to < length (now input)) × ShiftTable (now table) ⌝ }
-    ensures { λ r. ⌜ r ≤ length (now (buffer .entry)) ⌝ }
+    requires { ⌜ Holds stream (now input) × (stream .to < length (now input)) × (maxReply ≤ length (now buffer)) × ShiftTable (now table) ⌝ }
+    ensures { λ r. ⌜ Finished stream (now (input .entry)) r (now (buffer .exit)) ⌝ }
 {
     let from = stream.from;
     let to = stream.to;
@@ -180,7 +178,7 @@ struct Answered {
 // Line 1, if it was not read yet, and the messages after it.
 fn answer_lines(book: Book, opened: bool, s: &[u8], table: &[u32], buffer: &mut [u8]) -> Answered
     requires { ⌜ Good book × ShiftTable (now table) ⌝ }
-    ensures { λ r. ⌜ Good (r .book) × (r .next ≤ length (now (s .entry))) × (r .written ≤ length (now (buffer .entry))) ⌝ }
+    ensures { λ r. ⌜ AnsweredLines (now (s .entry)) 0 (stateOf opened (shows book)) (now (buffer .entry)) r (now (buffer .exit)) ⌝ }
 {
     if opened {
         return answer_from(book, s, 0, table, buffer);
@@ -200,7 +198,7 @@ fn answer_lines(book: Book, opened: bool, s: &[u8], table: &[u32], buffer: &mut 
 // The messages from a position on.
 fn answer_from(book: Book, s: &[u8], from: usize, table: &[u32], buffer: &mut [u8]) -> Answered
     requires { ⌜ Good book × (from ≤ length (now s)) × ShiftTable (now table) ⌝ }
-    ensures { λ r. ⌜ Good (r .book) × (r .next ≤ length (now (s .entry))) × (r .written ≤ length (now (buffer .entry))) ⌝ }
+    ensures { λ r. ⌜ AnsweredLines (now (s .entry)) from (bookOpen (shows book)) (now (buffer .entry)) r (now (buffer .exit)) ⌝ }
 {
     let processed = process_lines(book, &s[from..], table, buffer);
     let after = processed.book;

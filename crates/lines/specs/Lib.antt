@@ -1,3 +1,3 @@
--- In reading order: the lines of a text, whole and in blocks; worked examples.
+-- In reading order: the lines of a text; worked examples.
 pub mod Lines
 pub mod Examples

@@ -37,10 +37,3 @@ lastLine (c ∷ s) = (c ∷ s) ∷ []
 
 unfoldable pub linesOf : List ℕ → List (List ℕ)
 linesOf s = complete s ++ lastLine (unfinished s)
-
--- ---- a text that comes in blocks
-
--- The lines that end in each block, with what is held of the unfinished line before them: `most` bytes at the most.
-unfoldable pub inBlocks : ℕ → List ℕ → List (List ℕ) → List (List ℕ)
-inBlocks most held [] = lastLine held
-inBlocks most held (block ∷ blocks) = complete (held ++ block) ++ inBlocks most (take most (unfinished (held ++ block))) blocks

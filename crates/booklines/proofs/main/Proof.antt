@@ -4,7 +4,7 @@ use Rattle.booklines.proofs.main.Statement.{statement}
 use Rattle.booklines.proofs.main.Tie as tie
 
 run-requires : tie.Need-run-requires
-run-requires c κs = (search needs, c .before .before .before .before .fill-table .ensures .right)
+run-requires c κs = (search needs, search needs, c .before .before .before .before .fill-table .ensures .right)
 
 pub main-spec : {M : Type 1} → statement M
 main-spec =

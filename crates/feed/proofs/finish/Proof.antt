@@ -1,22 +1,31 @@
--- `finish` meets its contract.
+-- `finish` meets its contract: with a line end behind it, the last line is answered as any other.
 use Prim.Native.Nat.{_+_, _≤_}
 use native.Mathlib.Omega.{arith}
 use lib.ListN.{length, set, length-set}
 use borrow.Author.Needs.{needs}
+use Rattle.feed.proofs.Streaming.{finished-none, finished-last}
 use Rattle.feed.proofs.finish.Statement.{statement}
 use Rattle.feed.proofs.finish.Tie as tie
 
 fits : (s : tie.Start) → s .args .stream .to + 1 ≤ length (set (s .args .input .now) (s .args .stream .to) 10)
 fits s = let h = s .pre .1 in simp length-set (omega arith)
 
+returns : tie.Need-returns
+returns c = let s = c .before .before .before .before in finished-none (s .args .stream) (s .args .input .now) (c .if1 .taken)
+
 part-answer-lines-end : tie.Need-part-answer-lines-end
 part-answer-lines-end c = fits (c .before .before .before .before .before .before)
+
+returns-2 : tie.Need-returns-2
+returns-2 c =
+    let s = c .before .before .before .before .before .before .before .before .before .before .before in
+    finished-last (s .args .stream) (s .args .input .now) (s .pre .0) (s .pre .1) (c .before .before .before .before .before .before .before .if1 .left) (s .pre .2) (c .before .before .answer-lines .ensures)
 
 pub finish-spec : {M : Type 1} → statement M
 finish-spec =
     tie.close
     (tie.spec
-    (λ c. search needs)
+    returns
     (λ c. search needs)
     (λ c. search needs)
     (λ c. search needs)
@@ -25,4 +34,4 @@ finish-spec =
     (λ c κs. search needs)
     (λ c. search needs)
     (λ c. search needs)
-    (λ c. search needs))
+    returns-2)

@@ -119,7 +119,7 @@ round-trip-code dialect depth name b c d e n f cs lent buffer u k q qs w r a z o
     let p′ : Reference = receive (opened t) s .book in
     let ns = opened-made o′ l′ .replies in
     let rs : r ≡ seen (does (opened t) (message s) buffer) = first-seen ns in
-    let as : a ≡ seen (does p′ (question q) u) = second-seen ns in
+    let an : a ≡ seen (does p′ (question q) u) = second-seen ns in
     let st : p′ .status ≡ live = ap (λ (i : List ℕ). receive (opened t) i .book .status) text ∙ y .status in
     let lq : isLive (p′ .status) ≡ true = ap isLive st in
     let sd : p′ .last .sides ≡ p .last .sides = ap (λ (i : List ℕ). receive (opened t) i .book .last .sides) text ∙ y .sides in
@@ -127,5 +127,5 @@ round-trip-code dialect depth name b c d e n f cs lent buffer u k q qs w r a z o
     let hq : p′ .had-snapshot ≡ true = reached t (call (message s) buffer ∷ []) .had-snapshot lq in
     let hs : p .had-snapshot ≡ true = reached t cs .had-snapshot lp in
     let same : seen (does p′ (question q) u) ≡ seen (does p (question q) u) =
-        rw (answer-alike p′ p sd nr lq lp hq hs q i u, value-alike p′ p sd nr lq lp hq hs q i u, buffer-alike p′ p sd nr lq lp hq hs q i u) in
-    (ap (λ (y : Seen). y .answer) rs ∙ ap (λ (i : List ℕ). receive (opened t) i .answer) text ∙ y .answer, as ∙ same ∙ sym zs)
+    rw (answer-alike p′ p sd nr lq lp hq hs q i u, value-alike p′ p sd nr lq lp hq hs q i u, buffer-alike p′ p sd nr lq lp hq hs q i u) in
+    (ap (λ (y : Seen). y .answer) rs ∙ ap (λ (i : List ℕ). receive (opened t) i .answer) text ∙ y .answer, an ∙ same ∙ sym zs)

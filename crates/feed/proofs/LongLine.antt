@@ -1,7 +1,7 @@
 -- A line 1 that is longer than what is carried of it opens a shut book, and so does what is carried. Assumes nothing.
 use Prim.Native.Nat.{ℕ, suc, _-_, _≤_, _<_}
 use mathlib.Core.Path.{_≡_, refl, ap, _∙_}
-use mathlib.Core.Bool.{Bool, true, false, _&&_}
+use mathlib.Core.Bool.{Bool, true, false, _&&_, cond}
 use mathlib.Core.List.{List, [], _∷_}
 use native.Mathlib.Omega.{arith}
 use borrow.Author.Tests.{lt-leb, leb-true, leb-false, ltb-true}
@@ -15,6 +15,7 @@ use Rattle.decimal.proofs.Scan.{whole-long}
 use Rattle.decimal.proofs.WholeNumber.{whole-wrong}
 use Rattle.settings.specs.Settings.{Config, shut, goodDepth, goodName, good, kept}
 use Rattle.settings.specs.declared.Dialect.{Dialect}
+use Rattle.settings.specs.declared.Dialect.the-variants.{Unknown}
 use Rattle.line_text.specs.Opening.{space, dialectOf, withDepth, depthAndName, lineOne}
 use Rattle.reference.specs.Reference.{opened}
 use Rattle.feed.specs.Feed.{carried}
@@ -40,6 +41,16 @@ no-depth : (dialect : Dialect) (name : List ℕ) {r : Reading ℕ} → r ≡ ref
 unfolding withDepth
 no-depth dialect name e = ap (λ (x : Reading ℕ). good (withDepth dialect x name)) e ∙ shut-bad
 
+-- of no dialect
+unknown-bad : (s : List ℕ) → good (depthAndName Unknown s) ≡ false
+unfolding depthAndName withDepth good goodDepth
+unknown-bad s = at (ltb (bytesBefore space s) (length s)) (readWhole (take (bytesBefore space s) s))
+  where
+    at : (b : Bool) (r : Reading ℕ) → good (cond b (withDepth Unknown r (drop (suc (bytesBefore space s)) s)) shut) ≡ false
+    at true (reads n) = refl
+    at true refused = refl
+    at false r = refl
+
 -- a depth of too many digits, or a name of too many bytes
 bad-depth : (dialect : Dialect) (s : List ℕ) → 36 < length s → good (depthAndName dialect s) ≡ false
 unfolding depthAndName
@@ -63,14 +74,31 @@ bad-depth dialect s h = at (ltb (bytesBefore space s) (length s)) refl
         (depth (leb (bytesBefore space s) maxWholeNumber) refl (ltb-true (bytesBefore space s) (length s) e))
     at false e = rw (e, depthAndName) shut-bad
 
+-- no word of more than one byte is a dialect's
+other-bad : (w : List ℕ) (s : List ℕ) → 1 < length w → good (depthAndName (dialectOf w) s) ≡ false
+unfolding dialectOf
+other-bad [] s h = absurd (omega (arith, h))
+other-bad (c ∷ []) s h = absurd (omega (arith, h))
+other-bad (c ∷ (d ∷ w)) s h = unknown-bad s
+
 pub bad-line : (line : List ℕ) → 38 < length line → good (lineOne line) ≡ false
 unfolding lineOne
-bad-line [] h = absurd (omega (arith, h))
-bad-line (letter ∷ []) h = shut-bad
-bad-line (letter ∷ (c ∷ s)) h = at (eqb c space) refl
+bad-line line h = at (ltb (bytesBefore space line) (length line)) refl
   where
-    at : (b : Bool) → eqb c space ≡ b → good (lineOne (letter ∷ (c ∷ s))) ≡ false
-    at true e = rw (e, lineOne) (bad-depth (dialectOf letter) s (let l = h in omega arith))
+    word : (b : Bool) → leb (bytesBefore space line) 1 ≡ b → bytesBefore space line < length line
+        → good (depthAndName (dialectOf (take (bytesBefore space line) line)) (drop (suc (bytesBefore space line)) line)) ≡ false
+    word true e l =
+        let k : bytesBefore space line ≤ 1 = leb-true (bytesBefore space line) 1 e in
+        let n = length-drop (suc (bytesBefore space line)) line in
+        let g = h in
+        bad-depth (dialectOf (take (bytesBefore space line) line)) (drop (suc (bytesBefore space line)) line) (omega arith)
+    word false e l =
+        let k : 1 < bytesBefore space line = leb-false (bytesBefore space line) 1 e in
+        let n : length (take (bytesBefore space line) line) ≡ bytesBefore space line = length-take-le (bytesBefore space line) line (omega arith) in
+        other-bad (take (bytesBefore space line) line) (drop (suc (bytesBefore space line)) line) (omega arith)
+
+    at : (b : Bool) → ltb (bytesBefore space line) (length line) ≡ b → good (lineOne line) ≡ false
+    at true e = rw (e, lineOne) (word (leb (bytesBefore space line) 1) refl (ltb-true (bytesBefore space line) (length line) e))
     at false e = rw (e, lineOne) shut-bad
 
 opened-bad : (t u : Config) → good t ≡ false → good u ≡ false → opened t ≡ opened u

@@ -1,10 +1,12 @@
 -- Laws of the settings on line 1, case by case. Assumes nothing.
 use Prim.Native.Nat.{ℕ, suc, _+_, _-_, _≤_, _<_}
-use mathlib.Core.Path.{_≡_, refl, sym, ap, _∙_}
+use mathlib.Core.Path.{_≡_, refl, sym, ap, ap₂, _∙_}
+use mathlib.Core.Bool.{cond}
 use mathlib.Core.List.{List, [], _∷_}
 use native.Mathlib.Nat.{le-refl}
 use native.Mathlib.Omega.{arith}
 use borrow.Author.Tests.{lt-ltb, le-ltb, eq-eqb, ne-eqb}
+use lib.Dec.{eqb}
 use lib.ListN.{length, getD, take, drop, length-drop, drop-of-length-le}
 use lib.Seq.{drop-drop}
 use Rattle.lines.specs.Lines.{bytesBefore}
@@ -12,7 +14,7 @@ use Rattle.decimal.specs.Digits.{reads, refused}
 use Rattle.decimal.specs.Whole.{readWhole}
 use Rattle.settings.specs.Settings.{Config, shut}
 use Rattle.settings.specs.declared.Dialect.{Dialect}
-use Rattle.settings.specs.declared.Dialect.the-variants.{Unknown}
+use Rattle.settings.specs.declared.Dialect.the-variants.{K, M, Unknown}
 use Rattle.line_text.specs.declared.FirstLine.{FirstLine}
 use Rattle.line_text.specs.Opening.{space, dialectOf, withDepth, depthAndName, lineOne, configOn, Found}
 
@@ -28,51 +30,72 @@ found-none line = record { same = ap unnamed (drop-of-length-le line {i = length
 
 -- ---- the depth and the name, with the blank between them as `find` gives it
 
-module _ (line : List ℕ) (dialect : Dialect) (e : ℕ) (is : e ≡ 2 + bytesBefore space (drop 2 line)) where
+module _ (line : List ℕ) (at : ℕ) (dialect : Dialect) (e : ℕ) (is : e ≡ at + bytesBefore space (drop at line)) where
   abbrev rest : List ℕ
-  rest = drop 2 line
+  rest = drop at line
 
-  pub no-name : length line ≤ e → shut ≡ depthAndName dialect (drop 2 line)
+  pub no-name : length line ≤ e → shut ≡ depthAndName dialect (drop at line)
   unfolding depthAndName
   no-name h =
-      let l : length rest ≤ bytesBefore space rest = omega (arith, length-drop 2 line) in
+      let l : length rest ≤ bytesBefore space rest = omega (arith, length-drop at line) in
       rw (le-ltb (bytesBefore space rest) (length rest) l, depthAndName)
 
   module _ (h : e < length line) where
-    parted : depthAndName dialect rest ≡ withDepth dialect (readWhole (take (e - 2) rest)) (drop (e + 1) line)
+    parted : depthAndName dialect rest ≡ withDepth dialect (readWhole (take (e - at) rest)) (drop (e + 1) line)
     unfolding depthAndName
     parted =
-        let l : bytesBefore space rest < length rest = omega (arith, length-drop 2 line) in
-        let n : bytesBefore space rest ≡ e - 2 = omega arith in
-        let k : 2 + suc (bytesBefore space rest) ≡ e + 1 = omega arith in
+        let l : bytesBefore space rest < length rest = omega (arith, length-drop at line) in
+        let n : bytesBefore space rest ≡ e - at = omega arith in
+        let k : at + suc (bytesBefore space rest) ≡ e + 1 = omega arith in
         rw (lt-ltb (bytesBefore space rest) (length rest) l, depthAndName)
-        (ap (λ (x : List ℕ). withDepth dialect (readWhole (take (bytesBefore space rest) rest)) x) (drop-drop (suc (bytesBefore space rest)) 2 line ∙ ap (λ (m : ℕ). drop m line) k)
+        (ap (λ (x : List ℕ). withDepth dialect (readWhole (take (bytesBefore space rest) rest)) x) (drop-drop (suc (bytesBefore space rest)) at line ∙ ap (λ (m : ℕ). drop m line) k)
         ∙ ap (λ (m : ℕ). withDepth dialect (readWhole (take m rest)) (drop (e + 1) line)) n)
 
-    pub bad-depth : refused ≡ readWhole (take (e - 2) (drop 2 line)) → shut ≡ depthAndName dialect (drop 2 line)
+    pub bad-depth : refused ≡ readWhole (take (e - at) (drop at line)) → shut ≡ depthAndName dialect (drop at line)
     unfolding withDepth
     bad-depth q = ap (λ x. withDepth dialect x (drop (e + 1) line)) q ∙ sym parted
 
-    pub good-depth : (n : ℕ) → reads n ≡ readWhole (take (e - 2) (drop 2 line)) → Found line (depthAndName dialect (drop 2 line)) (record { dialect = dialect; depth = n; name = e + 1 })
+    pub good-depth : (n : ℕ) → reads n ≡ readWhole (take (e - at) (drop at line)) → Found line (depthAndName dialect (drop at line)) (record { dialect = dialect; depth = n; name = e + 1 })
     unfolding withDepth configOn
     good-depth n q = record { same = ap (λ x. withDepth dialect x (drop (e + 1) line)) q ∙ sym parted; within = omega arith }
 
--- ---- the dialect
+-- ---- the dialect, with the blank behind it as `find` gives it
 
-pub too-short : (line : List ℕ) → length line < 2 → shut ≡ lineOne line
-unfolding lineOne
-too-short [] h = refl
-too-short (c ∷ []) h = refl
-too-short (c ∷ (d ∷ s)) h = absurd (omega (arith, h))
+module _ (line : List ℕ) (e : ℕ) (is : e ≡ bytesBefore space line) where
+  pub no-blank : length line ≤ e → shut ≡ lineOne line
+  unfolding lineOne
+  no-blank h = rw (le-ltb (bytesBefore space line) (length line) (omega arith), lineOne)
 
-pub no-blank : (line : List ℕ) → 2 ≤ length line → (getD line 1 0 ≡ space → ⊥) → shut ≡ lineOne line
-unfolding lineOne
-no-blank [] h n = refl
-no-blank (c ∷ []) h n = refl
-no-blank (c ∷ (d ∷ s)) h n = rw (ne-eqb d space n, lineOne)
+  pub laid-out : e < length line → depthAndName (dialectOf (take e line)) (drop (e + 1) line) ≡ lineOne line
+  unfolding lineOne
+  laid-out h =
+      let k : e + 1 ≡ suc (bytesBefore space line) = omega arith in
+      let w : dialectOf (take e line) ≡ dialectOf (take (bytesBefore space line) line) = ap (λ (i : ℕ). dialectOf (take i line)) is in
+      ap₂ (λ (d : Dialect) (i : ℕ). depthAndName d (drop i line)) w k ∙ sym (rw (lt-ltb (bytesBefore space line) (length line) (omega arith), lineOne))
 
-pub laid-out : (line : List ℕ) → 2 ≤ length line → getD line 1 0 ≡ space → depthAndName (dialectOf (getD line 0 0)) (drop 2 line) ≡ lineOne line
-unfolding lineOne
-laid-out [] h e = absurd (omega (arith, h))
-laid-out (c ∷ []) h e = absurd (omega (arith, h))
-laid-out (c ∷ (d ∷ s)) h e = rw (eq-eqb d space e, lineOne)
+-- a word of other than one byte
+pub other-word : (w : List ℕ) → (length w ≡ 1 → ⊥) → Unknown ≡ dialectOf w
+unfolding dialectOf
+other-word [] h = refl
+other-word (c ∷ []) h = absurd (h refl)
+other-word (c ∷ (d ∷ w)) h = refl
+
+-- a word of one byte
+module _ (w : List ℕ) (one : length w ≡ 1) where
+  letter-word : cond (eqb (getD w 0 0) 75) K (cond (eqb (getD w 0 0) 77) M Unknown) ≡ dialectOf w
+  unfolding dialectOf
+  letter-word = go w one
+    where
+      go : (v : List ℕ) → length v ≡ 1 → cond (eqb (getD v 0 0) 75) K (cond (eqb (getD v 0 0) 77) M Unknown) ≡ dialectOf v
+      go [] h = absurd (omega (arith, h))
+      go (c ∷ []) h = refl
+      go (c ∷ (d ∷ v)) h = absurd (omega (arith, h))
+
+  pub word-k : getD w 0 0 ≡ 75 → K ≡ dialectOf w
+  word-k h = rw (eq-eqb (getD w 0 0) 75 h) at letter-word
+
+  pub word-m : (getD w 0 0 ≡ 75 → ⊥) → getD w 0 0 ≡ 77 → M ≡ dialectOf w
+  word-m n h = rw (ne-eqb (getD w 0 0) 75 n, eq-eqb (getD w 0 0) 77 h) at letter-word
+
+  pub word-other : (getD w 0 0 ≡ 75 → ⊥) → (getD w 0 0 ≡ 77 → ⊥) → Unknown ≡ dialectOf w
+  word-other n m = rw (ne-eqb (getD w 0 0) 75 n, ne-eqb (getD w 0 0) 77 m) at letter-word

@@ -17,9 +17,11 @@ use Rattle.line_text.specs.declared.FirstLine.{FirstLine}
 abbrev pub space : ℕ
 space = 32
 
--- The bytes of `K` and `M`.
-unfoldable pub dialectOf : ℕ → Dialect
-dialectOf c = cond (eqb c 75) K (cond (eqb c 77) M Unknown)
+-- The words of the dialects: `K` and `M`, by their bytes.
+unfoldable pub dialectOf : List ℕ → Dialect
+dialectOf [] = Unknown
+dialectOf (c ∷ []) = cond (eqb c 75) K (cond (eqb c 77) M Unknown)
+dialectOf (c ∷ (d ∷ w)) = Unknown
 
 unfoldable pub withDepth : Dialect → Reading ℕ → List ℕ → Config
 withDepth dialect (reads depth) name = record { dialect = dialect; depth = depth; name = name }
@@ -29,11 +31,9 @@ withDepth dialect refused name = shut
 unfoldable pub depthAndName : Dialect → List ℕ → Config
 depthAndName dialect s = cond (ltb (bytesBefore space s) (length s)) (withDepth dialect (readWhole (take (bytesBefore space s) s)) (drop (suc (bytesBefore space s)) s)) shut
 
--- A line that is not laid out like this has the settings of a shut book.
+-- The dialect is a word up to the first blank. A line that is not laid out like this has the settings of a shut book.
 unfoldable pub lineOne : List ℕ → Config
-lineOne [] = shut
-lineOne (letter ∷ []) = shut
-lineOne (letter ∷ (c ∷ s)) = cond (eqb c space) (depthAndName (dialectOf letter) s) shut
+lineOne s = cond (ltb (bytesBefore space s) (length s)) (depthAndName (dialectOf (take (bytesBefore space s) s)) (drop (suc (bytesBefore space s)) s)) shut
 
 -- The settings that the code finds on a line.
 unfoldable pub configOn : List ℕ → FirstLine → Config

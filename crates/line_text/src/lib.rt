@@ -34,37 +34,40 @@ pub struct FirstLine {
 pub fn read_settings(line: &[u8]) -> FirstLine
     ensures { λ r. ⌜ Found (now (line .entry)) (lineOne (now (line .entry))) r ⌝ }
 {
-    if line.len() < 2 {
+    let end = find(line, 0, BLANK);
+    if line.len() <= end {
         return no_settings(line);
     }
-    if line[1] != BLANK {
-        return no_settings(line);
-    }
-    read_depth(line, dialect_of(line[0]))
+    let dialect = dialect_of(&line[..end]);
+    read_depth(line, end + 1, dialect)
 }
 
-fn dialect_of(letter: u8) -> Dialect
-    ensures { λ r. ⌜ r ≡ dialectOf letter ⌝ }
+// The dialect that a word names.
+fn dialect_of(word: &[u8]) -> Dialect
+    ensures { λ r. ⌜ r ≡ dialectOf (now (word .entry)) ⌝ }
 {
-    if letter == b'K' {
+    if word.len() != 1 {
+        return Dialect::Unknown;
+    }
+    if word[0] == b'K' {
         return Dialect::K;
     }
-    if letter == b'M' {
+    if word[0] == b'M' {
         return Dialect::M;
     }
     Dialect::Unknown
 }
 
-// The depth and the name, which follow the dialect and a blank.
-fn read_depth(line: &[u8], dialect: Dialect) -> FirstLine
-    requires { ⌜ 2 ≤ length (now line) ⌝ }
-    ensures { λ r. ⌜ Found (now (line .entry)) (depthAndName dialect (drop 2 (now (line .entry)))) r ⌝ }
+// The depth and the name, from a position on.
+fn read_depth(line: &[u8], at: usize, dialect: Dialect) -> FirstLine
+    requires { ⌜ at ≤ length (now line) ⌝ }
+    ensures { λ r. ⌜ Found (now (line .entry)) (depthAndName dialect (drop at (now (line .entry)))) r ⌝ }
 {
-    let end = find(line, 2, BLANK);
+    let end = find(line, at, BLANK);
     if line.len() <= end {
         return no_settings(line);
     }
-    match decimal::parse_whole(&line[2..end]) {
+    match decimal::parse_whole(&line[at..end]) {
         ParsedWhole::Number(depth) => FirstLine {
             dialect,
             depth: depth as usize,

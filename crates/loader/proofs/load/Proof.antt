@@ -39,7 +39,7 @@ level-of-requires c κs = (c .read-entry .ensures .price .within, c .read-entry 
 
 mul-prices : tie.Need-mul-prices Inv-loop μ-loop
 mul-prices c =
-    let a = c .before .before .before .before .before .before .before .args in
+    let a = c .before .before .before .before .before .before .before .before .args in
     let form = c .before .before .before .before .before .before .form-of .result in
     let s = a .s .now in
     let k = going-below form s (c .before .before .before .before .loop .inv) (c .before .before .before .loop-test .taken) in
@@ -47,7 +47,7 @@ mul-prices c =
 
 element-write-prices : tie.Need-element-write-prices Inv-loop μ-loop
 element-write-prices c =
-    let a = c .before .before .before .before .before .before .before .args in
+    let a = c .before .before .before .before .before .before .before .before .args in
     let form = c .before .before .before .before .before .before .form-of .result in
     let s = a .s .now in
     let k = going-below form s (c .before .before .before .before .loop .inv) (c .before .before .before .loop-test .taken) in
@@ -56,7 +56,7 @@ element-write-prices c =
 
 mul-sizes : tie.Need-mul-sizes Inv-loop μ-loop
 mul-sizes c =
-    let a = c .before .before .before .before .before .before .before .args in
+    let a = c .before .before .before .before .before .before .before .before .args in
     let form = c .before .before .before .before .before .before .form-of .result in
     let s = a .s .now in
     let k = going-below form s (c .before .before .before .before .loop .inv) (c .before .before .before .loop-test .taken) in
@@ -64,7 +64,7 @@ mul-sizes c =
 
 element-write-sizes : tie.Need-element-write-sizes Inv-loop μ-loop
 element-write-sizes c =
-    let a = c .before .before .before .before .before .before .before .args in
+    let a = c .before .before .before .before .before .before .before .before .args in
     let form = c .before .before .before .before .before .before .form-of .result in
     let s = a .s .now in
     let k = going-below form s (c .before .before .before .before .loop .inv) (c .before .before .before .loop-test .taken) in

@@ -15,7 +15,7 @@ returns c =
     let k = c .before .bad-at2 in
     let o = a .outline in
     let q = c .before .before .before .is-snapshot .ensures in
-    record { is = c .earlier .ensures ∙ ap₂ earlierPlace (b .ensures .is) (k .ensures .is) ∙ ap (λ (x : Bool). earlierPlace (badAt (a .m) (now (a .s)) (o .«bids_at») (o .bids) x) (badAt (a .m) (now (a .s)) (o .«asks_at») (o .asks) x)) q; within = earlier-within (b .result) (k .result) (now (a .s)) (b .ensures .within) (k .ensures .within) (c .earlier .result) (c .earlier .ensures) }
+    record { is = c .earlier .ensures ∙ ap₂ earlierPlace (b .ensures .is) (k .ensures .is) ∙ ap (λ (x : Bool). earlierPlace (badAt (a .form) (now (a .s)) (o .«bids_at») (o .bids) x) (badAt (a .form) (now (a .s)) (o .«asks_at») (o .asks) x)) q; within = earlier-within (b .result) (k .result) (now (a .s)) (b .ensures .within) (k .ensures .within) (c .earlier .result) (c .earlier .ensures) }
 
 pub bad-in-spec : {M : Type 1} → statement M
 bad-in-spec =

@@ -35,7 +35,7 @@ abbrev pub Holds : Case → Type 0
 Holds (is s digits decimals) = read (ascii s) ≡ reads (record { digits = digits; decimals = decimals })
 Holds (passes s) = read (ascii s) ≡ reads (decimal s)
 Holds (refuses s) = read (ascii s) ≡ refused
-Holds (one-price s t) = order (decimal s) (decimal t) ≡ Equal
+Holds (one-price s t) = (read (ascii s) ≡ reads (decimal s)) × (read (ascii t) ≡ reads (decimal t)) × (order (decimal s) (decimal t) ≡ Equal)
 Holds (k-text ask s) = kChecksumText 10 [] (ask ∷ []) ≡ ascii s
 Holds (m-text bids asks s) = mChecksumText 100 bids asks ≡ ascii s
 Holds (sums-to s n) = crc (ascii s) ≡ n
@@ -60,4 +60,4 @@ table =
 pub checked-by-hand : All Holds table
 unfolding table All decimal level read prefix isWhole pointed fractional leading isDigit valueFrom text afterPoint fixed written significant significantIn
     withoutPoint withoutZeros stripped value orderOf order joined kLevel kChecksumText interleaved colonJoined mLevel mChecksumText bit bits step run crc
-checked-by-hand = (refl, (refl, (refl, (refl, (refl, (refl, (refl, (refl, (refl, (refl, (refl, (refl, (refl, tt)))))))))))))
+checked-by-hand = (refl, (refl, (refl, (refl, (refl, (refl, (refl, (refl, ((refl, refl, refl), (refl, (refl, (refl, (refl, tt)))))))))))))

@@ -1,6 +1,7 @@
 -- Demand 3 of the code. The invariant of books (`Good`) goes from call to call, and with it that the book shows the reference book. Assumes nothing.
 use Prim.Native.Nat.{ℕ}
 use mathlib.Core.Path.{_≡_, refl, sym, ap, ap₂, _∙_, subst}
+use mathlib.Core.Bool.{true}
 use mathlib.Core.List.{List, [], _∷_, map}
 use denote.Ref.{now}
 use Rattle.decimal.specs.Decimal.{number as numberOf}
@@ -80,18 +81,6 @@ opened-made : {dialect : Dialect} {depth : ℕ} {name : List ℕ} {b e : Book} {
 opened-made {dialect} {depth} {name} {b} {e} {cs} {rs} (κs, n, h, o) k =
     subst (λ (p : Reference). AsReference p cs rs e) (o .same ∙ ap (λ (x : List ℕ). opened (settingsOf dialect depth x)) h) (made (o .good) k)
 
-first-answer : {r : Seen} {rs : List Seen} {x : Reply} {xs : List Reply} → r ∷ rs ≡ seen x ∷ map seen xs → r .answer ≡ x .answer
-first-answer {r} {rs} {x} {xs} e = let h : r ≡ seen x = cc in ap (λ (y : Seen). y .answer) h
-
-pub from-snapshot-code : From-snapshot-code
-unfolding repliesTo does
-from-snapshot-code dialect depth name b c e n f cs ds s buffer m r qs rs ts o k l q i a o′ l′ =
-    let t : Config = settingsOf dialect depth name in
-    let x = opened-made o k in
-    let y : AsReference (final (opened t) cs) (call (message s) buffer ∷ ds) (r ∷ rs) e = subst (λ (p : Reference). AsReference p (call (message s) buffer ∷ ds) (r ∷ rs) e) (x .ends) (made (x .good) l) in
-    let z : receive (final (opened t) cs) s .answer ≡ Taken = sym (first-answer (y .replies)) ∙ a in
-    y .replies ∙ ap (map seen) (fresh-replies t cs ds s buffer m q i z) ∙ sym (opened-made o′ l′ .replies)
-
 same-amount : {m n : ℕ} → amount m ≡ amount n → m ≡ n
 same-amount e = cc
 
@@ -101,15 +90,24 @@ second-seen e = cc
 first-seen : {r : Seen} {rs xs : List Seen} {x : Seen} → r ∷ rs ≡ x ∷ xs → r ≡ x
 first-seen e = cc
 
+pub from-snapshot-code : From-snapshot-code
+unfolding repliesTo does
+from-snapshot-code dialect depth name b c e n f cs ds s buffer m r qs rs ts o k l q i a o′ l′ =
+    let t : Config = settingsOf dialect depth name in
+    let x = opened-made o k in
+    let y : AsReference (final (opened t) cs) (call (message s) buffer ∷ ds) (r ∷ rs) e = subst (λ (p : Reference). AsReference p (call (message s) buffer ∷ ds) (r ∷ rs) e) (x .ends) (made (x .good) l) in
+    let z : receive (final (opened t) cs) s .answer ≡ Taken = sym (ap (λ (v : Seen). v .answer) (first-seen (y .replies))) ∙ a in
+    y .replies ∙ ap (map seen) (fresh-replies t cs ds s buffer m q i z) ∙ sym (opened-made o′ l′ .replies)
+
 pub round-trip-code : Round-trip-code
-unfolding repliesTo does final
+unfolding repliesTo does final isLive
 round-trip-code dialect depth name b c d e n f cs lent buffer u k q qs w r a z o l v h j o′ l′ i v′ =
     let t : Config = settingsOf dialect depth name in
     let p : Reference = final (opened t) cs in
     let x = opened-made o l in
-    let back : {ds : List Call} {rs : List Seen} {g : Book} → Made c ds rs g → AsReference p ds rs g = λ {ds} {rs} {g} y. subst (λ (y : Reference). AsReference y ds rs g) (x .ends) (made (x .good) y) in
-    let ws : w ≡ seen (does p (question write) lent) = first-seen (back v .replies) in
-    let zs : z ≡ seen (does p (question q) u) = first-seen (back v′ .replies) in
+    let back : (ds : List Call) (rs : List Seen) (g : Book) → Made c ds rs g → AsReference p ds rs g = λ ds rs g y. subst (λ (i : Reference). AsReference i ds rs g) (x .ends) (made (x .good) y) in
+    let ws : w ≡ seen (does p (question write) lent) = first-seen (back _ _ _ v .replies) in
+    let zs : z ≡ seen (does p (question q) u) = first-seen (back _ _ _ v′ .replies) in
     let hp : does p (question write) lent .answer ≡ Taken = sym (ap (λ (y : Seen). y .answer) ws) ∙ h in
     let kn : k ≡ length (snapshotText p) = same-amount (sym j ∙ ap (λ (y : Seen). y .value) ws ∙ wrote-length p lent hp) in
     let text : take k (w .buffer) ≡ snapshotText p = ap₂ (λ (i : ℕ) (y : Seen). take i (y .buffer)) kn ws ∙ wrote-text p lent hp in

@@ -1,5 +1,7 @@
 // The first text of a message that breaks a rule of decimals.
+ghost use denote.Ref.{ptr};
 ghost use mathlib.Core.Path.{_≡_};
+ghost use Prim.Native.Nat.{_+_};
 ghost use mathlib.Core.Bool.{true};
 ghost use Rattle.json.specs.Names.{part};
 ghost use Rattle.settings.specs.Settings.{good};
@@ -22,7 +24,7 @@ use settings::is_m;
 // The first text that breaks a rule of decimals, quotes included, as a part of the message; the empty part at its start where
 // the settings are bad, another check refuses the message, or nothing is broken.
 pub fn bad_decimal<'a>(dialect: Dialect, depth: usize, name: &[u8], s: &'a [u8]) -> &'a [u8]
-    ensures { λ r. ⌜ now r ≡ part (now (s .entry)) (badDecimal (record { dialect = dialect; depth = depth; name = now (name .entry) }) (now (s .entry))) ⌝ }
+    ensures { λ r. ⌜ (now r ≡ part (now (s .entry)) (badDecimal (record { dialect = dialect; depth = depth; name = now (name .entry) }) (now (s .entry)))) × (ptr r ≡ (ptr (s .entry) .0, badDecimal (record { dialect = dialect; depth = depth; name = now (name .entry) }) (now (s .entry)) .from + ptr (s .entry) .1)) ⌝ }
 {
     let place = bad_place(dialect, depth, name, s);
     let from = place.from;

@@ -1,7 +1,7 @@
 -- `bad_decimal` meets its contract: the part of the message that `bad_place` tells.
 use mathlib.Core.Path.{ap, ap₂}
-use denote.Ref.{now}
-use Prim.Native.Nat.{ℕ, _-_}
+use denote.Ref.{now, ptr}
+use Prim.Native.Nat.{ℕ, _+_, _-_}
 use lib.ListN.{take, drop}
 use Rattle.message.specs.declared.Part.{Part}
 use Rattle.message.specs.Bad.{partOf}
@@ -15,7 +15,8 @@ unfolding part partOf
 returns c =
     let a = c .before .before .before .before .args in
     let e = c .before .bad-place .ensures .is in
-    ap₂ (λ (x y : ℕ). take (y - x) (drop x (now (a .s)))) (ap (λ (p : Part). p .from) e) (ap (λ (p : Part). p .to) e)
+    let from = ap (λ (p : Part). p .from) e in
+    (ap₂ (λ (x y : ℕ). take (y - x) (drop x (now (a .s)))) from (ap (λ (p : Part). p .to) e), ap (λ (x : ℕ). (ptr (a .s) .0, x + ptr (a .s) .1)) from)
 
 pub bad-decimal-spec : {M : Type 1} → statement M
 bad-decimal-spec =

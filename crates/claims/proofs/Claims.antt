@@ -123,7 +123,8 @@ round-trip-code dialect depth name b c d e n f cs lent buffer u k q qs w r a z o
     let sd : p′ .last .sides ≡ p .last .sides = ap (λ (i : List ℕ). receive (opened t) i .book .last .sides) text ∙ y .sides in
     let nr : p′ .last .number ≡ p .last .number = ap (λ (i : List ℕ). receive (opened t) i .book .last .number) text ∙ y .number in
     let hq : p′ .had-snapshot ≡ true = reached t (call (message s) buffer ∷ []) .had-snapshot lq in
+    let cf : p′ .config ≡ p .config = reached t (call (message s) buffer ∷ []) .config ∙ sym (reached t cs .config) in
     let hs : p .had-snapshot ≡ true = reached t cs .had-snapshot lp in
     let same : seen (does p′ (question q) u) ≡ seen (does p (question q) u) =
-    rw (answer-alike p′ p sd nr lq lp hq hs q i u, value-alike p′ p sd nr lq lp hq hs q i u, buffer-alike p′ p sd nr lq lp hq hs q i u) in
+    rw (answer-alike p′ p cf sd nr lq lp hq hs q i u, value-alike p′ p cf sd nr lq lp hq hs q i u, buffer-alike p′ p cf sd nr lq lp hq hs q i u) in
     (ap (λ (y : Seen). y .answer) rs ∙ ap (λ (i : List ℕ). receive (opened t) i .answer) text ∙ y .answer, an ∙ same ∙ sym zs)

@@ -1,2 +1,3 @@
 -- The claim of the code.
 pub mod Claims
+pub mod Lent

@@ -16,7 +16,7 @@ use Rattle.layout.specs.declared.Kind.the-variants.{Snapshot}
 use Rattle.message.specs.Meaning.{Message, decodes, decode}
 use Rattle.answer.specs.declared.Answer.the-variants.{Taken}
 use Rattle.reference.specs.Reference.{opened, Value, nothing, counts, level, amount, Reply, message, Question, question, howMany, levelAt, whichNumber, howManyUpdates, write, Call, repliesTo}
-use Rattle.reference.specs.Claims.{call, ofLevels}
+use Rattle.reference.specs.Claims.{call}
 use Rattle.reference.specs.declared.Scope.{Scope}
 use Rattle.book.specs.declared.Book.{Book}
 use Rattle.book.specs.declared.Step.{Step}
@@ -85,11 +85,11 @@ From-snapshot-code = (dialect : Dialect) (depth : ℕ) (name : List ℕ) (b c e 
     → Opens dialect depth name n → Made n (call (message s) buffer ∷ ds) ts f
     → r ∷ rs ≡ ts
 
--- The bytes that the writer left in the lent room, handed to a new book: it takes them, and answers every question on levels and number as the book that
--- was written out.
+-- The bytes that the writer left in the lent room, handed to a new book: it takes them, and answers every question but that for the
+-- count of updates, the writer among them, as the book that was written out.
 abbrev pub Round-trip-code : Type 0
 Round-trip-code = (dialect : Dialect) (depth : ℕ) (name : List ℕ) (b c d e n f : Book) (cs : List Call) (lent buffer u : List ℕ) (k : ℕ) (q : Question) (qs : List Seen) (w r a z : Seen)
     → Opens dialect depth name b → Made b cs qs c → Made c (call (question write) lent ∷ []) (w ∷ []) d → w .answer ≡ Taken → w .value ≡ amount k
     → Opens dialect depth name n → Made n (call (message (take k (w .buffer))) buffer ∷ call (question q) u ∷ []) (r ∷ a ∷ []) f
-    → ofLevels q ≡ true → Made c (call (question q) u ∷ []) (z ∷ []) e
+    → ((scope : Scope) → q ≡ howManyUpdates scope → ⊥) → Made c (call (question q) u ∷ []) (z ∷ []) e
     → (r .answer ≡ Taken) × (a ≡ z)

@@ -15,7 +15,8 @@ use Rattle.json_tokens.proofs.Bounds.{bounds, end-broken, blanks-in, closing-in
 use Rattle.json.specs.Json.{Span, Items, items, noItems, next, prepended, onward, list, listOf, elements, value}
 use Rattle.json.proofs.Laws.{element-is, element-wrong, first-ends, first-item, later-item, later-ends, later-wrong}
 use Rattle.entries.specs.Places.{andThen, all, contents, arrayAt}
-use Rattle.entries.specs.Rows.{Row, maxEntries, entryOf, entriesAt}
+use Rattle.entries.specs.Rows.{Row, entryOf, entriesAt}
+use Rattle.entries.specs.Arrays.{maxEntries}
 use Rattle.entries.specs.Summary.{entryPlaceOf, entryPlaceAt}
 use Rattle.entries.specs.Arrays.{entriesDepth, entryDepth, rowsOf, rowsAt, Loadable, firstAt}
 use Rattle.entries.specs.declared.Form.{Form}

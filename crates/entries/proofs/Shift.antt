@@ -15,7 +15,8 @@ use Rattle.json_tokens.proofs.Shift.{past-one, byte-shift}
 use Rattle.json.specs.Json.{Span, Items, elements, value}
 use Rattle.json.proofs.Shift.{shiftedSpan, ItemsShifts, both-items, no-items, elements-shift}
 use Rattle.entries.specs.Places.{andThen, all, isString, contents, arrayAt, inner}
-use Rattle.entries.specs.Rows.{Row, maxEntries, rowK, rowM, rowOf, entryOf, entriesAt, badPrice, badSize, badTexts, numberAt}
+use Rattle.entries.specs.Rows.{Row, rowK, rowM, rowOf, entryOf, entriesAt, badPrice, badSize, badTexts, numberAt}
+use Rattle.entries.specs.Arrays.{maxEntries}
 use Rattle.entries.specs.Summary.{zeroSize, anyBroken, anyZero}
 use Rattle.entries.specs.Arrays.{entriesDepth, rowsAt, Loadable}
 use Rattle.entries.specs.declared.Form.{Form}

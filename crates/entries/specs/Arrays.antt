@@ -9,9 +9,13 @@ use Rattle.decimal.specs.Digits.{Reading, reads, refused}
 use Rattle.json_tokens.specs.Bytes.{closeArray}
 use Rattle.json_tokens.specs.Tokens.{At, Broken, blanks, closing}
 use Rattle.json.specs.Json.{maxDepth}
-use Rattle.entries.specs.Rows.{Row, maxEntries, entriesAt}
+use Rattle.entries.specs.Rows.{Row, entriesAt}
 use Rattle.entries.specs.declared.Form.{Form}
 use Rattle.entries.specs.declared.Form.the-variants.{Triple, Pair}
+
+-- The most entries of a side in one message.
+abbrev pub maxEntries : ℕ
+maxEntries = 100
 
 -- The form of the entries of dialect M, or else of K.
 abbrev pub formOf : Bool → Form

@@ -15,10 +15,6 @@ pub record Row : Type 0 where
   pub price : Span
   pub size : Span
 
--- The most entries of a side in one message.
-abbrev pub maxEntries : ℕ
-maxEntries = 100
-
 -- ---- an entry is an array of one of two forms
 
 -- K: three or more elements, the first three strings: price, size, timestamp. The rest is passed over.

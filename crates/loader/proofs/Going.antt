@@ -7,7 +7,8 @@ use lib.ListN.{length, set, length-append}
 use Rattle.decimal.specs.Decimal.{Number}
 use Rattle.json_tokens.specs.Tokens.{separator}
 use Rattle.json_tokens.specs.Ends.{endOf}
-use Rattle.entries.specs.Rows.{Row, maxEntries}
+use Rattle.entries.specs.Rows.{Row}
+use Rattle.entries.specs.Arrays.{maxEntries}
 use Rattle.entries.specs.Summary.{entryPlaceOf, entryPlaceAt}
 use Rattle.entries.specs.Arrays.{entryDepth, rowsAt, Loadable, firstAt}
 use Rattle.entries.specs.declared.Form.{Form}

@@ -6,7 +6,8 @@ use mathlib.Core.Path.{_≡_}
 use lib.ListN.{length, take}
 use Rattle.decimal.specs.Decimal.{Number, isZero}
 use Rattle.piece.specs.Piece.{kPiece, mPiece}
-use Rattle.entries.specs.Rows.{Row, maxEntries, numberAt}
+use Rattle.entries.specs.Rows.{Row, numberAt}
+use Rattle.entries.specs.Arrays.{maxEntries}
 use Rattle.level.specs.Level.{PriceLevel}
 use Rattle.level.specs.Words.{shown}
 use Rattle.level.specs.Side.{Edit, sets, removes}

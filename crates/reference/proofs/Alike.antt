@@ -11,9 +11,11 @@ use Rattle.decimal.specs.Buffer.{overlaid}
 use Rattle.answer.specs.Answers.{answerNumber, isTaken}
 use Rattle.answer.specs.declared.Answer.{Answer}
 use Rattle.answer.specs.declared.Answer.the-variants.{Taken, Shut, NoSnapshot, NoRoom}
-use Rattle.reference.specs.Reference.{Status, shut, waiting, live, isShut, isLive, Last, Reference, stands, sideOf, snapshotText, Question, howMany, levelAt, whichNumber, howManyUpdates, write, amount, Response, respond, refusal, replied, question, does, Reply}
+use Rattle.reference.specs.Reference.{Status, shut, waiting, live, isShut, isLive, Last, Reference, stands, sideOf, textIn, snapshotText, Question, howMany, levelAt, whichNumber, howManyUpdates, write, amount, Response, respond, refusal, replied, question, does, Reply}
+use Rattle.settings.specs.Settings.{Config}
+use Rattle.settings.specs.declared.Dialect.{Dialect}
+use Rattle.settings.specs.declared.Dialect.the-variants.{K, M, Unknown}
 use Rattle.level.specs.declared.Side.the-variants.{Bids, Asks}
-use Rattle.reference.specs.Claims.{ofLevels}
 use Rattle.reference.specs.declared.Scope.{Scope}
 use Rattle.reference.specs.declared.Scope.the-variants.{Current, LastGood}
 
@@ -41,7 +43,7 @@ module _ (p : Reference) (lent : List ℕ) (h : does p (question write) lent .an
   unfolding does replied respond overlaid
   wrote-text = rw taken-yes (take-at (snapshotText p) (drop (0 + length (snapshotText p)) lent) (length (snapshotText p)) refl)
 
--- ---- questions on levels and number
+-- ---- questions but that for the count of updates
 
 pub refusal-live : (p : Reference) (r : Response) → isLive (p .status) ≡ true → p .had-snapshot ≡ true → refusal p r ≡ r .lacks
 unfolding refusal isShut isLive stands
@@ -53,18 +55,27 @@ refusal-live p r h k = go (p .status) refl h (r .scope) refl
     go live e g Current f = rw (e, f)
     go live e g LastGood f = rw (e, f, k)
 
-module _ (p q : Reference) (sides : p .last .sides ≡ q .last .sides) (number : p .last .number ≡ q .last .number) where
-  respond-alike : (room : ℕ) (x : Question) → ofLevels x ≡ true → respond p room x ≡ respond q room x
-  unfolding respond sideOf ofLevels
+module _ (p q : Reference) (config : p .config ≡ q .config) (sides : p .last .sides ≡ q .last .sides) (number : p .last .number ≡ q .last .number) where
+  text-alike : snapshotText p ≡ snapshotText q
+  unfolding snapshotText textIn
+  text-alike = ap (λ (t : Config). textIn (t .dialect) p) config ∙ at (q .config .dialect)
+    where
+      at : (d : Dialect) → textIn d p ≡ textIn d q
+      at K = rw (config, sides)
+      at M = rw (config, sides, number)
+      at Unknown = refl
+
+  respond-alike : (room : ℕ) (x : Question) → ((scope : Scope) → x ≡ howManyUpdates scope → ⊥) → respond p room x ≡ respond q room x
+  unfolding respond sideOf
   respond-alike room (howMany scope) h = rw sides
   respond-alike room (levelAt scope Bids i) h = rw sides
   respond-alike room (levelAt scope Asks i) h = rw sides
   respond-alike room (whichNumber scope) h = rw number
-  respond-alike room (howManyUpdates scope) h = absurd (false≢true h)
-  respond-alike room write h = absurd (false≢true h)
+  respond-alike room (howManyUpdates scope) h = absurd (h scope refl)
+  respond-alike room write h = rw text-alike
 
   module _ (lp : isLive (p .status) ≡ true) (lq : isLive (q .status) ≡ true) (hp : p .had-snapshot ≡ true) (hq : q .had-snapshot ≡ true)
-      (x : Question) (h : ofLevels x ≡ true) (u : List ℕ) where
+      (x : Question) (h : (scope : Scope) → x ≡ howManyUpdates scope → ⊥) (u : List ℕ) where
     pub answer-alike : does p (question x) u .answer ≡ does q (question x) u .answer
     unfolding does replied
     answer-alike =

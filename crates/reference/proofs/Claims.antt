@@ -20,9 +20,9 @@ use Rattle.layout.specs.declared.Kind.the-variants.{Snapshot, Update}
 use Rattle.reference.proofs.Snapshot.{of-snapshot, of-update}
 use Rattle.reference.proofs.Shutting as shutting·
 use Rattle.reference.proofs.Back.{reached-back}
-use Rattle.reference.specs.Claims.{Round-trip, statusAfter, Refused, Demand-1, Settings-decide, Ready, is-live, restarts, Acceptable, Demand-2, All-compared, call, From-snapshot, takenIn, takenOf, anySnapshot, sinceSnapshot, rebuilt, Latest-snapshot, K-number, prices, No-price}
+use Rattle.reference.specs.Claims.{Round-trip, Refused, Demand-1, Settings-decide, Ready, is-live, restarts, Acceptable, Demand-2, All-compared, call, From-snapshot, takenIn, takenOf, anySnapshot, sinceSnapshot, rebuilt, Latest-snapshot, K-number, prices, No-price}
 use Rattle.reference.proofs.Carried.{said-carries}
-use Rattle.reference.proofs.Outcome.{Outcome, is-refused, is-accepted, outcome, acceptable-taken, ready-open, or-none}
+use Rattle.reference.proofs.Outcome.{statusAfter, Outcome, is-refused, is-accepted, outcome, acceptable-taken, ready-open, or-none}
 use Rattle.reference.proofs.Questions.{question-one, zeros-again, no-answer, no-snapshot}
 use Rattle.reference.proofs.Runs.{Steps, stays, moves, steps, Reached, opened-waits, reached, run-append, taken-fresh, acceptable-fresh, final-rebuilt, rebuilt-ever, since-begins, since-rebuilt, begins-live}
 
@@ -48,7 +48,7 @@ of-message p s buffer = go (outcome p s)
 
 all-but-status : (p : Reference) (lent : List ℕ) (r : Reply) → r .after ≡ withStatus (statusAfter (r .answer) (p .status)) p → r .value ≡ zeros (r .value)
     → r .buffer ≡ lent → Refused p lent r
-unfolding withStatus
+unfolding withStatus statusAfter
 all-but-status p lent r e v b = record { config = rw e; status = rw e; last = rw e; had-snapshot = rw e; value = v; buffer = b }
 
 refused : (p : Reference) (ask : Ask) (buffer : List ℕ) → isTaken (does p ask buffer .answer) ≡ false → Refused p buffer (does p ask buffer)

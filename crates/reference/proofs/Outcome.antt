@@ -24,7 +24,7 @@ use Rattle.answer.specs.declared.Answer.the-variants.{Taken, Shut, TooLong, Not
 use Rattle.reference.specs.Reference.{Status, shut, waiting, live, isShut, isLive, Reference, rules, checksumOf, pricesOf, namesPriceTwice, lacksSnapshot, isOld, hasTooMany, differs, hasWrongChecksum, sidesAfter, verdict, taken, withStatus, refusedBy, answered, received, receive}
 use Rattle.reference.proofs.Snapshot.{of-snapshot, of-update, a-snapshot, an-update}
 use Rattle.reference.proofs.Checks.{Refusals, Read, Either, checked-either}
-use Rattle.reference.specs.Claims.{statusAfter, Ready, is-live, restarts, Agrees, carries-none, the-same, Acceptable}
+use Rattle.reference.specs.Claims.{Ready, is-live, restarts, Agrees, carries-none, the-same, Acceptable}
 
 -- ---- what a message is refused with: checks 2 to 8
 
@@ -187,6 +187,9 @@ module _ (p : Reference) (m : Message) where
       rw (acceptable-once a, ready-has (a .ready), acceptable-newer a, acceptable-few a, h)
 
 -- ---- a message is refused or taken
+
+unfoldable pub statusAfter : Answer → Status → Status
+statusAfter a status = cond (leavesStatus a) status waiting
 
 pub data Outcome (p : Reference) (s : List ℕ) : Type 0 where
   is-refused : isTaken (receive p s .answer) ≡ false → oneOf toMessages (answerNumber (receive p s .answer)) ≡ true → isShut (statusAfter (receive p s .answer) (p .status)) ≡ isShut (p .status)

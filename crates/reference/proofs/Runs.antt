@@ -12,12 +12,12 @@ use Rattle.message.specs.Meaning.{Message, Decoded, refuses, decodes, decode}
 use Rattle.answer.specs.declared.Answer.{Answer}
 use Rattle.answer.specs.declared.Answer.the-variants.{Taken}
 use Rattle.reference.specs.Reference.{Status, shut, waiting, live, isShut, isLive, Reference, opened, rules, sidesAfter, taken, After, receive, Question, Reply, Ask, message, question, does, replied, Call, repliesTo, final, withStatus}
-use Rattle.reference.specs.Claims.{statusAfter, Ready, is-live, restarts, Acceptable, ifAnswered, takenIn, takenOf, anySnapshot, sinceSnapshot, Begins, begins, rebuilt}
+use Rattle.reference.specs.Claims.{Ready, is-live, restarts, Acceptable, ifAnswered, takenIn, takenOf, anySnapshot, sinceSnapshot, Begins, begins, rebuilt}
 use Rattle.layout.specs.Layout.{isSnapshot}
 use Rattle.layout.specs.declared.Kind.the-variants.{Snapshot}
 use Rattle.reference.proofs.Snapshot.{of-snapshot, of-update, a-snapshot}
 use Rattle.reference.proofs.Carried.{said-carries}
-use Rattle.reference.proofs.Outcome.{Outcome, is-refused, is-accepted, outcome, ready-open}
+use Rattle.reference.proofs.Outcome.{statusAfter, Outcome, is-refused, is-accepted, outcome, ready-open}
 
 -- ---- a step: the book is as it was but for its status, or a message was taken
 

@@ -16,20 +16,17 @@ use Rattle.answer.specs.Answers.{answerNumber as numberOf, oneOf, toMessages, t
 use Rattle.message.specs.Meaning.{Message, Decoded, refuses, decodes, decode}
 use Rattle.answer.specs.declared.Answer.{Answer}
 use Rattle.answer.specs.declared.Answer.the-variants.{Taken, Shut, NoSnapshot}
-use Rattle.reference.specs.Reference.{Status, waiting, live, withStatus, Reference, rules, isShut, isLive, opened, sidesAfter, pricesOf, checksumOf, taken, receive, Question, howMany, levelAt, whichNumber, howManyUpdates, write, zeros, respond, Reply, Ask, message, question, does, Call, repliesTo, final, snapshotText}
+use Rattle.reference.specs.Reference.{waiting, live, withStatus, Reference, rules, isShut, isLive, opened, sidesAfter, pricesOf, checksumOf, taken, receive, Question, write, zeros, respond, Reply, Ask, message, question, does, Call, repliesTo, final, snapshotText}
 use Rattle.reference.specs.declared.Scope.{Scope}
 use Rattle.reference.specs.declared.Scope.the-variants.{Current, LastGood}
 
 -- ---- demand 1: every call on every book has an answer of the table, and a refusal touches nothing but the status, as the table's last column says.
 -- Rules out a refusal that loses levels, a half-applied message, a value beside a refusal, and a question that changes something.
 
-unfoldable pub statusAfter : Answer → Status → Status
-statusAfter a status = cond (leavesStatus a) status waiting
-
 -- "Waiting" keeps levels, number and count as last good.
 pub record Refused (p : Reference) (lent : List ℕ) (r : Reply) : Type 0 where
   pub config : r .after .config ≡ p .config
-  pub status : r .after .status ≡ statusAfter (r .answer) (p .status)
+  pub status : r .after .status ≡ cond (leavesStatus (r .answer)) (p .status) waiting
   pub last : r .after .last ≡ p .last
   pub had-snapshot : r .after .had-snapshot ≡ p .had-snapshot
   -- all zeros
@@ -195,11 +192,3 @@ pub record ReadsBack (t : Config) (p : Reference) : Type 0 where
 
 abbrev pub Round-trip : Type 0
 Round-trip = (t : Config) (cs : List Call) → isLive (final (opened t) cs .status) ≡ true → ReadsBack t (final (opened t) cs)
-
--- A question on the levels or on the number.
-unfoldable pub ofLevels : Question → Bool
-ofLevels (howMany scope) = true
-ofLevels (levelAt scope side i) = true
-ofLevels (whichNumber scope) = true
-ofLevels (howManyUpdates scope) = false
-ofLevels write = false

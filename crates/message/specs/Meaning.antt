@@ -12,7 +12,7 @@ use Rattle.settings.specs.Settings.{Config, good}
 use Rattle.settings.specs.Rules.{rulesOf}
 use Rattle.entries.specs.Places.{top}
 use Rattle.entries.specs.Rows.{Row, badTexts, firstOf, numberAt}
-use Rattle.layout.specs.Layout.{isSnapshot, Printed, Listed, Layout, Envelope}
+use Rattle.layout.specs.Layout.{isSnapshot, Printed, Layout, Envelope}
 use Rattle.layout.specs.declared.Kind.{Kind}
 use Rattle.message_k.specs.LayoutK.{envelopeK}
 use Rattle.message_m.specs.LayoutM.{envelopeM}
@@ -96,11 +96,8 @@ pub data Decoded : Type 0 where
 unfoldable pub levelChangeAt : List ℕ → Row → LevelChange
 levelChangeAt s r = record { price = numberAt s (r .price); size = numberAt s (r .size) }
 
-abbrev pub levelChangesOf : List ℕ → Listed → List LevelChange
-levelChangesOf s l = map (levelChangeAt s) (l .rows)
-
 unfoldable pub messageOf : List ℕ → Layout → Message
-messageOf s l = record { kind = l .kind; bids = levelChangesOf s (l .bids); asks = levelChangesOf s (l .asks); checksum = l .checksum; number = l .number }
+messageOf s l = record { kind = l .kind; bids = map (levelChangeAt s) (l .bids .rows); asks = map (levelChangeAt s) (l .asks .rows); checksum = l .checksum; number = l .number }
 
 unfoldable pub decodedOf : List ℕ → Checked → Decoded
 decodedOf s (fails a) = refuses a

@@ -146,8 +146,10 @@ pub fn entry_at(s: &[u8], at: usize, depth: usize, form: Form) -> EntryPlace
 {
     let front = two_strings(s, at);
     if front.well_formed {
-        let end = entry_end(s, front.end, depth, form);
-        return ended_at(s, at, depth, front, end);
+        return match form {
+            Form::Triple => ended_at(s, at, depth, front, triple_end(s, front.end, depth - 1)),
+            Form::Pair => ended_at(s, at, depth, front, array_close_end(s, front.end)),
+        };
     }
     passed_over(s, at, depth)
 }
@@ -361,7 +363,7 @@ fn two_strings(s: &[u8], at: usize) -> EntryPlace
 }
 
 // Past the entry whose second string ends at `at`, or 0 where what follows does not fit. It is inlined into the loops that read entries;
-// `triple_end` is not, and a pair does not pay for it.
+// `triple_end`, which `entry_at` calls too, is not, and a pair does not pay for it.
 fn entry_end(s: &[u8], at: usize, depth: usize, form: Form) -> usize
     requires { ⌜ 1 ≤ depth ⌝ }
     ensures { λ r. ⌜ EntryEnd form depth (now (s .entry)) at r ⌝ }

@@ -6,4 +6,5 @@ pub mod Fold
 pub mod Ends
 pub mod Names
 pub mod Claims
+pub mod Which
 pub mod Shift

@@ -3,19 +3,18 @@
 use mathlib.Core.Path.{_≡_, refl, sym, ap, _∙_}
 use mathlib.Core.List.{List, [], _∷_, _++_}
 use mathlib.Core.Bool.{Bool, true, false, _||_, true≢false}
-use Prim.Native.Nat.{ℕ, suc, _+_, _-_, _/_, _%_, _≤_, _<_}
+use Prim.Native.Nat.{ℕ, suc, _+_, _-_, _≤_, _<_}
 use native.Mathlib.Omega.{arith}
-use lib.ListN.{length, getD, take, drop, drop-of-length-le}
-use lib.Seq.{take-nil}
+use lib.ListN.{length, take, drop, drop-of-length-le, length-append, length-drop}
+use lib.Seq.{take-nil, length-take-le}
 use lib.Dec.{eqb}
 use borrow.Author.Tests.{eq-eqb, ne-eqb, eqb-true}
 use Rattle.text.specs.Text.{byteAt}
-use Rattle.json_tokens.specs.Tokens.{End, At, Broken, andThen, startsWith, literal}
+use Rattle.json_tokens.specs.Tokens.{End, At, Broken, andThen, literal}
 use Rattle.json_tokens.proofs.Laws.{here, past, by-place, then-at, then-broken, word-nil, word-cons, word-other, word-append}
-use Rattle.json_tokens.proofs.Bounds.{word-is}
+use Rattle.json_tokens.proofs.Bounds.{bounds, word-from, word-is}
 use Rattle.json.specs.Json.{Span}
 use Rattle.json.specs.Names.{part, means, holds}
-use Rattle.json.specs.Ends.{spelled}
 
 -- ---- a backslash, one step at a time: what is left of the part at i
 module _ (s : List ℕ) (to i : ℕ) where
@@ -59,6 +58,21 @@ module _ (s : List ℕ) (from to : ℕ) (name : List ℕ) where
   unfolding means
   means-at e h = rw (h, means)
 
+  -- it has the bytes of the name and two quotes, in the text
+  pub means-long : (to ≡ from + (length name + 2) → to ≤ length s → ⊥) → means s (record { from = from; to = to }) name ≡ false
+  unfolding means
+  means-long n = go (literal (34 ∷ (name ++ (34 ∷ []))) s from) refl
+    where
+      go : (x : End) → literal (34 ∷ (name ++ (34 ∷ []))) s from ≡ x → elim x [ At e ↦ eqb e to | Broken ↦ false ] ≡ false
+      go (At e) p =
+          let b = bounds e (word-from s (34 ∷ (name ++ (34 ∷ []))) from) p in
+          let l = ap length (word-is (34 ∷ (name ++ (34 ∷ []))) s from e p) in
+          let k = length-take-le (e - from) (drop from s) (omega arith) in
+          let m = length-append name (34 ∷ []) in
+          let d = length-drop from s in
+          ne-eqb e to (λ z. n (omega arith) (omega arith))
+      go Broken p = refl
+
   pub means-no-quote : (byteAt s from ≡ 34 → ⊥) → means s (record { from = from; to = to }) name ≡ false
   means-no-quote n = means-broken (word-other s from 34 (name ++ (34 ∷ [])) n)
 
@@ -72,31 +86,6 @@ module _ (s : List ℕ) (from to : ℕ) (name : List ℕ) where
 
       pub means-yes : byteAt s e ≡ 34 → e + 1 ≡ to → means s (record { from = from; to = to }) name ≡ true
       means-yes r t = means-at (e + 1) (at-end e q h r) ∙ eq-eqb (e + 1) to t
-
-      pub means-elsewhere : byteAt s e ≡ 34 → (e + 1 ≡ to → ⊥) → means s (record { from = from; to = to }) name ≡ false
-      means-elsewhere r t = means-at (e + 1) (at-end e q h r) ∙ ne-eqb (e + 1) to t
-
--- ---- a short name, one byte at a time
-module _ (s : List ℕ) (n w i : ℕ) where
-  pub spelled-ends : n ≡ 0 → literal (spelled n w) s i ≡ At i
-  unfolding spelled literal startsWith
-  spelled-ends z = rw z
-
-  module _ (h : 0 < n) where
-    more-left : n ≡ suc (n - 1)
-    more-left = omega arith
-
-    pub spelled-past : length s ≤ i → literal (spelled n w) s i ≡ Broken
-    unfolding spelled literal startsWith
-    spelled-past g = rw (more-left, drop-of-length-le s g)
-
-    pub spelled-on : i < length s → getD s i 0 ≡ w % 256 → literal (spelled n w) s i ≡ literal (spelled (n - 1) (w / 256)) s (i + 1)
-    unfolding spelled literal startsWith byteAt
-    spelled-on g e = ap (λ k. literal (spelled k w) s i) more-left ∙ rw (here s i g, eq-eqb _ _ e, startsWith)
-
-    pub spelled-off : i < length s → (getD s i 0 ≡ w % 256 → ⊥) → literal (spelled n w) s i ≡ Broken
-    unfolding spelled literal startsWith byteAt
-    spelled-off g e = ap (λ k. literal (spelled k w) s i) more-left ∙ rw (here s i g, ne-eqb _ _ e, startsWith)
 
 -- ---- a string that means a name is the name between quotes
 pub means-part : (s : List ℕ) (a : Span) (name : List ℕ) → means s a name ≡ true → part s a ≡ 34 ∷ (name ++ (34 ∷ []))

@@ -28,15 +28,16 @@ use json_tokens::object_close_end;
 use json_tokens::scalar_end;
 use json_tokens::skip_blanks;
 use json_tokens::string_end;
-use json_tokens::word_end;
 use text::byte_at;
 ghost use mathlib.Core.Path.{_≡_};
-ghost use Rattle.json_tokens.specs.Tokens.{literal};
+ghost use mathlib.Core.Bool.{cond};
+ghost use Prim.Native.Nat.{_+_, _≤_};
+ghost use lib.ListN.{length};
+ghost use Rattle.json_tokens.specs.Tokens.{At, Broken, literal};
 ghost use Rattle.json_tokens.specs.Ends.{endOf};
 ghost use Rattle.json.specs.Json.{itemsEnd, elements, members, value};
 ghost use Rattle.json.specs.Ends.{memberEnd};
 ghost use Rattle.json.specs.Names.{means, hasBackslash};
-ghost use Rattle.json.specs.Ends.{spelled};
 
 // How deep arrays and objects may nest in a text, the outermost counting as one.
 pub const MAX_DEPTH: usize = 16;
@@ -120,62 +121,48 @@ pub fn object_end(s: &[u8], at: usize, depth: usize) -> usize
     }
 }
 
-// Whether the string from `from` to `to`, quotes included, means the name.
+// Whether the string from `from` to `to`, quotes included, means the name. Most of those that do not are told by their length.
 pub fn is_name(s: &[u8], from: usize, to: usize, name: &[u8]) -> bool
     ensures { λ r. ⌜ r ≡ means (now (s .entry)) (record { from = from; to = to }) (now (name .entry)) ⌝ }
 {
-    if byte_at(s, from) == QUOTE {
-        let e = word_end(s, from + 1, name);
-        if e == 0 {
-            false
-        } else if byte_at(s, e) == QUOTE {
-            if e + 1 == to { true } else { false }
-        } else {
-            false
-        }
-    } else {
-        false
+    if to < from {
+        return false;
     }
+    let length = to - from;
+    if length < 2 {
+        return false;
+    }
+    if length - 2 != name.len() {
+        return false;
+    }
+    if s.len() < to {
+        return false;
+    }
+    if s[from] != QUOTE {
+        return false;
+    }
+    if is_at(s, from + 1, name) {
+        if s[to - 1] == QUOTE {
+            return true;
+        }
+        return false;
+    }
+    false
 }
 
-// Past the bytes of a short name.
-fn short_name_end(s: &[u8], at: usize, name: u64, count: usize) -> usize
-    ensures { λ r. ⌜ r ≡ endOf (literal (spelled count name) (now (s .entry)) at) ⌝ }
+// Whether the bytes of a name stand at a position, from which on the text is long enough for them.
+fn is_at(s: &[u8], at: usize, name: &[u8]) -> bool
+    requires { ⌜ at + length (now name) ≤ length (now s) ⌝ }
+    ensures { λ r. ⌜ literal (now (name .entry)) (now (s .entry)) at ≡ cond r (At (at + length (now (name .entry)))) Broken ⌝ }
 {
-    let mut i = at;
-    let mut rest = name;
-    let mut left = count;
-    while 0 < left {
-        if s.len() <= i {
-            return 0;
+    let mut k = 0;
+    while k < name.len() {
+        if s[at + k] != name[k] {
+            return false;
         }
-        if s[i] != (rest % 256) as u8 {
-            return 0;
-        }
-        i += 1;
-        rest = rest / 256;
-        left -= 1;
+        k += 1;
     }
-    i
-}
-
-// The same as `is_name` for a name of at most eight bytes, given as one number, the first byte the lowest: a byte string is
-// laid on the stack at each use, and a number is not. `as` is 97 + 115 * 256, with a length of 2.
-pub fn is_short_name(s: &[u8], from: usize, to: usize, name: u64, count: usize) -> bool
-    ensures { λ r. ⌜ r ≡ means (now (s .entry)) (record { from = from; to = to }) (spelled count name) ⌝ }
-{
-    if byte_at(s, from) == QUOTE {
-        let e = short_name_end(s, from + 1, name, count);
-        if e == 0 {
-            false
-        } else if byte_at(s, e) == QUOTE {
-            if e + 1 == to { true } else { false }
-        } else {
-            false
-        }
-    } else {
-        false
-    }
+    true
 }
 
 // Whether a backslash stands from `from` to `to`.

@@ -174,13 +174,10 @@ fn member(s: &[u8], i: usize) -> usize {
     e
 }
 
-// A name, with a `=` from each function that says it is `as` and a `\` where it has a backslash.
+// A name, with a `=` where it is `as` and a `\` where it has a backslash.
 fn name(s: &[u8], from: usize, to: usize) {
     write(b"  ");
     if json::is_name(s, from, to, b"as") {
-        write(b"=");
-    }
-    if json::is_short_name(s, from, to, 97 + 115 * 256, 2) {
         write(b"=");
     }
     if json::has_backslash(s, from, to) {

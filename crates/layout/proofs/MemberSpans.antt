@@ -1,15 +1,14 @@
 -- Marks and slots hold what the values of a name are, as far as it is asked.
 -- Assumes nothing.
 use mathlib.Core.Path.{_≡_, refl, sym, ap, _∙_}
-use mathlib.Core.List.{List, [], _∷_, _++_}
+use mathlib.Core.List.{List, [], _∷_}
 use mathlib.Core.Bool.{Bool, true, false, cond}
 use Prim.Native.Nat.{ℕ, zero, suc, _+_, _≤_}
 use native.Mathlib.Omega.{arith}
 use lib.ListN.{length}
 use Rattle.decimal.specs.Digits.{reads, refused}
 use Rattle.json.specs.Json.{Span, Pair}
-use Rattle.json.specs.Names.{part, means}
-use Rattle.json.proofs.Names.{means-part, snoc-is}
+use Rattle.json.specs.Names.{means}
 use Rattle.entries.specs.Places.{valuesOf, only}
 use Rattle.json.specs.Fold.{foldFrom}
 use Rattle.layout.specs.MemberSpans.{few, fewMore, noMemberSpan, withMemberSpan, memberSpanOf, noEntryMember, withEntryArray, entryMemberOf}
@@ -128,10 +127,3 @@ module _ {S A : Type 0} (s name : List ℕ) (step : S → Pair → S) (get : S �
           → get (foldFrom step (step st m) ms) ≡ foldFrom add (get st) (cond b (m .value ∷ valuesOf s name ms) (valuesOf s name ms))
       at true h k = k ∙ ap (λ x. foldFrom add x (valuesOf s name ms)) (hit st m h)
       at false h k = k ∙ ap (λ x. foldFrom add x (valuesOf s name ms)) (miss st m h)
-
-tail-is : {c : ℕ} {m n : List ℕ} → _≡_ {A = List ℕ} (c ∷ m) (c ∷ n) → m ≡ n
-tail-is h = cc
-
--- a string means one name at the most
-pub one-name : (s : List ℕ) (a : Span) (m n : List ℕ) → means s a m ≡ true → means s a n ≡ true → m ≡ n
-one-name s a m n h g = snoc-is 34 m n (tail-is (sym (means-part s a m h) ∙ means-part s a n g))

@@ -3,14 +3,15 @@
 use mathlib.Core.Path.{_≡_, refl, sym, ap, _∙_}
 use mathlib.Core.List.{List, [], _∷_}
 use mathlib.Core.Bool.{Bool, true, false, cond}
-use Prim.Native.Nat.{ℕ, _+_, _*_}
-use lib.Dec.{eqb}
-use borrow.Author.Tests.{eqb-false}
+use Prim.Native.Nat.{ℕ, _<_}
+use lib.ListN.{getD}
+use native.Mathlib.Omega.{arith}
 use Rattle.text.specs.Text.{ascii}
 use Rattle.json_tokens.specs.Tokens.{At}
 use Rattle.json_tokens.specs.Ends.{endOf}
 use Rattle.json.specs.Json.{Span, Pair, value}
 use Rattle.json.specs.Names.{means}
+use Rattle.json.proofs.Which.{meant, onlyAt, one-meant}
 use Rattle.entries.specs.declared.Form.the-variants.{Triple}
 use Rattle.entries.specs.Summary.{summaryAt}
 use Rattle.entries.specs.declared.Entries.{Entries}
@@ -19,14 +20,12 @@ use Rattle.layout.specs.Scan.{entryArrayFrom}
 use Rattle.layout.specs.MemberSpans.{fewMore, withEntryArray}
 use Rattle.layout.specs.declared.EntryMember.{EntryMember}
 use Rattle.layout.proofs.Laws.{listing-of}
-use Rattle.layout.proofs.MemberSpans.{one-name}
 use Rattle.message_k.specs.MembersK.{entryArrayK, entryMemberWith, moreSummed, sumWith, withMember, withSum, SumRead, MemberRead, closedAt}
 use Rattle.message_k.specs.declared.Members.{Members}
 
--- names differ if these numbers do
-abbrev mix : List ℕ → ℕ
-mix [] = 0
-mix (c ∷ l) = c + 256 * mix l
+-- the names of members that are told, which differ
+abbrev names : List (List ℕ)
+names = ascii "as" ∷ ascii "bs" ∷ ascii "a" ∷ ascii "b" ∷ ascii "c" ∷ []
 
 -- ---- what a slot has, once the entries at `from` are read
 module _ (s : List ℕ) (from : ℕ) (g : Entries) (h : g ≡ summaryAt Triple 14 s from) where
@@ -52,8 +51,7 @@ module _ (s : List ℕ) (t : Members) (name : Span) (from : ℕ) where
   pairTo e = record { name = name; value = record { from = from; to = e } }
 
   -- by which of our names it has
-  by-name : (e : ℕ) (p q x y z : Bool)
-      → means s name (ascii "as") ≡ p → means s name (ascii "bs") ≡ q → means s name (ascii "a") ≡ x → means s name (ascii "b") ≡ y → means s name (ascii "c") ≡ z
+  by-name : (e : ℕ) (p q x y z : Bool) → meant s name names ≡ p ∷ q ∷ x ∷ y ∷ z ∷ []
       → record {
         end = e;
         «is_object» = true;
@@ -65,15 +63,17 @@ module _ (s : List ℕ) (t : Members) (name : Span) (from : ℕ) where
       }
       ≡ withMember s t (pairTo e)
   unfolding withMember entryMemberWith sumWith
-  by-name e p q x y z hp hq hx hy hz = sym (rw (hp, hq, hx, hy, hz))
+  by-name e p q x y z h =
+      let hp : means s name (ascii "as") ≡ p = cc in
+      let hq : means s name (ascii "bs") ≡ q = cc in
+      let hx : means s name (ascii "a") ≡ x = cc in
+      let hy : means s name (ascii "b") ≡ y = cc in
+      let hz : means s name (ascii "c") ≡ z = cc in
+      sym (rw (hp, hq, hx, hy, hz))
 
-  -- a name is none of the others
-  other : (n m : List ℕ) → eqb (mix m) (mix n) ≡ false → means s name n ≡ true → means s name m ≡ false
-  other n m d h = at (means s name m) refl
-    where
-      at : (b : Bool) → means s name m ≡ b → b ≡ false
-      at true g = absurd (eqb-false (mix m) (mix n) d (ap mix (one-name s name m n g h)))
-      at false g = refl
+  -- the name at place i and no other
+  alone : (i : ℕ) → i < 5 → means s name (getD names i []) ≡ true → meant s name names ≡ onlyAt i names
+  alone i l h = one-meant s name names refl i l h
 
   -- ---- members that hold entries: g is what is told of the entries, and w the slot with them
   module _ (g : Entries) (h : g ≡ summaryAt Triple 14 s from) (w : EntryMember) where
@@ -97,23 +97,19 @@ module _ (s : List ℕ) (t : Members) (name : Span) (from : ℕ) where
 
     pub read-as : means s name (ascii "as") ≡ true → Put (t .«snapshot_asks») → MemberRead s t name from with-as
     read-as m q = reads-so with-as refl (λ e v z. rw (z, slot-is s from g h (t .«snapshot_asks») w q e v)
-        (by-name e true false false false false
-        m (other (ascii "as") (ascii "bs") refl m) (other (ascii "as") (ascii "a") refl m) (other (ascii "as") (ascii "b") refl m) (other (ascii "as") (ascii "c") refl m)))
+        (by-name e true false false false false (alone 0 (omega arith) m)))
 
     pub read-bs : means s name (ascii "bs") ≡ true → Put (t .«snapshot_bids») → MemberRead s t name from with-bs
     read-bs m q = reads-so with-bs refl (λ e v z. rw (z, slot-is s from g h (t .«snapshot_bids») w q e v)
-        (by-name e false true false false false
-        (other (ascii "bs") (ascii "as") refl m) m (other (ascii "bs") (ascii "a") refl m) (other (ascii "bs") (ascii "b") refl m) (other (ascii "bs") (ascii "c") refl m)))
+        (by-name e false true false false false (alone 1 (omega arith) m)))
 
     pub read-a : means s name (ascii "a") ≡ true → Put (t .asks) → MemberRead s t name from with-a
     read-a m q = reads-so with-a refl (λ e v z. rw (z, slot-is s from g h (t .asks) w q e v)
-        (by-name e false false true false false
-        (other (ascii "a") (ascii "as") refl m) (other (ascii "a") (ascii "bs") refl m) m (other (ascii "a") (ascii "b") refl m) (other (ascii "a") (ascii "c") refl m)))
+        (by-name e false false true false false (alone 2 (omega arith) m)))
 
     pub read-b : means s name (ascii "b") ≡ true → Put (t .bids) → MemberRead s t name from with-b
     read-b m q = reads-so with-b refl (λ e v z. rw (z, slot-is s from g h (t .bids) w q e v)
-        (by-name e false false false true false
-        (other (ascii "b") (ascii "as") refl m) (other (ascii "b") (ascii "bs") refl m) (other (ascii "b") (ascii "a") refl m) m (other (ascii "b") (ascii "c") refl m)))
+        (by-name e false false false true false (alone 3 (omega arith) m)))
 
   -- ---- the member `c`
   pub read-c : means s name (ascii "c") ≡ true → (u r : Members) → u ≡ asObject t → SumRead s u from r → MemberRead s t name from r
@@ -122,12 +118,11 @@ module _ (s : List ℕ) (t : Members) (name : Span) (from : ℕ) where
       told : (e : ℕ) → value 14 s from ≡ At e → r ≡ withMember s t (pairTo e)
       told e v =
           q .collected e v ∙ ap (λ x. withSum e (moreSummed s (x .checksum) (record { from = from; to = e })) x) k
-          ∙ by-name e false false false false true
-          (other (ascii "c") (ascii "as") refl m) (other (ascii "c") (ascii "bs") refl m) (other (ascii "c") (ascii "a") refl m) (other (ascii "c") (ascii "b") refl m) m
+          ∙ by-name e false false false false true (alone 4 (omega arith) m)
 
   -- ---- any other member
   module _ (end : ℕ) (h : end ≡ endOf (value 14 s from)) where
     pub read-other : means s name (ascii "c") ≡ false → means s name (ascii "a") ≡ false → means s name (ascii "b") ≡ false
         → means s name (ascii "as") ≡ false → means s name (ascii "bs") ≡ false → MemberRead s t name from (closedAt end t)
     unfolding endOf
-    read-other z x y p q = record { ends = h; collected = λ e v. rw (h ∙ ap endOf v) (by-name e false false false false false p q x y z) }
+    read-other z x y p q = record { ends = h; collected = λ e v. rw (h ∙ ap endOf v) (by-name e false false false false false (rw (p, q, x, y, z))) }

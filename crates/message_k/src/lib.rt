@@ -15,7 +15,6 @@ use entries::entries_at;
 use json::MAX_DEPTH;
 use json::has_backslash;
 use json::is_name;
-use json::is_short_name;
 use json::value_end;
 use json_tokens::OPEN_ARRAY;
 use json_tokens::OPEN_OBJECT;
@@ -53,7 +52,6 @@ ghost use Rattle.decimal.specs.Digits.{written};
 ghost use Rattle.json_tokens.specs.Tokens.{At};
 ghost use Rattle.json.specs.Json.{elements, value};
 ghost use Rattle.json.specs.Names.{means};
-ghost use Rattle.json.specs.Ends.{spelled};
 ghost use Rattle.entries.specs.Places.{wholeAt};
 ghost use Rattle.layout.specs.Depths.{itemDepth, sideDepth};
 ghost use Rattle.layout.specs.MemberSpans.{fewMore};
@@ -61,27 +59,6 @@ ghost use Rattle.layout.specs.Scan.{entryArrayFrom, scanAt};
 ghost use Rattle.message_k.specs.LayoutK.{envelopeK};
 ghost use Rattle.message_k.specs.MembersK.{isRead, moreSummed, MemberRead, SumRead, noMembers, closedAt, membersAt, hasMore, snapshotBy, updateBy, sideOf, outlineBy};
 ghost use Rattle.message_k.specs.PartsK.{upToSix, noOuter, withOuter, noParts, partsIn, escapedAt, framedAs, oneObject, twoObjects};
-
-// Names as numbers, the first byte the lowest, as `json::is_short_name` takes them. `as` and `bs` hold a snapshot's asks and bids, `a` and
-// `b` an update's, `c` a checksum.
-const AS_NAME: u64 = 0x7361;
-
-const BS_NAME: u64 = 0x7362;
-
-const A_NAME: u64 = 0x61;
-
-const B_NAME: u64 = 0x62;
-
-const C_NAME: u64 = 0x63;
-
-// `book-`, and what the first and the second byte after it count; `book-100`.
-const BOOK_NAME: u64 = 0x2d6b6f6f62;
-
-const FIRST_DIGIT: u64 = 0x10000000000;
-
-const SECOND_DIGIT: u64 = 0x1000000000000;
-
-const BOOK_100_NAME: u64 = 0x3030312d6b6f6f62;
 
 // The member `c`.
 struct Sum {
@@ -291,33 +268,34 @@ fn k_object(s: &[u8], before: Members, at: usize) -> Members
 }
 
 // What was told of the members, and the one whose name lies from `name_from` to `name_to` and whose value begins at `from`.
+// `as` and `bs` hold a snapshot's asks and bids, `a` and `b` an update's, `c` a checksum.
 fn k_member(s: &[u8], members: Members, name_from: usize, name_to: usize, from: usize) -> Members
     ensures { λ r. ⌜ MemberRead (now (s .entry)) members (record { from = «name_from»; to = «name_to» }) from r ⌝ }
 {
     let mut next = members;
     next.is_object = true;
-    if is_short_name(s, name_from, name_to, C_NAME, 1) {
+    if is_name(s, name_from, name_to, b"c") {
         return with_checksum(s, next, from);
     }
-    if is_short_name(s, name_from, name_to, A_NAME, 1) {
+    if is_name(s, name_from, name_to, b"a") {
         let entries = entries_at(s, from, SIDE_DEPTH, Form::Triple);
         next.end = entries.end;
         next.asks = with_entries(next.asks, from, entries);
         return next;
     }
-    if is_short_name(s, name_from, name_to, B_NAME, 1) {
+    if is_name(s, name_from, name_to, b"b") {
         let entries = entries_at(s, from, SIDE_DEPTH, Form::Triple);
         next.end = entries.end;
         next.bids = with_entries(next.bids, from, entries);
         return next;
     }
-    if is_short_name(s, name_from, name_to, AS_NAME, 2) {
+    if is_name(s, name_from, name_to, b"as") {
         let entries = entries_at(s, from, SIDE_DEPTH, Form::Triple);
         next.end = entries.end;
         next.snapshot_asks = with_entries(next.snapshot_asks, from, entries);
         return next;
     }
-    if is_short_name(s, name_from, name_to, BS_NAME, 2) {
+    if is_name(s, name_from, name_to, b"bs") {
         let entries = entries_at(s, from, SIDE_DEPTH, Form::Triple);
         next.end = entries.end;
         next.snapshot_bids = with_entries(next.snapshot_bids, from, entries);
@@ -569,17 +547,19 @@ fn is_channel(s: &[u8], from: usize, to: usize, depth: usize) -> bool
     ensures { λ r. ⌜ r ≡ means (now (s .entry)) (record { from = from; to = to }) (ascii "book-" ++ written depth) ⌝ }
 {
     if depth < 100 {
-        is_short_name(s, from, to, two_digits(depth), 7)
+        let name = two_digits(depth);
+        is_name(s, from, to, &name)
     } else {
-        is_short_name(s, from, to, BOOK_100_NAME, 8)
+        is_name(s, from, to, b"book-100")
     }
 }
 
-// `book-` and a depth of two digits, as a number.
-fn two_digits(depth: usize) -> u64
+// `book-` and a depth of two digits.
+fn two_digits(depth: usize) -> [u8; 7]
     requires { ⌜ (10 ≤ depth) × (depth < 100) ⌝ }
-    ensures { λ r. ⌜ spelled 7 r ≡ ascii "book-" ++ written depth ⌝ }
+    ensures { λ r. ⌜ r ≡ ascii "book-" ++ written depth ⌝ }
 {
-    let d = depth as u64;
-    BOOK_NAME + (48 + d / 10) * FIRST_DIGIT + (48 + d % 10) * SECOND_DIGIT
+    let tens = (48 + depth / 10) as u8;
+    let ones = (48 + depth % 10) as u8;
+    [98, 111, 111, 107, 45, tens, ones]
 }

@@ -1,22 +1,21 @@
 -- One member more, as the code finds it.
 -- Assumes nothing.
 use mathlib.Core.Path.{_≡_, refl, sym, ap, _∙_}
-use mathlib.Core.List.{List}
-use mathlib.Core.Bool.{Bool, true, false, true≢false, _&&_, _||_, or-false, cond}
+use mathlib.Core.List.{List, [], _∷_}
+use mathlib.Core.Bool.{Bool, true, false, _&&_, _||_, or-false, cond}
 use Prim.Native.Nat.{ℕ, suc, _+_, _≤_}
 use native.Mathlib.Omega.{arith}
 use borrow.Author.Tests.{eq-eqb, ne-eqb, eqb-true}
 use lib.Dec.{eqb}
-use lib.ListN.{length, getD}
+use lib.ListN.{length}
 use Rattle.text.specs.Text.{ascii, byteAt}
 use Rattle.decimal.specs.Digits.{Reading, reads, refused}
 use Rattle.json_tokens.specs.Tokens.{End, At, Broken}
 use Rattle.json_tokens.specs.Ends.{endOf}
 use Rattle.json.specs.Json.{Span, Pair, Items, items, noItems, itemsEnd, elements, value}
 use Rattle.json.specs.Names.{means, holds, hasBackslash}
-use Rattle.json.specs.Ends.{spelled}
 use Rattle.json.proofs.Laws.{value-array}
-use Rattle.json.proofs.Claims.{backslash-no-name}
+use Rattle.json.proofs.Which.{numbered, meant, one-meant, which-meant, which-plain}
 use Rattle.entries.specs.Places.{andThen, contents, isString, arrayAt, objectAt}
 use Rattle.entries.specs.Rows.{entriesAt}
 use Rattle.entries.specs.declared.Form.the-variants as forms
@@ -29,60 +28,10 @@ use Rattle.layout.specs.declared.EntryArray.{EntryArray}
 use Rattle.layout.specs.declared.MemberSpan.{MemberSpan}
 use Rattle.layout.specs.declared.EntryMember.{EntryMember}
 use Rattle.layout.proofs.Laws.{listing-of}
-use Rattle.layout.proofs.MemberSpans.{one-name}
-use Rattle.message_m.specs.Collected.{onHit, sideM, noData, moreData, dataFrom, dataOf, keyOf, isEscaped, moreBody, moreMembers, Placed}
+use Rattle.message_m.specs.Collected.{onHit, sideM, noData, moreData, dataFrom, dataOf, ourNames, keyOf, isEscaped, moreBody, moreMembers, Placed}
 use Rattle.message_m.specs.declared.Data.{Data}
 use Rattle.message_m.specs.declared.Body.{Body}
 use Rattle.message_m.specs.declared.Members.{Members}
-
--- ---- our names as numbers
-pub channel-name : spelled 7 30510822457436259 ≡ ascii "channel"
-unfolding spelled
-channel-name = refl
-
-pub product-name : spelled 7 32760453145784944 ≡ ascii "product"
-unfolding spelled
-product-name = refl
-
-pub type-name : spelled 4 1701869940 ≡ ascii "type"
-unfolding spelled
-type-name = refl
-
-pub data-name : spelled 4 1635017060 ≡ ascii "data"
-unfolding spelled
-data-name = refl
-
-pub checksum-name : spelled 8 7887337227475576931 ≡ ascii "checksum"
-unfolding spelled
-checksum-name = refl
-
-pub gsn-name : spelled 3 7238503 ≡ ascii "gsn"
-unfolding spelled
-gsn-name = refl
-
-pub bids-name : spelled 4 1935960418 ≡ ascii "bids"
-unfolding spelled
-bids-name = refl
-
-pub asks-name : spelled 4 1936421729 ≡ ascii "asks"
-unfolding spelled
-asks-name = refl
-
-pub book-name : spelled 4 1802465122 ≡ ascii "book"
-unfolding spelled
-book-name = refl
-
-pub snapshot-name : spelled 8 8390039475830484595 ≡ ascii "snapshot"
-unfolding spelled
-snapshot-name = refl
-
-pub update-name : spelled 6 111550524584053 ≡ ascii "update"
-unfolding spelled
-update-name = refl
-
--- what a test of a short name finds
-pub named : (s : List ℕ) (a : Span) {n name : List ℕ} {b c : Bool} → n ≡ name → b ≡ means s a n → b ≡ c → means s a name ≡ c
-named s a e h g = ap (means s a) (sym e) ∙ sym h ∙ g
 
 -- ---- what follows the members of one name
 module _ {A : Type 0} (hit : Bool) (add : A → Span → A) (x : A) (a : Span) where
@@ -93,14 +42,6 @@ module _ {A : Type 0} (hit : Bool) (add : A → Span → A) (x : A) (a : Span) w
   pub hit-no : hit ≡ false → onHit hit add x a ≡ x
   unfolding onHit
   hit-no h = rw (h, onHit)
-
--- ---- a string means one name at the most: two names that differ at a place are not both meant
-pub not-both : (s : List ℕ) (a : Span) (m n : List ℕ) (i : ℕ) → (getD m i 0 ≡ getD n i 0 → ⊥) → means s a m ≡ true → means s a n ≡ false
-not-both s a m n i d h = go (means s a n) refl
-  where
-    go : (b : Bool) → means s a n ≡ b → b ≡ false
-    go true g = absurd (d (ap (λ (l : List ℕ). getD l i 0) (one-name s a m n h g)))
-    go false g = refl
 
 -- ---- which of our names it is
 -- the tests by number are the tests by name
@@ -114,73 +55,9 @@ pub record Keyed (s : List ℕ) (a : Span) (k : ℕ) : Type 0 where
 
 pub keyed : (s : List ℕ) (a : Span) → Keyed s a (keyOf s a)
 unfolding keyOf
-keyed s a = at-channel (means s a (ascii "channel")) refl
-  where
-    no : (m n : List ℕ) (i : ℕ) → (getD m i 0 ≡ getD n i 0 → ⊥) → means s a m ≡ true → false ≡ means s a n
-    no m n i d h = sym (not-both s a m n i d h)
-
-    at-gsn : (b : Bool) → means s a (ascii "gsn") ≡ b → means s a (ascii "channel") ≡ false → means s a (ascii "product") ≡ false → means s a (ascii "type") ≡ false
-        → means s a (ascii "data") ≡ false → means s a (ascii "checksum") ≡ false → Keyed s a (cond b 6 0)
-    at-gsn true q c p t d k = record { channel = sym c; product = sym p; kind = sym t; body = sym d; checksum = sym k; gsn = sym q }
-    at-gsn false q c p t d k = record { channel = sym c; product = sym p; kind = sym t; body = sym d; checksum = sym k; gsn = sym q }
-
-    at-checksum : (b : Bool) → means s a (ascii "checksum") ≡ b → means s a (ascii "channel") ≡ false → means s a (ascii "product") ≡ false → means s a (ascii "type") ≡ false
-        → means s a (ascii "data") ≡ false → Keyed s a (cond b 5 (cond (means s a (ascii "gsn")) 6 0))
-    at-checksum true q c p t d =
-        record { channel = sym c; product = sym p; kind = sym t; body = sym d; checksum = sym q; gsn = no (ascii "checksum") (ascii "gsn") 0 (λ e. omega arith) q }
-    at-checksum false q c p t d = at-gsn (means s a (ascii "gsn")) refl c p t d q
-
-    at-data : (b : Bool) → means s a (ascii "data") ≡ b → means s a (ascii "channel") ≡ false → means s a (ascii "product") ≡ false → means s a (ascii "type") ≡ false
-        → Keyed s a (cond b 4 (cond (means s a (ascii "checksum")) 5 (cond (means s a (ascii "gsn")) 6 0)))
-    at-data true q c p t =
-        record {
-          channel = sym c;
-          product = sym p;
-          kind = sym t;
-          body = sym q;
-          checksum = no (ascii "data") (ascii "checksum") 0 (λ e. omega arith) q;
-          gsn = no (ascii "data") (ascii "gsn") 0 (λ e. omega arith) q;
-        }
-    at-data false q c p t = at-checksum (means s a (ascii "checksum")) refl c p t q
-
-    at-type : (b : Bool) → means s a (ascii "type") ≡ b → means s a (ascii "channel") ≡ false → means s a (ascii "product") ≡ false
-        → Keyed s a (cond b 3 (cond (means s a (ascii "data")) 4 (cond (means s a (ascii "checksum")) 5 (cond (means s a (ascii "gsn")) 6 0))))
-    at-type true q c p =
-        record {
-          channel = sym c;
-          product = sym p;
-          kind = sym q;
-          body = no (ascii "type") (ascii "data") 0 (λ e. omega arith) q;
-          checksum = no (ascii "type") (ascii "checksum") 0 (λ e. omega arith) q;
-          gsn = no (ascii "type") (ascii "gsn") 0 (λ e. omega arith) q;
-        }
-    at-type false q c p = at-data (means s a (ascii "data")) refl c p q
-
-    at-product : (b : Bool) → means s a (ascii "product") ≡ b → means s a (ascii "channel") ≡ false
-        → Keyed s a (cond b 2 (cond (means s a (ascii "type")) 3 (cond (means s a (ascii "data")) 4 (cond (means s a (ascii "checksum")) 5 (cond (means s a (ascii "gsn")) 6 0)))))
-    at-product true q c =
-        record {
-          channel = sym c;
-          product = sym q;
-          kind = no (ascii "product") (ascii "type") 0 (λ e. omega arith) q;
-          body = no (ascii "product") (ascii "data") 0 (λ e. omega arith) q;
-          checksum = no (ascii "product") (ascii "checksum") 0 (λ e. omega arith) q;
-          gsn = no (ascii "product") (ascii "gsn") 0 (λ e. omega arith) q;
-        }
-    at-product false q c = at-type (means s a (ascii "type")) refl c q
-
-    at-channel : (b : Bool) → means s a (ascii "channel") ≡ b
-        → Keyed s a (cond b 1 (cond (means s a (ascii "product")) 2 (cond (means s a (ascii "type")) 3 (cond (means s a (ascii "data")) 4 (cond (means s a (ascii "checksum")) 5 (cond (means s a (ascii "gsn")) 6 0))))))
-    at-channel true q =
-        record {
-          channel = sym q;
-          product = no (ascii "channel") (ascii "product") 0 (λ e. omega arith) q;
-          kind = no (ascii "channel") (ascii "type") 0 (λ e. omega arith) q;
-          body = no (ascii "channel") (ascii "data") 0 (λ e. omega arith) q;
-          checksum = no (ascii "channel") (ascii "checksum") 2 (λ e. omega arith) q;
-          gsn = no (ascii "channel") (ascii "gsn") 0 (λ e. omega arith) q;
-        }
-    at-channel false q = at-product (means s a (ascii "product")) refl q
+keyed s a =
+    let h : numbered (keyOf s a) 1 ourNames ≡ meant s a ourNames = which-meant s a ourNames refl 1 (omega arith) in
+    record { channel = cc; product = cc; kind = cc; body = cc; checksum = cc; gsn = cc }
 
 -- the code's chain of tests; each case takes what the tests before it found
 module _ (s : List ℕ) (a : Span) where
@@ -228,43 +105,9 @@ module _ (s : List ℕ) (a : Span) where
   escaped-other h = sym (rw (ne-eqb (byteAt s (a .from)) 34 h))
 
 -- our names have none
-plain-name : (s : List ℕ) (a : Span) (n : List ℕ) → holds 92 n ≡ false → means s a n ≡ true → hasBackslash s a ≡ false
-plain-name s a n p h = go (hasBackslash s a) refl
-  where
-    go : (b : Bool) → hasBackslash s a ≡ b → b ≡ false
-    go true q = absurd (true≢false (sym h ∙ backslash-no-name s a n q p))
-    go false q = refl
-
 plain-key : (s : List ℕ) (a : Span) → (keyOf s a ≡ 0 → ⊥) → hasBackslash s a ≡ false
-unfolding holds
-plain-key s a some = at-channel (means s a (ascii "channel")) refl
-  where
-    at-gsn : (b : Bool) → means s a (ascii "gsn") ≡ b → means s a (ascii "channel") ≡ false → means s a (ascii "product") ≡ false → means s a (ascii "type") ≡ false
-        → means s a (ascii "data") ≡ false → means s a (ascii "checksum") ≡ false → hasBackslash s a ≡ false
-    at-gsn true q c p t d k = plain-name s a (ascii "gsn") refl q
-    at-gsn false q c p t d k = absurd (some (sym (key-other s a c p t d k q)))
-
-    at-checksum : (b : Bool) → means s a (ascii "checksum") ≡ b → means s a (ascii "channel") ≡ false → means s a (ascii "product") ≡ false → means s a (ascii "type") ≡ false
-        → means s a (ascii "data") ≡ false → hasBackslash s a ≡ false
-    at-checksum true q c p t d = plain-name s a (ascii "checksum") refl q
-    at-checksum false q c p t d = at-gsn (means s a (ascii "gsn")) refl c p t d q
-
-    at-data : (b : Bool) → means s a (ascii "data") ≡ b → means s a (ascii "channel") ≡ false → means s a (ascii "product") ≡ false → means s a (ascii "type") ≡ false
-        → hasBackslash s a ≡ false
-    at-data true q c p t = plain-name s a (ascii "data") refl q
-    at-data false q c p t = at-checksum (means s a (ascii "checksum")) refl c p t q
-
-    at-type : (b : Bool) → means s a (ascii "type") ≡ b → means s a (ascii "channel") ≡ false → means s a (ascii "product") ≡ false → hasBackslash s a ≡ false
-    at-type true q c p = plain-name s a (ascii "type") refl q
-    at-type false q c p = at-data (means s a (ascii "data")) refl c p q
-
-    at-product : (b : Bool) → means s a (ascii "product") ≡ b → means s a (ascii "channel") ≡ false → hasBackslash s a ≡ false
-    at-product true q c = plain-name s a (ascii "product") refl q
-    at-product false q c = at-type (means s a (ascii "type")) refl c q
-
-    at-channel : (b : Bool) → means s a (ascii "channel") ≡ b → hasBackslash s a ≡ false
-    at-channel true q = plain-name s a (ascii "channel") refl q
-    at-channel false q = at-product (means s a (ascii "product")) refl q
+unfolding keyOf holds
+plain-key s a some = which-plain s a ourNames refl 1 some
 
 -- x: the value is a string with a backslash; k: the name's number
 module _ (s : List ℕ) (a : Span) (x : Bool) (k : ℕ) (is : k ≡ keyOf s a) where
@@ -346,10 +189,13 @@ module _ (s : List ℕ) (d : Data) (m : Pair) {e : ℕ} (h : e ≡ m .value .to)
   unfolding moreData
   asks-no n = sym (hit-no (means s (m .name) (ascii "asks")) (withEntryArray (sideM s)) (d .asks) (m .value) n)
 
+  not-asks : means s (m .name) (ascii "bids") ≡ true → means s (m .name) (ascii "asks") ≡ false
+  not-asks y = let h = one-meant s (m .name) (ascii "bids" ∷ ascii "asks" ∷ []) refl 0 (omega arith) y in cc
+
   pub data-bids : {r : EntryMember} → means s (m .name) (ascii "bids") ≡ true → r ≡ withEntryArray (sideM s) (d .bids) (m .value)
       → _≡_ {A = Data} (record { end = e; bids = r; asks = d .asks }) (moreData s d m)
   unfolding moreData
-  data-bids y g = data-made h (g ∙ bids-yes y) (asks-no (not-both s (m .name) (ascii "bids") (ascii "asks") 0 (λ e. omega arith) y))
+  data-bids y g = data-made h (g ∙ bids-yes y) (asks-no (not-asks y))
 
   pub data-asks : {r : EntryMember} → means s (m .name) (ascii "bids") ≡ false → means s (m .name) (ascii "asks") ≡ true → r ≡ withEntryArray (sideM s) (d .asks) (m .value)
       → _≡_ {A = Data} (record { end = e; bids = d .bids; asks = r }) (moreData s d m)

@@ -2,13 +2,14 @@
 -- Assumes nothing: these are definitions.
 use Prim.Native.Nat.{ℕ, _≤_}
 use mathlib.Core.Bool.{Bool, true, false, _&&_, _||_, cond}
-use mathlib.Core.List.{List}
+use mathlib.Core.List.{List, [], _∷_}
 use lib.Dec.{eqb}
 use lib.ListN.{length}
 use Rattle.text.specs.Text.{ascii}
 use Rattle.decimal.specs.Digits.{Reading, reads, refused}
 use Rattle.json_tokens.specs.Ends.{endOf}
 use Rattle.json.specs.Json.{Span, Pair, value}
+use Rattle.json.specs.Which.{which}
 use Rattle.json.specs.Names.{means, hasBackslash}
 use Rattle.entries.specs.Places.{andThen, isString, objectAt, valuesOf, wholeAt, checksumAt}
 use Rattle.entries.specs.declared.Form.the-variants as forms
@@ -96,15 +97,12 @@ checksumKey = 5
 abbrev pub gsnKey : ℕ
 gsnKey = 6
 
--- Which of our names a string means.
+-- Our names, in the order of these numbers, and which of them a string means.
+abbrev pub ourNames : List (List ℕ)
+ourNames = ascii "channel" ∷ ascii "product" ∷ ascii "type" ∷ ascii "data" ∷ ascii "checksum" ∷ ascii "gsn" ∷ []
+
 unfoldable pub keyOf : List ℕ → Span → ℕ
-keyOf s a =
-    cond (means s a (ascii "channel")) channelKey
-    (cond (means s a (ascii "product")) productKey
-    (cond (means s a (ascii "type")) typeKey
-    (cond (means s a (ascii "data")) dataKey
-    (cond (means s a (ascii "checksum")) checksumKey
-    (cond (means s a (ascii "gsn")) gsnKey otherKey)))))
+keyOf s a = which s a channelKey ourNames
 
 abbrev pub isEscaped : List ℕ → Span → Bool
 isEscaped s a = isString s a && hasBackslash s a

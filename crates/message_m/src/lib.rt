@@ -11,7 +11,6 @@ use entries::entries_at;
 use json::MAX_DEPTH;
 use json::has_backslash;
 use json::is_name;
-use json::is_short_name;
 use json::value_end;
 use json_tokens::OPEN_OBJECT;
 use json_tokens::QUOTE;
@@ -53,29 +52,6 @@ ghost use Rattle.layout.specs.MemberSpans.{withMemberSpan};
 ghost use Rattle.layout.specs.Scan.{scanAt};
 ghost use Rattle.message_m.specs.LayoutM.{envelopeM};
 ghost use Rattle.message_m.specs.Collected.{onHit, memberAt, noData, dataEnd, moreData, dataOf, channelKey, productKey, dataKey, keyOf, isEscaped, moreBody, noMembers, moreMembers, onceAt, onceListed, numbersIn, bodyIn, outlineIn, scanIn, Placed};
-
-// Names as numbers, the first byte the lowest, as `json::is_short_name` takes them.
-const CHANNEL_NAME: u64 = 0x6c656e6e616863;
-
-const PRODUCT_NAME: u64 = 0x746375646f7270;
-
-const TYPE_NAME: u64 = 0x65707974;
-
-const DATA_NAME: u64 = 0x61746164;
-
-const CHECKSUM_NAME: u64 = 0x6d75736b63656863;
-
-const GSN_NAME: u64 = 0x6e7367;
-
-const BIDS_NAME: u64 = 0x73646962;
-
-const ASKS_NAME: u64 = 0x736b7361;
-
-const BOOK_NAME: u64 = 0x6b6f6f62;
-
-const SNAPSHOT_NAME: u64 = 0x746f687370616e73;
-
-const UPDATE_NAME: u64 = 0x657461647075;
 
 // Which of our names a member of the message has.
 const OTHER: usize = 0;
@@ -220,22 +196,22 @@ fn more_members(
 fn key_of(s: &[u8], from: usize, to: usize) -> usize
     ensures { λ r. ⌜ r ≡ keyOf (now (s .entry)) (record { from = from; to = to }) ⌝ }
 {
-    if is_short_name(s, from, to, CHANNEL_NAME, 7) {
+    if is_name(s, from, to, b"channel") {
         return CHANNEL;
     }
-    if is_short_name(s, from, to, PRODUCT_NAME, 7) {
+    if is_name(s, from, to, b"product") {
         return PRODUCT;
     }
-    if is_short_name(s, from, to, TYPE_NAME, 4) {
+    if is_name(s, from, to, b"type") {
         return TYPE;
     }
-    if is_short_name(s, from, to, DATA_NAME, 4) {
+    if is_name(s, from, to, b"data") {
         return DATA;
     }
-    if is_short_name(s, from, to, CHECKSUM_NAME, 8) {
+    if is_name(s, from, to, b"checksum") {
         return CHECKSUM;
     }
-    if is_short_name(s, from, to, GSN_NAME, 3) {
+    if is_name(s, from, to, b"gsn") {
         return GSN;
     }
     OTHER
@@ -283,7 +259,7 @@ fn is_book(s: &[u8], key: usize, from: usize, to: usize) -> bool
     ensures { λ r. ⌜ r ≡ (eqb key channelKey && means (now (s .entry)) (record { from = from; to = to }) (ascii "book")) ⌝ }
 {
     if key == CHANNEL {
-        return is_short_name(s, from, to, BOOK_NAME, 4);
+        return is_name(s, from, to, b"book");
     }
     false
 }
@@ -365,7 +341,7 @@ fn more_data(s: &[u8], met: Data, first: usize, past: usize, from: usize) -> Dat
 {
     let bids = met.bids;
     let asks = met.asks;
-    if is_short_name(s, first, past, BIDS_NAME, 4) {
+    if is_name(s, first, past, b"bids") {
         let entries = entries_at(s, from, SIDE_DEPTH, Form::Pair);
         return Data {
             end: entries.end,
@@ -373,7 +349,7 @@ fn more_data(s: &[u8], met: Data, first: usize, past: usize, from: usize) -> Dat
             asks,
         };
     }
-    if is_short_name(s, first, past, ASKS_NAME, 4) {
+    if is_name(s, first, past, b"asks") {
         let entries = entries_at(s, from, SIDE_DEPTH, Form::Pair);
         return Data {
             end: entries.end,
@@ -439,10 +415,10 @@ fn m_outline(s: &[u8], met: Members) -> Outline
     if kind.times != 1 {
         return no_outline();
     }
-    if is_short_name(s, kind.from, kind.to, SNAPSHOT_NAME, 8) {
+    if is_name(s, kind.from, kind.to, b"snapshot") {
         return body_outline(s, Kind::Snapshot, met);
     }
-    if is_short_name(s, kind.from, kind.to, UPDATE_NAME, 6) {
+    if is_name(s, kind.from, kind.to, b"update") {
         return body_outline(s, Kind::Update, met);
     }
     no_outline()

@@ -1,22 +1,21 @@
 -- `message_m::is_book` meets its contract: only a `channel` is compared.
 -- Assumes nothing.
 use denote.Ref.{now}
-use mathlib.Core.Path.{_∙_, ap}
+use mathlib.Core.Path.{_∙_}
 use Rattle.text.specs.Text.{ascii}
 use Rattle.json.specs.Json.{Span}
 use Rattle.json.specs.Names.{means}
-use Rattle.message_m.proofs.Steps.{book-name, and-yes, and-no}
+use Rattle.message_m.proofs.Steps.{and-yes, and-no}
 use borrow.Author.Needs.{needs}
 use Rattle.message_m.proofs.is_book.Statement.{statement}
 use Rattle.message_m.proofs.is_book.Tie as tie
 
 returns : tie.Need-returns
 returns c =
-    let a = c .before .before .before .args in
+    let a = c .before .before .before .before .args in
     let s = now (a .s) in
     let v : Span = record { from = a .from; to = a .to } in
-    let h = c .is-short-name .ensures ∙ ap (means s v) book-name in
-    h ∙ and-yes (means s v (ascii "book")) (a .key) 1 (c .before .if1 .taken)
+    c .is-name .ensures ∙ and-yes (means s v (ascii "book")) (a .key) 1 (c .before .before .if1 .taken)
 
 returns-2 : tie.Need-returns-2
 returns-2 c =
@@ -26,4 +25,4 @@ returns-2 c =
     and-no (means s v (ascii "book")) (a .key) 1 (c .if1 .left)
 
 pub is-book-spec : {M : Type 1} → statement M
-is-book-spec = tie.close (tie.spec (λ c κs. search needs) returns returns-2)
+is-book-spec = tie.close (tie.spec (λ c. search needs) (λ c κs. search needs) returns returns-2)

@@ -1,8 +1,7 @@
 -- `message_m::m_outline` meets its contract: one test after the other, in the order of the definition.
 -- Assumes nothing.
 use denote.Ref.{now}
-use mathlib.Core.Path.{_∙_}
-use Rattle.message_m.proofs.Steps.{named, snapshot-name, update-name}
+use mathlib.Core.Path.{_∙_, sym}
 use Rattle.message_m.proofs.Outlines.{placeOf, outline-no-channel, outline-no-product, outline-no-type, outline-snapshot, outline-update, outline-neither}
 use borrow.Author.Needs.{needs}
 use Rattle.message_m.proofs.m_outline.Statement.{statement}
@@ -28,24 +27,24 @@ returns-3 c =
 
 returns-4 : tie.Need-returns-4
 returns-4 c =
-    let a = c .before .before .before .before .before .before .before .before .before .before .before .before .before .args in
+    let a = c .before .before .before .before .before .before .before .before .before .before .before .before .before .before .args in
     let s = now (a .s) in
     let k = placeOf (a .met .kind) in
-    c .body-outline .ensures ∙ outline-snapshot s (a .met) (c .before .before .before .before .before .before .before .if1 .left) (c .before .before .before .before .before .if2 .left) (c .before .before .before .if3 .left) (named s k snapshot-name (c .before .before .is-short-name .ensures) (c .before .if4 .taken))
+    c .body-outline .ensures ∙ outline-snapshot s (a .met) (c .before .before .before .before .before .before .before .before .if1 .left) (c .before .before .before .before .before .before .if2 .left) (c .before .before .before .before .if3 .left) (sym (c .before .before .is-name .ensures) ∙ c .before .if4 .taken)
 
 returns-5 : tie.Need-returns-5
 returns-5 c =
-    let a = c .before .before .before .before .before .before .before .before .before .before .before .before .before .before .before .args in
+    let a = c .before .before .before .before .before .before .before .before .before .before .before .before .before .before .before .before .before .args in
     let s = now (a .s) in
     let k = placeOf (a .met .kind) in
-    c .body-outline2 .ensures ∙ outline-update s (a .met) (c .before .before .before .before .before .before .before .before .before .if1 .left) (c .before .before .before .before .before .before .before .if2 .left) (c .before .before .before .before .before .if3 .left) (named s k snapshot-name (c .before .before .before .before .is-short-name .ensures) (c .before .before .before .if4 .left)) (named s k update-name (c .before .before .is-short-name2 .ensures) (c .before .if5 .taken))
+    c .body-outline2 .ensures ∙ outline-update s (a .met) (c .before .before .before .before .before .before .before .before .before .before .before .if1 .left) (c .before .before .before .before .before .before .before .before .before .if2 .left) (c .before .before .before .before .before .before .before .if3 .left) (sym (c .before .before .before .before .before .is-name .ensures) ∙ c .before .before .before .before .if4 .left) (sym (c .before .before .is-name2 .ensures) ∙ c .before .if5 .taken)
 
 returns-6 : tie.Need-returns-6
 returns-6 c =
-    let a = c .before .before .before .before .before .before .before .before .before .before .before .before .before .before .before .args in
+    let a = c .before .before .before .before .before .before .before .before .before .before .before .before .before .before .before .before .before .args in
     let s = now (a .s) in
     let k = placeOf (a .met .kind) in
-    c .no-outline4 .ensures ∙ outline-neither s (a .met) (c .before .before .before .before .before .before .before .before .before .if1 .left) (c .before .before .before .before .before .before .before .if2 .left) (c .before .before .before .before .before .if3 .left) (named s k snapshot-name (c .before .before .before .before .is-short-name .ensures) (c .before .before .before .if4 .left)) (named s k update-name (c .before .before .is-short-name2 .ensures) (c .before .if5 .left))
+    c .no-outline4 .ensures ∙ outline-neither s (a .met) (c .before .before .before .before .before .before .before .before .before .before .before .if1 .left) (c .before .before .before .before .before .before .before .before .before .if2 .left) (c .before .before .before .before .before .before .before .if3 .left) (sym (c .before .before .before .before .before .is-name .ensures) ∙ c .before .before .before .before .if4 .left) (sym (c .before .before .is-name2 .ensures) ∙ c .before .if5 .left)
 
 pub m-outline-spec : {M : Type 1} → statement M
 m-outline-spec =
@@ -57,9 +56,11 @@ m-outline-spec =
     returns-2
     (λ c κs. search needs)
     returns-3
+    (λ c. search needs)
     (λ c κs. search needs)
     (λ c κs. search needs)
     returns-4
+    (λ c. search needs)
     (λ c κs. search needs)
     (λ c κs. search needs)
     returns-5

@@ -2,7 +2,8 @@
 use Prim.Native.Nat.{ℕ}
 use mathlib.Core.Path.{_≡_}
 use mathlib.Core.Bool.{Bool, true, false}
-use Rattle.decimal.specs.Decimal.{number, noNumber}
+use Rattle.decimal.specs.Decimal.{number}
+use Rattle.decimal.specs.Limits.{noNumber}
 use Rattle.settings.specs.declared.Dialect.{Dialect}
 use Rattle.settings.specs.declared.Dialect.the-variants.{K, M, Unknown}
 use Rattle.level.specs.Kept.{held}

@@ -203,16 +203,16 @@ some-right n (x ∷ xs) (y ∷ ys) h = zero-lt-suc (suc (length (interleaved n x
 pub k-short : (price size : Number) → Within price → Within size → length (kPiece price size) ≤ maxLength
 unfolding kPiece
 k-short price size p s =
-    let a : length (stripped price) ≤ 19 = length-stripped price p in
-    let b : length (stripped size) ≤ 19 = length-stripped size s in
+    let a = length-stripped price p in
+    let b = length-stripped size s in
     let e : length (stripped price ++ stripped size) ≡ length (stripped price) + length (stripped size) = length-append (stripped price) (stripped size) in
     omega arith
 
 pub m-short : (price size : Number) → Within price → Within size → length (mPiece price size) ≤ maxLength
 unfolding mPiece
 m-short price size p s =
-    let a : length (text price) ≤ 20 = length-text price p in
-    let b : length (text size) ≤ 20 = length-text size s in
+    let a = length-text price p in
+    let b = length-text size s in
     let e : length (text price ++ (colon ∷ text size)) ≡ length (text price) + suc (length (text size)) = length-append (text price) (colon ∷ text size) in
     omega arith
 

@@ -25,9 +25,6 @@ pub record Number : Type 0 where
   pub digits : ℕ
   pub decimals : ℕ
 
-abbrev pub noNumber : Number
-noNumber = record { digits = 0; decimals = 0 }
-
 -- The pair that the code's struct holds: what is above this crate knows a decimal by this alone.
 unfoldable pub number : Decimal → Number
 number d = record { digits = d .digits; decimals = d .decimals }

@@ -7,6 +7,10 @@ use Rattle.decimal.specs.Decimal.{Number, maxWhole, maxDecimals, value}
 use Rattle.decimal.specs.declared.Order.{Order}
 use Rattle.decimal.specs.declared.Order.the-variants.{Less, Equal, Greater}
 
+-- 0 with no decimals, where there is no other number to tell.
+abbrev pub noNumber : Number
+noNumber = record { digits = 0; decimals = 0 }
+
 unfoldable pub orderOf : ℕ → ℕ → Order
 orderOf x y = elim (ltb x y) [ true ↦ Less | false ↦ elim (eqb x y) [ true ↦ Equal | false ↦ Greater ] ]
 

@@ -11,8 +11,8 @@ mod writing;
 
 ghost use mathlib.Core.Path.{_≡_};
 ghost use Prim.Native.Nat.{_≤_, _^_};
-ghost use Rattle.decimal.specs.Decimal.{number, noNumber, isZero, maxDecimals};
-ghost use Rattle.decimal.specs.Limits.{order, orderOf, Within};
+ghost use Rattle.decimal.specs.Decimal.{number, isZero, maxDecimals};
+ghost use Rattle.decimal.specs.Limits.{noNumber, order, orderOf, Within};
 pub use reading::parse;
 pub use reading::parse_at;
 pub use reading::parse_checksum;

@@ -12,8 +12,8 @@ use lib.ListN.{length, getD, take, drop, length-append, length-drop, take-append
 use lib.Seq.{drop-drop, length-take-le}
 use Rattle.text.specs.Text.{isDigit, byteAt}
 use Rattle.decimal.specs.Digits.{reads, refused, leading}
-use Rattle.decimal.specs.Decimal.{Number, number, noNumber, Prefix, prefixed, isWhole, fractional, prefix, read, maxWhole, maxDecimals}
-use Rattle.decimal.specs.Limits.{Within}
+use Rattle.decimal.specs.Decimal.{Number, number, Prefix, prefixed, isWhole, fractional, prefix, read, maxWhole, maxDecimals}
+use Rattle.decimal.specs.Limits.{noNumber, Within}
 use Rattle.decimal.specs.declared.Decimal.{Decimal}
 use Rattle.decimal.proofs.Digits.{Digits, none, one, digit-in}
 use Rattle.decimal.proofs.Scan.{prefix-refused, prefix-pointed, pointed-plain, pointed-fraction, read-all}

@@ -8,3 +8,4 @@ pub mod Meeting
 pub mod Packing
 pub mod Stored
 pub mod Held
+pub mod Determined

@@ -8,7 +8,6 @@ use borrow.Author.Tests.{ne-eqb}
 use lib.Dec.{eqb}
 use lib.ListN.{length, take, drop, length-drop}
 use lib.Seq.{take-all}
-use Rattle.decimal.specs.Decimal as decimal
 use Rattle.answer.specs.Answers.{answerNumber}
 use Rattle.answer.specs.declared.Answer.{Answer}
 use Rattle.level.specs.declared.Side.{Side}
@@ -77,7 +76,7 @@ module _ (b : Book) (buffer : List ℕ) where
 
     pub level-answered : (scope : Scope) (side : Side) (i : ℕ) (s : LevelReply) → AnswersLevel b scope side i s →
         Answered (shows b) (question (levelAt scope side i)) buffer buffer (levelReplied s)
-    unfolding does replied levelReplied valueWords levelWords replyWords decimal.number
+    unfolding does replied levelReplied valueWords levelWords replyWords
     level-answered scope side i s a =
         record { good = subst Good (sym (a .book)) g; same = ap shows (a .book); words = worded (a .answer buffer) (a .value buffer); buffer = same-buffer (shows b) (levelAt scope side i) buffer (λ e. let z : _≡_ {A = ℕ} 0 1 = cc in omega arith) }
 

@@ -5,14 +5,24 @@ use mathlib.Core.List.{List, [], _∷_, _++_, map}
 use native.Mathlib.Omega.{arith}
 use lib.ListN.{length, length-append}
 use Rattle.text.specs.Text.{ascii}
-use Rattle.decimal.specs.Decimal.{Number, text}
+use Rattle.decimal.specs.Decimal.{Number, text, maxWhole, maxDecimals}
 use Rattle.decimal.proofs.Text.{length-text}
 use Rattle.level.specs.Level.{PriceLevel}
 use Rattle.writer.specs.Snapshot.{quoted, commaJoined, array, kEntry, mEntry}
 use Rattle.round_trip.specs.Claims.{Positive, ValidLevel, Valid, Each, each-none, each-more}
 use Rattle.round_trip.proofs.Tokens.{length-quoted}
 
-length-decimal : (n : Number) → Positive n → length (quoted (text n)) ≤ 22
+-- the longest decimal in quotes, entry and side
+abbrev maxQuoted : ℕ
+maxQuoted = maxWhole + 1 + maxDecimals + 2
+
+abbrev maxEntry : ℕ
+maxEntry = 2 * maxQuoted + 14
+
+abbrev pub maxSide : ℕ
+maxSide = 100 * (maxEntry + 1) + 2
+
+length-decimal : (n : Number) → Positive n → length (quoted (text n)) ≤ maxQuoted
 length-decimal n p = let a = length-text n (p .within) in let b = length-quoted (text n) in omega arith
 
 length-array : (ts : List (List ℕ)) → length (array ts) ≡ length (commaJoined ts) + 2
@@ -28,29 +38,29 @@ unfolding commaJoined
 length-one t = refl
 
 -- an entry of either dialect
-pub length-k : (l : PriceLevel) → ValidLevel l → length (kEntry l) ≤ 58
+pub length-k : (l : PriceLevel) → ValidLevel l → length (kEntry l) ≤ maxEntry
 unfolding kEntry
 length-k l f =
     let p : List ℕ = quoted (text (l .price)) in
     let z : List ℕ = quoted (text (l .size)) in
     let t : List ℕ = quoted (ascii "0.000000") in
-    let a : length p ≤ 22 = length-decimal (l .price) (f .price) in
-    let b : length z ≤ 22 = length-decimal (l .size) (f .size) in
+    let a : length p ≤ maxQuoted = length-decimal (l .price) (f .price) in
+    let b : length z ≤ maxQuoted = length-decimal (l .size) (f .size) in
     let c : length t ≡ 10 = length-quoted (ascii "0.000000") in
     omega (arith, length-array (p ∷ (z ∷ (t ∷ []))), length-comma p z (t ∷ []), length-comma z t [], length-one t)
 
-pub length-m : (l : PriceLevel) → ValidLevel l → length (mEntry l) ≤ 58
+pub length-m : (l : PriceLevel) → ValidLevel l → length (mEntry l) ≤ maxEntry
 unfolding mEntry
 length-m l f =
     let p : List ℕ = quoted (text (l .price)) in
     let z : List ℕ = quoted (text (l .size)) in
-    let a : length p ≤ 22 = length-decimal (l .price) (f .price) in
-    let b : length z ≤ 22 = length-decimal (l .size) (f .size) in
+    let a : length p ≤ maxQuoted = length-decimal (l .price) (f .price) in
+    let b : length z ≤ maxQuoted = length-decimal (l .size) (f .size) in
     omega (arith, length-array (p ∷ (z ∷ [])), length-comma p z [], length-one z)
 
 -- a side
-module _ (write : PriceLevel → List ℕ) (short : (l : PriceLevel) → ValidLevel l → length (write l) ≤ 58) where
-  length-joined : (levels : List PriceLevel) → Each ValidLevel levels → length (commaJoined (map write levels)) ≤ length levels * 59
+module _ (write : PriceLevel → List ℕ) (short : (l : PriceLevel) → ValidLevel l → length (write l) ≤ maxEntry) where
+  length-joined : (levels : List PriceLevel) → Each ValidLevel levels → length (commaJoined (map write levels)) ≤ length levels * (maxEntry + 1)
   unfolding commaJoined
   length-joined [] each-none = zero-le
   length-joined (l ∷ []) (each-more f r) = let a = short l f in omega arith
@@ -60,7 +70,7 @@ module _ (write : PriceLevel → List ℕ) (short : (l : PriceLevel) → ValidLe
       let e = length-comma (write l) (write m) (map write ls) in
       omega arith
 
-  pub length-side : (levels : List PriceLevel) → Valid levels → length (array (map write levels)) ≤ 5902
+  pub length-side : (levels : List PriceLevel) → Valid levels → length (array (map write levels)) ≤ maxSide
   length-side levels f =
       let n : length levels ≤ 100 = f .few in
       omega (arith, length-array (map write levels), length-joined levels (f .each))

@@ -30,7 +30,7 @@ use Rattle.round_trip.proofs.Lists.{Matched, both-none, both-more}
 use Rattle.round_trip.proofs.Values.{Reads, IsText, itself, string-reads, zero-reads, array-reads, Field, fieldText, object, GoodField, IsField, object-reads}
 use Rattle.round_trip.proofs.Readers.{Gives, array-at, object-at, is-string, no-backslash, means-it, same, named, values-named, matched-length, One, the-one}
 use Rattle.round_trip.proofs.Rows.{digits-plain, plain-append, k-entry, side-reads, SideAt, listed-at}
-use Rattle.round_trip.proofs.Sizes.{length-k, length-side}
+use Rattle.round_trip.proofs.Sizes.{maxSide, length-k, length-side}
 use Rattle.round_trip.proofs.Whole.{laidAs, HeardAs, says-tree}
 use Rattle.round_trip.proofs.Settings.{name-plain, name-short, depth-short}
 
@@ -52,7 +52,7 @@ spelled-tree : (a b c n : List ℕ) → spelled a b c n ≡ array (elements a b 
 unfolding array object fieldText quoted commaJoined
 spelled-tree a b c n = ap (λ (l : List ℕ). ascii "[0,{\"as\":" ++ l) (regroup a (ascii ",\"bs\":") b (ascii "}") c (ascii ",") n (ascii "]"))
 
-length-spelled : (a b c n : List ℕ) → length a ≤ 5902 → length b ≤ 5902 → length c ≤ 10 → length n ≤ 18 → length (spelled a b c n) ≤ 32768
+length-spelled : (a b c n : List ℕ) → length a ≤ maxSide → length b ≤ maxSide → length c ≤ 10 → length n ≤ 18 → length (spelled a b c n) ≤ 32768
 length-spelled a b c n la lb lc ln =
     let x : List ℕ = ascii "," ++ (n ++ ascii "]") in
     let y : List ℕ = ascii "}," ++ (c ++ x) in

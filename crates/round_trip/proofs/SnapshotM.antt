@@ -31,7 +31,7 @@ use Rattle.round_trip.proofs.Lists.{Matched, both-none, both-more}
 use Rattle.round_trip.proofs.Values.{Reads, string-reads, number-reads, Field, fieldText, object, GoodField, IsField, object-reads}
 use Rattle.round_trip.proofs.Readers.{Gives, object-at, is-string, no-backslash, means-it, same, named, values-named, One, the-one}
 use Rattle.round_trip.proofs.Rows.{m-entry, side-reads, SideAt, listed-at}
-use Rattle.round_trip.proofs.Sizes.{length-m, length-side}
+use Rattle.round_trip.proofs.Sizes.{maxSide, length-m, length-side}
 use Rattle.round_trip.proofs.Whole.{laidAs, HeardAs, says-tree}
 use Rattle.round_trip.proofs.Settings.{name-plain, name-short}
 
@@ -66,7 +66,7 @@ spelled-tree n b a c g =
     ap (λ (l : List ℕ). ascii "{\"channel\":\"book\",\"product\":" ++ l)
     (regroup n (ascii ",\"type\":\"snapshot\",\"data\":{\"bids\":") b (ascii ",\"asks\":") a (ascii "}") (ascii ",\"checksum\":") c (ascii ",\"gsn\":") g (ascii "}"))
 
-length-spelled : (n b a c g : List ℕ) → length n ≤ 18 → length b ≤ 5902 → length a ≤ 5902 → length c ≤ 10 → length g ≤ 19 → length (spelled n b a c g) ≤ 32768
+length-spelled : (n b a c g : List ℕ) → length n ≤ 18 → length b ≤ maxSide → length a ≤ maxSide → length c ≤ 10 → length g ≤ 19 → length (spelled n b a c g) ≤ 32768
 length-spelled n b a c g ln lb la lc lg =
     let w : List ℕ = ascii ",\"gsn\":" ++ (g ++ ascii "}") in
     let x : List ℕ = ascii "},\"checksum\":" ++ (c ++ w) in

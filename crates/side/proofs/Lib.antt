@@ -3,3 +3,4 @@ pub mod Shift
 pub mod Find
 pub mod Entries
 pub mod Mapped
+pub mod Outcome

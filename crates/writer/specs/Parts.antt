@@ -1,10 +1,11 @@
 -- Parts of a snapshot's text, and a part laid into a buffer that has room for it. Assumes nothing: these are definitions.
-use Prim.Native.Nat.{ℕ, _+_, _≤_}
+use Prim.Native.Nat.{ℕ, _+_, _*_, _≤_}
 use mathlib.Core.Path.{_≡_}
 use mathlib.Core.Bool.{Bool, cond}
 use mathlib.Core.List.{List, _++_, map}
 use lib.ListN.{length}
 use Rattle.text.specs.Text.{ascii}
+use Rattle.decimal.specs.Decimal.{maxWhole, maxDecimals}
 use Rattle.decimal.specs.Limits.{Within}
 use Rattle.decimal.specs.Buffer.{overlaid}
 use Rattle.level.specs.declared.Level.{Level}
@@ -54,10 +55,10 @@ abbrev pub maxName : ℕ
 maxName = 16
 
 abbrev pub maxEntry : ℕ
-maxEntry = 58
+maxEntry = 2 * (maxWhole + 1 + maxDecimals) + 18
 
 abbrev pub maxSide : ℕ
-maxSide = 5900
+maxSide = (maxEntry + 1) * maxLevels
 
 -- ---- a text laid where there is room for it
 

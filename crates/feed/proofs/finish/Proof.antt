@@ -1,5 +1,5 @@
 -- `finish` meets its contract: with a line end behind it, the last line is answered as any other.
-use Prim.Native.Nat.{_+_, _≤_}
+use Prim.Native.Nat.{ℕ, _+_, _≤_}
 use native.Mathlib.Omega.{arith}
 use lib.ListN.{length, set, length-set}
 use borrow.Author.Needs.{needs}
@@ -7,14 +7,14 @@ use Rattle.feed.proofs.Streaming.{finished-none, finished-last}
 use Rattle.feed.proofs.finish.Statement.{statement}
 use Rattle.feed.proofs.finish.Tie as tie
 
-fits : (s : tie.Start) → s .args .stream .to + 1 ≤ length (set (s .args .input .now) (s .args .stream .to) 10)
-fits s = let h = s .pre .1 in simp length-set (omega arith)
+fits : (s : tie.Start) (b : ℕ) → s .args .stream .to + 1 ≤ length (set (s .args .input .now) (s .args .stream .to) b)
+fits s b = let h = s .pre .1 in simp length-set (omega arith)
 
 returns : tie.Need-returns
 returns c = let s = c .before .before .before .before in finished-none (s .args .stream) (s .args .input .now) (c .if1 .taken)
 
 part-answer-lines-end : tie.Need-part-answer-lines-end
-part-answer-lines-end c = fits (c .before .before .before .before .before .before)
+part-answer-lines-end c = fits (c .before .before .before .before .before .before) _
 
 returns-2 : tie.Need-returns-2
 returns-2 c =

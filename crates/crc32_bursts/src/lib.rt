@@ -1,0 +1,1 @@
+// What the CRC-32 catches: definitions and proofs alone.

@@ -8,7 +8,7 @@ use lib.Dec.{leb}
 use mathlib.Core.Bool.{Bool, true, false}
 use native.Mathlib.Nat.{le-refl}
 use lib.ListN.{length, take, drop, length-append, length-drop}
-use lib.Seq.{length-take-le, take-at, drop-drop}
+use lib.Seq.{length-take-le, take-at, drop-at, drop-drop}
 use Rattle.decimal.specs.Buffer.{overlaid}
 use Rattle.lines.specs.Lines.{bytesBefore, lineEnd, complete, unfinished}
 use Rattle.lines.proofs.Split.{next-complete, next-unfinished, no-more}
@@ -127,6 +127,40 @@ laid-front b at t h =
     let n : length (take at b ++ t) ≡ at + length t = length-append (take at b) t ∙ ap (λ (k : ℕ). k + length t) l in
     ap (take (at + length t)) (sym (append-assoc (take at b) t (drop (at + length t) b))) ∙ take-at (take at b ++ t) (drop (at + length t) b) (at + length t) n
 
+laid-past : (b : List ℕ) (at : ℕ) (t : List ℕ) (n : ℕ) → at + length t ≤ n → at + length t ≤ length b → drop n (overlaid b at t) ≡ drop n b
+unfolding overlaid
+laid-past b at t n order h =
+    let e : at + length t + (n - (at + length t)) ≡ n = omega arith in
+    let l : length (take at b) ≡ at = length-take-le at b (omega arith) in
+    let k : length (take at b ++ t) ≡ at + length t = length-append (take at b) t ∙ ap (λ (i : ℕ). i + length t) l in
+    let f : drop (at + length t) (overlaid b at t) ≡ drop (at + length t) b =
+    ap (drop (at + length t)) (sym (append-assoc (take at b) t (drop (at + length t) b))) ∙ drop-at (take at b ++ t) (drop (at + length t) b) (at + length t) k in
+    ap (λ (i : ℕ). drop i (overlaid b at t)) (sym e) ∙ sym (drop-drop (n - (at + length t)) (at + length t) (overlaid b at t))
+    ∙ ap (drop (n - (at + length t))) f ∙ drop-drop (n - (at + length t)) (at + length t) b ∙ ap (λ (i : ℕ). drop i b) e
+
+processing-past : (ls : List (List ℕ)) (p : Reference) (buffer : List ℕ) (at : ℕ) → processing ls p buffer at .past ≤ length buffer →
+    drop (processing ls p buffer at .past) (processing ls p buffer at .buffer) ≡ drop (processing ls p buffer at .past) buffer
+unfolding processing stopped
+processing-past [] p buffer at room = refl
+processing-past (line ∷ ls) p buffer at room =
+    go (leb (at + maxReply) (length buffer)) refl (processing-past ls (receive p line .book) (overlaid buffer at (replyTo (receive p line))) (at + length (replyTo (receive p line))))
+  where
+    go : (b : Bool) → leb (at + maxReply) (length buffer) ≡ b →
+        (later line ls p buffer at .past ≤ length (overlaid buffer at (replyTo (receive p line))) →
+        drop (later line ls p buffer at .past) (later line ls p buffer at .buffer) ≡ drop (later line ls p buffer at .past) (overlaid buffer at (replyTo (receive p line)))) →
+        drop (processing (line ∷ ls) p buffer at .past) (processing (line ∷ ls) p buffer at .buffer) ≡ drop (processing (line ∷ ls) p buffer at .past) buffer
+    go true q ih =
+        let one : processing (line ∷ ls) p buffer at ≡ later line ls p buffer at = one-line p buffer at line ls (leb-true (at + maxReply) (length buffer) q) in
+        let past : later line ls p buffer at .past ≤ length buffer = subst (λ (x : Progress). x .past ≤ length buffer) one room in
+        let g : at + length (replyTo (receive p line)) ≤ later line ls p buffer at .past = past-grows ls (receive p line .book) (overlaid buffer at (replyTo (receive p line))) (at + length (replyTo (receive p line))) in
+        let l : length (overlaid buffer at (replyTo (receive p line))) ≡ length buffer = length-overlaid buffer at (replyTo (receive p line)) (omega arith) in
+        ap (λ (x : Progress). drop (x .past) (x .buffer)) one ∙ ih (omega arith)
+        ∙ laid-past buffer at (replyTo (receive p line)) (later line ls p buffer at .past) g (omega arith)
+        ∙ sym (ap (λ (x : Progress). drop (x .past) buffer) one)
+    go false q ih =
+        let none = no-room p buffer at (line ∷ ls) (leb-false (at + maxReply) (length buffer) q) in
+        sym (ap (λ (x : Progress). drop (x .past) (x .buffer)) none) ∙ ap (λ (x : Progress). drop (x .past) buffer) none
+
 -- the transcript where the buffer has the replies past those of before
 abbrev reached : List ℕ → Progress → Transcript
 reached said x = after (record { state = bookOpen (x .book); replies = said ++ take (x .past) (x .buffer) }) (x .left)
@@ -191,6 +225,12 @@ module _ {s : List ℕ} {p : Reference} {before : List ℕ} {r : Processed} {fil
       ap (λ (w : List ℕ). after (record { state = bookOpen p; replies = w }) (complete s)) (sym (append-nil said))
       ∙ processing-after said (complete s) p before 0 (omega arith) ∙ ap (reached said) (sym (h .same))
 
+  processed-past : drop (r .written) filled ≡ drop (r .written) before
+  processed-past =
+      let past : r .written ≡ processing (complete s) p before 0 .past = ap (λ (x : Progress). x .past) (h .same) in
+      let room = h .room in
+      ap (λ (x : Progress). drop (x .past) (x .buffer)) (h .same) ∙ processing-past (complete s) p before 0 (omega arith) ∙ sym (ap (λ (x : Progress). drop (x .past) before) (h .same))
+
   processed-all : r .written + maxReply ≤ length filled → complete (drop (r .next) s) ≡ []
   processed-all room = ap (λ (x : Progress). x .left) (h .same) ∙ processing-all (complete s) p before 0 (subst (λ (x : Progress). x .past + maxReply ≤ length (x .buffer)) (h .same) room)
 
@@ -211,6 +251,7 @@ module _ {s : List ℕ} {p : Reference} {before : List ℕ} {r : Processed} {fil
         room = omega arith;
         lines = λ said. ap (λ (x : List ℕ). after (record { state = bookOpen p; replies = said }) (complete x)) (sym e) ∙ processed-lines said
             ∙ ap (λ (x : List ℕ). after (record { state = bookOpen (shows (r .book)); replies = said ++ take (r .written) filled }) (complete x)) d;
+        past = processed-past;
         rest = ap unfinished (sym d) ∙ h .rest ∙ ap unfinished e;
         all = λ k. ap complete (sym d) ∙ processed-all k;
         one = λ few k. ap complete (sym d) ∙ processed-one (subst (λ (x : List ℕ). length (complete x) ≤ 1) (sym e) few) k;

@@ -148,6 +148,7 @@ module _ {s before filled : List ℕ} {r : Answered} (isOpen : Bool) (p : Refere
             ∙ ap (after (record { state = lineOneAwaited; replies = said })) n
             ∙ ap (λ (q : Reference). after (record { state = bookOpen q; replies = said }) (complete (drop (e + 1) s))) (ap (λ (k : ℕ). opened (lineOne (take k (drop 0 s)))) z ∙ sym (o .same))
             ∙ a .lines said;
+        past = a .past;
         rest = a .rest ∙ sym (next-unfinished s 0 e is h);
         all = a .all;
         one = λ few k. a .one (let l = ap length n in omega arith) k;
@@ -163,6 +164,7 @@ none-answered s buffer book isOpen {e} f good is h =
       room = zero-le;
       lines = λ said. ap (λ (b : Bool). after (record { state = stateOf b (shows book); replies = said }) (complete (drop 0 s))) f
           ∙ ap (λ (w : List ℕ). after (record { state = lineOneAwaited; replies = w }) (complete (drop 0 s))) (sym (append-nil said));
+      past = refl;
       rest = refl;
       all = λ _. no-more s 0 e is h;
       one = λ _ _. no-more s 0 e is h;
@@ -184,15 +186,21 @@ module _ (stream : Stream) (input : List ℕ) (got : ℕ) {before filled : List 
   left : drop (r .next) part ≡ take (stream .to + got - (stream .from + r .next)) (drop (stream .from + r .next) input)
   left = part-rest input (stream .from) (stream .to + got) (r .next) answered-within fits
 
+  whole : part ≡ pendingOf stream input ++ block
+  whole = part-more input (stream .from) (stream .to) got (holds .order)
+
+  answered : (said : List ℕ) → after (transcriptOf stream said) (complete (pendingOf stream input ++ block))
+      ≡ after (record { state = stateOf (r .opened) (shows (r .book)); replies = said ++ take (r .written) filled }) (complete (drop (r .next) part))
+  answered said = ap (λ (x : List ℕ). after (transcriptOf stream said) (complete x)) (sym whole) ∙ a .lines said
+
   reached : (text said : List ℕ) → SoFar text (transcriptOf stream said) (pendingOf stream input) →
       SoFar (text ++ block) (record { state = stateOf (r .opened) (shows (r .book)); replies = said ++ take (r .written) filled }) (drop (r .next) part)
   reached text said h =
-      let w : part ≡ pendingOf stream input ++ block = part-more input (stream .from) (stream .to) got (holds .order) in
-      let m : SoFar (text ++ block) (transcriptOf stream said) part = subst (λ (x : List ℕ). SoFar (text ++ block) (transcriptOf stream said) x) (sym w) (read-more h block) in
+      let m : SoFar (text ++ block) (transcriptOf stream said) part = subst (λ (x : List ℕ). SoFar (text ++ block) (transcriptOf stream said) x) (sym whole) (read-more h block) in
       record { lines = sym (a .lines said) ∙ m .lines; rest = ap (take carried) (a .rest) ∙ m .rest }
 
   pub full-block : length filled - r .written < maxReply →
-      AnsweredBlock stream input got
+      AnsweredBlock stream input got before
       (record { stream = record { book = r .book; from = stream .from + r .next; to = stream .to + got; opened = r .opened }; written = r .written; more = true }) input filled
   full-block short =
       let room = a .room in
@@ -200,7 +208,12 @@ module _ (stream : Stream) (input : List ℕ) (got : ℕ) {before filled : List 
         holds = record { good = a .good; order = answered-within; within = fits };
         room = a .room;
         so-far = λ text said h. subst (λ (x : List ℕ). SoFar (text ++ block) (record { state = stateOf (r .opened) (shows (r .book)); replies = said ++ take (r .written) filled }) x) left (reached text said h);
+        past = a .past;
+        kept = λ _. refl;
         full = λ _. omega arith;
+        lines = λ said. answered said ∙ ap (λ (x : List ℕ). after (record { state = stateOf (r .opened) (shows (r .book)); replies = said ++ take (r .written) filled }) (complete x)) left;
+        left-over = λ _. ap unfinished (sym left) ∙ a .rest ∙ ap unfinished whole;
+        carried-over = λ e. absurd (let z : _≡_ {A = ℕ} 0 1 = cc in omega arith);
         short = λ e. absurd (let z : _≡_ {A = ℕ} 0 1 = cc in omega arith);
         none-left = λ e. absurd (let z : _≡_ {A = ℕ} 0 1 = cc in omega arith);
         all = λ e. absurd (let z : _≡_ {A = ℕ} 0 1 = cc in omega arith);
@@ -208,7 +221,7 @@ module _ (stream : Stream) (input : List ℕ) (got : ℕ) {before filled : List 
 
   pub last-block : (held : ℕ) (moved : List ℕ) → maxReply ≤ length filled - r .written → held ≡ min (stream .to + got - (stream .from + r .next)) carried →
       moved ≡ paste input 0 (drop (stream .from + r .next) input) held → held ≤ length moved →
-      AnsweredBlock stream input got (record { stream = record { book = r .book; from = 0; to = held; opened = r .opened }; written = r .written; more = false }) moved filled
+      AnsweredBlock stream input got before (record { stream = record { book = r .book; from = 0; to = held; opened = r .opened }; written = r .written; more = false }) moved filled
   last-block held moved space is bytes inside =
       let room = a .room in
       let none : complete (drop (r .next) part) ≡ [] = a .all (omega arith) in
@@ -223,7 +236,13 @@ module _ (stream : Stream) (input : List ℕ) (got : ℕ) {before filled : List 
             subst (λ (x : List ℕ). SoFar (text ++ block) (record { state = stateOf (r .opened) (shows (r .book)); replies = said ++ take (r .written) filled }) x) (sym pending)
             (carried-over (reached text said h) none);
         full = λ e. absurd (let z : _≡_ {A = ℕ} 0 1 = cc in omega arith);
+        past = a .past;
+        kept = λ e. absurd (let z : _≡_ {A = ℕ} 0 1 = cc in omega arith);
         short = λ _. omega arith;
+        lines = λ said. answered said
+            ∙ ap (after (record { state = stateOf (r .opened) (shows (r .book)); replies = said ++ take (r .written) filled })) (none ∙ sym (ap complete pending ∙ carried-none (drop (r .next) part) none));
+        left-over = λ e. absurd (let z : _≡_ {A = ℕ} 0 1 = cc in omega arith);
+        carried-over = λ _. pending ∙ ap (take carried) (sym (none-unfinished (drop (r .next) part) (none-unended (drop (r .next) part) none)) ∙ a .rest ∙ ap unfinished whole);
         none-left = λ _. ap complete pending ∙ carried-none (drop (r .next) part) none;
         all = λ _ text said h. all-said (reached text said h) none;
       }
@@ -236,33 +255,32 @@ last-line [] h = absurd (omega (arith, h))
 last-line (c ∷ s) h = refl
 
 module _ (stream : Stream) (input : List ℕ) {filled : List ℕ} where
-  pub finished-none : stream .to ≡ stream .from → Finished stream input 0 filled
+  pub finished-none : stream .to ≡ stream .from → Finished stream input filled 0 filled
   unfolding after lastLine
   finished-none e =
       let z : stream .to - stream .from ≡ 0 = omega arith in
       let p : pendingOf stream input ≡ [] = ap (λ (n : ℕ). take n (drop (stream .from) input)) z in
       record {
         room = zero-le;
+        past = refl;
+        last = λ none said. append-nil said ∙ ap (λ (x : List ℕ). after (transcriptOf stream said) (lastLine x) .replies) (sym p);
         all = λ none text said h. append-nil said ∙ ap (λ (x : List ℕ). after (transcriptOf stream said) (lastLine x) .replies) (sym p) ∙ last-said h none;
       }
 
   pub finished-last : {before : List ℕ} {r : Answered} → Holds stream input → stream .to < length input → (stream .to ≡ stream .from → ⊥) → maxReply ≤ length before →
       AnsweredLines (take (stream .to + 1 - stream .from) (drop (stream .from) (set input (stream .to) lineEnd))) 0 (stateOf (stream .opened) (shows (stream .book))) before r filled →
-      Finished stream input (r .written) filled
+      Finished stream input before (r .written) filled
   unfolding after
   finished-last {before} {r} holds within some room a =
-      let pending : List ℕ = pendingOf stream input in
-      let o = holds .order in
-      let w = part-ended input (stream .from) (stream .to) lineEnd o within in
-      let l = part-length input (stream .from) (stream .to) o (holds .within) in
-      record {
-        room = a .room;
-        all = λ none text said h.
-            let one = ap complete w ∙ ended-complete (pendingOf stream input) (none-unended (pendingOf stream input) none) in
-            let n = ap length one in
-            let left = a .one (omega arith) room in
-            sym (ap (λ (x : Transcript). x .replies)
-            (ap (after (transcriptOf stream said)) (last-line (pendingOf stream input) (omega arith) ∙ sym one) ∙ a .lines said
-            ∙ ap (after (record { state = stateOf (r .opened) (shows (r .book)); replies = said ++ take (r .written) filled })) left))
-            ∙ last-said h none;
-      }
+      record { room = a .room; past = a .past; last = last; all = λ none text said h. last none said ∙ last-said h none }
+    where
+      last : complete (pendingOf stream input) ≡ [] → (said : List ℕ) → said ++ take (r .written) filled ≡ after (transcriptOf stream said) (lastLine (pendingOf stream input)) .replies
+      last none said =
+          let o = holds .order in
+          let l = part-length input (stream .from) (stream .to) o (holds .within) in
+          let one = ap complete (part-ended input (stream .from) (stream .to) lineEnd o within) ∙ ended-complete (pendingOf stream input) (none-unended (pendingOf stream input) none) in
+          let n = ap length one in
+          let left = a .one (omega arith) room in
+          sym (ap (λ (x : Transcript). x .replies)
+          (ap (after (transcriptOf stream said)) (last-line (pendingOf stream input) (omega arith) ∙ sym one) ∙ a .lines said
+          ∙ ap (after (record { state = stateOf (r .opened) (shows (r .book)); replies = said ++ take (r .written) filled })) left))

@@ -4,7 +4,7 @@ use mathlib.Core.Path.{_≡_}
 use mathlib.Core.Bool.{Bool, true, false}
 use mathlib.Core.List.{List, [], _∷_, _++_}
 use lib.ListN.{length, take, drop}
-use Rattle.lines.specs.Lines.{complete, unfinished}
+use Rattle.lines.specs.Lines.{complete, unfinished, lastLine}
 use Rattle.line_text.specs.Opening.{lineOne}
 use Rattle.reference.specs.Reference.{Reference, opened, receive}
 use Rattle.book.specs.Shown.{Good, shows}
@@ -65,21 +65,31 @@ pub record Started (r : Stream) : Type 0 where
   pub none : r .to ≡ 0
   pub so-far : (input : List ℕ) → SoFar [] (transcriptOf r []) (pendingOf r input)
 
--- After `got` bytes more: all that was read so far is accounted for, and once no room is missing, the replies are those to all the lines that end.
-pub record AnsweredBlock (stream : Stream) (input : List ℕ) (got : ℕ) (r : Block) (input' buffer' : List ℕ) : Type 0 where
+-- After `got` bytes more: the lines that end in the bytes which were not answered before and in these are answered, as many as there is room for; what
+-- they leave unfinished is kept, or as much of it as is carried over. So all that was read so far is accounted for, and once no room is missing, the replies
+-- are those to all the lines that end in it. Of the input buffer nothing else is said once bytes were moved in it.
+pub record AnsweredBlock (stream : Stream) (input : List ℕ) (got : ℕ) (before : List ℕ) (r : Block) (input' buffer' : List ℕ) : Type 0 where
   pub holds : Holds (r .stream) input'
   pub room : r .written ≤ length buffer'
-  pub so-far : (text said : List ℕ) → SoFar text (transcriptOf stream said) (pendingOf stream input) →
-      SoFar (text ++ take got (drop (stream .to) input)) (transcriptOf (r .stream) (said ++ take (r .written) buffer')) (pendingOf (r .stream) input')
+  pub past : drop (r .written) buffer' ≡ drop (r .written) before
+  pub kept : r .more ≡ true → input' ≡ input
   pub full : r .more ≡ true → length buffer' < r .written + maxReply
   pub short : r .more ≡ false → r .stream .to ≤ carried
   pub none-left : r .more ≡ false → complete (pendingOf (r .stream) input') ≡ []
+  pub lines : (said : List ℕ) → after (transcriptOf stream said) (complete (pendingOf stream input ++ take got (drop (stream .to) input)))
+      ≡ after (transcriptOf (r .stream) (said ++ take (r .written) buffer')) (complete (pendingOf (r .stream) input'))
+  pub left-over : r .more ≡ true → unfinished (pendingOf (r .stream) input') ≡ unfinished (pendingOf stream input ++ take got (drop (stream .to) input))
+  pub carried-over : r .more ≡ false → pendingOf (r .stream) input' ≡ take carried (unfinished (pendingOf stream input ++ take got (drop (stream .to) input)))
+  pub so-far : (text said : List ℕ) → SoFar text (transcriptOf stream said) (pendingOf stream input) →
+      SoFar (text ++ take got (drop (stream .to) input)) (transcriptOf (r .stream) (said ++ take (r .written) buffer')) (pendingOf (r .stream) input')
   pub all : r .more ≡ false → (text said : List ℕ) → SoFar text (transcriptOf stream said) (pendingOf stream input) →
       said ++ take (r .written) buffer' ≡ session (complete (text ++ take got (drop (stream .to) input)))
 
--- At the end of the input: the replies are those to the whole text.
-pub record Finished (stream : Stream) (input : List ℕ) (r : ℕ) (buffer' : List ℕ) : Type 0 where
+-- At the end of the input: the last line is answered, if it isn't empty, and the replies are those to the whole text.
+pub record Finished (stream : Stream) (input before : List ℕ) (r : ℕ) (buffer' : List ℕ) : Type 0 where
   pub room : r ≤ length buffer'
+  pub past : drop r buffer' ≡ drop r before
+  pub last : complete (pendingOf stream input) ≡ [] → (said : List ℕ) → said ++ take r buffer' ≡ after (transcriptOf stream said) (lastLine (pendingOf stream input)) .replies
   pub all : complete (pendingOf stream input) ≡ [] → (text said : List ℕ) → SoFar text (transcriptOf stream said) (pendingOf stream input) →
       said ++ take r buffer' ≡ output text
 
@@ -90,6 +100,7 @@ pub record AnsweredLines (s : List ℕ) (from : ℕ) (state : State) (before : L
   pub room : r .written ≤ length buffer'
   pub lines : (said : List ℕ) → after (record { state = state; replies = said }) (complete (drop from s))
       ≡ after (record { state = stateOf (r .opened) (shows (r .book)); replies = said ++ take (r .written) buffer' }) (complete (drop (r .next) s))
+  pub past : drop (r .written) buffer' ≡ drop (r .written) before
   pub rest : unfinished (drop (r .next) s) ≡ unfinished (drop from s)
   pub all : r .written + maxReply ≤ length buffer' → complete (drop (r .next) s) ≡ []
   pub one : length (complete (drop from s)) ≤ 1 → maxReply ≤ length before → complete (drop (r .next) s) ≡ []

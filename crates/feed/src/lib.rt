@@ -116,7 +116,7 @@ pub fn answer(
     buffer: &mut [u8],
 ) -> Block
     requires { ⌜ Holds stream (now input) × (stream .to + got ≤ length (now input)) × ShiftTable (now table) ⌝ }
-    ensures { λ r. ⌜ AnsweredBlock stream (now (input .entry)) got r (now (input .exit)) (now (buffer .exit)) ⌝ }
+    ensures { λ r. ⌜ AnsweredBlock stream (now (input .entry)) got (now (buffer .entry)) r (now (input .exit)) (now (buffer .exit)) ⌝ }
 {
     let from = stream.from;
     let to = stream.to + got;
@@ -153,7 +153,7 @@ pub fn answer(
 // At the end of the input: lays the reply to the last line, if it has no line end and isn't empty, and answers how many bytes it has.
 pub fn finish(stream: Stream, input: &mut [u8], table: &[u32], buffer: &mut [u8]) -> usize
     requires { ⌜ Holds stream (now input) × (stream .to < length (now input)) × (maxReply ≤ length (now buffer)) × ShiftTable (now table) ⌝ }
-    ensures { λ r. ⌜ Finished stream (now (input .entry)) r (now (buffer .exit)) ⌝ }
+    ensures { λ r. ⌜ Finished stream (now (input .entry)) (now (buffer .entry)) r (now (buffer .exit)) ⌝ }
 {
     let from = stream.from;
     let to = stream.to;

@@ -1,3 +1,4 @@
 -- The claim of the code.
 pub mod Claims
 pub mod Lent
+pub mod Bursts

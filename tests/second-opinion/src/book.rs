@@ -114,8 +114,13 @@ impl Book {
     /// The answer number; the book is changed as the table says.
     pub fn take(&mut self, text: &[u8]) -> u8 {
         let Some(settings) = self.settings.clone() else { return 1 };
-        let refusal = match message::read(&settings, text) {
-            Ok(message) => self.apply(&settings, &message),
+        self.take_read(&settings, message::read(&settings, text))
+    }
+
+    /// As `take`, of a message that was read with these settings.
+    pub fn take_read(&mut self, settings: &Settings, read: Result<Message, Refusal>) -> u8 {
+        let refusal = match read {
+            Ok(message) => self.apply(settings, &message),
             Err(refusal) => Err(refusal),
         };
         match refusal {

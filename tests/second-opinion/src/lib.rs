@@ -2,6 +2,7 @@
 //! papers alone, plain and slow. The drivers hand both books the same calls
 //! and compare what they answer.
 
+pub mod aimed;
 pub mod book;
 pub mod crc;
 pub mod damage;
@@ -12,9 +13,11 @@ pub mod message;
 pub mod random;
 pub mod replay;
 pub mod script;
+pub mod seen;
 pub mod session;
 pub mod settings;
 pub mod sweep;
 pub mod tally;
 pub mod traffic;
 pub mod value;
+pub mod vectors;

@@ -3,9 +3,19 @@
 use crate::book::{Book, State};
 use crate::session::{Call, Session};
 use crate::settings::Settings;
+use std::fs::File;
 use std::io::{Read, Write};
 use std::path::Path;
 use std::process::{Command, Stdio};
+
+/// How a session is handed over.
+#[derive(Clone, Copy, Debug)]
+pub struct How {
+    /// The last line has its end.
+    pub finished: bool,
+    /// A file is standard input, in place of a pipe.
+    pub file: bool,
+}
 
 /// What the line program prints for `input`.
 pub fn lines(input: &[u8]) -> Vec<String> {
@@ -44,13 +54,16 @@ pub fn input(session: &Session, finished: bool) -> Vec<u8> {
 }
 
 /// What `program` prints for `input`, line by line.
-pub fn run(program: &Path, input: &[u8]) -> std::io::Result<Vec<String>> {
-    let mut child = Command::new(program).stdin(Stdio::piped()).stdout(Stdio::piped()).spawn()?;
-    let mut stdin = child.stdin.take().expect("piped");
+pub fn run(program: &Path, input: &[u8], file: bool) -> std::io::Result<Vec<String>> {
+    let stdin = if file { Stdio::from(file_of(input)?) } else { Stdio::piped() };
+    let mut child = Command::new(program).stdin(stdin).stdout(Stdio::piped()).spawn()?;
+    let pipe = child.stdin.take();
     let mut printed = Vec::new();
     std::thread::scope(|scope| -> std::io::Result<()> {
         // A program that stops early is told by its missing lines.
-        scope.spawn(move || drop(stdin.write_all(input)));
+        if let Some(mut pipe) = pipe {
+            scope.spawn(move || drop(pipe.write_all(input)));
+        }
         child.stdout.take().expect("piped").read_to_end(&mut printed)?;
         Ok(())
     })?;
@@ -68,22 +81,31 @@ pub fn run(program: &Path, input: &[u8]) -> std::io::Result<Vec<String>> {
     Ok(lines)
 }
 
+/// A file with these bytes, open at its start; its name is gone.
+fn file_of(input: &[u8]) -> std::io::Result<File> {
+    let path = std::env::temp_dir().join(format!("second-opinion-{}", std::process::id()));
+    std::fs::write(&path, input)?;
+    let file = File::open(&path)?;
+    std::fs::remove_file(&path)?;
+    Ok(file)
+}
+
 /// The first message whose line differs, counted from 0.
 pub fn first_difference(ours: &[String], theirs: &[String]) -> Option<usize> {
     (0..ours.len().max(theirs.len())).find(|&place| ours.get(place) != theirs.get(place))
 }
 
 /// Where `program` prints another line for the same calls.
-fn differs(program: &Path, session: &Session, finished: bool) -> std::io::Result<Option<usize>> {
-    let input = input(session, finished);
-    Ok(first_difference(&lines(&input), &run(program, &input)?))
+fn differs(program: &Path, session: &Session, how: How) -> std::io::Result<Option<usize>> {
+    let input = input(session, how.finished);
+    Ok(first_difference(&lines(&input), &run(program, &input, how.file)?))
 }
 
 /// A shorter session that still differs: up to the first difference, without the
 /// messages that it does not need.
-pub fn shortest(program: &Path, session: &Session, finished: bool) -> std::io::Result<Session> {
+pub fn shortest(program: &Path, session: &Session, how: How) -> std::io::Result<Session> {
     let mut short = session.clone();
-    if let Some(place) = differs(program, &short, finished)? {
+    if let Some(place) = differs(program, &short, how)? {
         short.calls.truncate(place + 1);
     }
     let mut place = short.calls.len();
@@ -91,7 +113,7 @@ pub fn shortest(program: &Path, session: &Session, finished: bool) -> std::io::R
         place -= 1;
         let mut shorter = short.clone();
         shorter.calls.remove(place);
-        if differs(program, &shorter, finished)?.is_some() {
+        if differs(program, &shorter, how)?.is_some() {
             short = shorter;
         }
     }
@@ -108,14 +130,14 @@ pub fn shown(text: &[u8]) -> String {
 }
 
 /// Compares one session; a difference is answered as a report.
-pub fn compare(program: &Path, session: &Session, finished: bool) -> std::io::Result<Option<String>> {
-    if differs(program, session, finished)?.is_none() {
+pub fn compare(program: &Path, session: &Session, how: How) -> std::io::Result<Option<String>> {
+    if differs(program, session, how)?.is_none() {
         return Ok(None);
     }
-    let short = shortest(program, session, finished)?;
-    let input = input(&short, finished);
-    let (ours, theirs) = (lines(&input), run(program, &input)?);
-    let mut report = format!("{}\n", shown(&input));
+    let short = shortest(program, session, how)?;
+    let input = input(&short, how.finished);
+    let (ours, theirs) = (lines(&input), run(program, &input, how.file)?);
+    let mut report = format!("{how:?}\n{}\n", shown(&input));
     for place in 0..ours.len().max(theirs.len()) {
         let line = |lines: &[String]| lines.get(place).cloned().unwrap_or("nothing".to_string());
         report += &format!("message {place}: here {}, there {}\n", line(&ours), line(&theirs));

@@ -18,6 +18,10 @@ pub enum Side {
     Ask,
 }
 
+impl Side {
+    pub const BOTH: [Side; 2] = [Side::Bid, Side::Ask];
+}
+
 #[derive(Clone, Copy, Debug, PartialEq, Eq)]
 pub enum Kind {
     Snapshot,

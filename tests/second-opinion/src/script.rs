@@ -16,6 +16,8 @@ pub struct Script {
     pub opening: Opening,
     pub parts: Vec<Vec<u8>>,
     pub out: Vec<u8>,
+    /// Every call is as the session has it, and has its room.
+    pub whole: bool,
 }
 
 /// How a script is run: the count of calls made; the replies are laid into the room.
@@ -26,7 +28,8 @@ pub type Run<'a> = &'a dyn Fn(&Opening, &[u8], &mut [u8]) -> usize;
 pub fn script(random: &mut Random, session: &Session, whole: bool) -> Script {
     let mut parts: Vec<Vec<u8>> = session.calls.iter().map(|call| part(random, call)).collect();
     let mut room: usize = parts.iter().map(|part| REPLY + word(part, 32) as usize).sum();
-    match if whole { 12 } else { random.below(12) } {
+    let fault = if whole { 12 } else { random.below(12) };
+    match fault {
         0 => room = random.below(room + 1),
         1 => room += random.below(100),
         2 => parts.push(garbage(random, HEADER + 7)),
@@ -35,7 +38,7 @@ pub fn script(random: &mut Random, session: &Session, whole: bool) -> Script {
         _ => {}
     }
     let out = garbage(random, room);
-    Script { opening: session.opening.clone(), parts, out }
+    Script { opening: session.opening.clone(), parts, out, whole: fault > 4 }
 }
 
 fn garbage(random: &mut Random, most: usize) -> Vec<u8> {

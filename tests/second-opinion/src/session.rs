@@ -124,7 +124,8 @@ pub fn session(random: &mut Random, purpose: Purpose, length: usize) -> Session 
 
 fn good_depth(random: &mut Random, dialect: Dialect) -> u64 {
     match dialect {
-        Dialect::K => random.pick(&[10, 10, 11, 25, 50, 99, 100]),
+        Dialect::K if random.percent(50) => random.between(10, 100) as u64,
+        Dialect::K => random.pick(&[10, 10, 11, 99, 100]),
         Dialect::M => 100,
     }
 }

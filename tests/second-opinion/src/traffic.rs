@@ -36,10 +36,15 @@ pub struct Draft {
 
 impl Market {
     pub fn new(random: &mut Random) -> Market {
-        let decimals = random.below(10) as u32;
         let spread = random.pick(&[3, 12, 60, 130, 400]);
+        let crossed = random.percent(25);
+        if random.percent(8) {
+            let middle = random.pick(&[1 << 63, (1 << 63) + 200, 9_999_999_999_999_990_000]);
+            return Market { decimals: 9, middle, spread, crossed };
+        }
+        let decimals = random.below(10) as u32;
         let middle = spread + 1 + random.next() % random.pick(&[1, 50, 100_000, 900_000_000]);
-        Market { decimals, middle, spread, crossed: random.percent(25) }
+        Market { decimals, middle, spread, crossed }
     }
 
     fn tick(&self, random: &mut Random, side: Side) -> u64 {
@@ -54,7 +59,7 @@ impl Market {
     /// A price above zero, now and then at the ends of what is allowed.
     pub fn price(&self, random: &mut Random, side: Side) -> String {
         if random.percent(1) {
-            let ends = ["9999999999.999999999", "0.000000001", "9999999999", "9999999999.0", "1", "0.1"];
+            let ends = ["9999999999.999999999", "9223372036.854775807", "9223372036.854775808", "0.000000001", "9999999999", "9999999999.0", "1", "0.1"];
             return random.pick(&ends).to_string();
         }
         let tick = Decimal { digits: self.tick(random, side), decimals: self.decimals };
@@ -63,7 +68,7 @@ impl Market {
 }
 
 /// The same value, with `chance` in a hundred with other decimals.
-fn respelled(random: &mut Random, decimal: Decimal, chance: usize) -> String {
+pub fn respelled(random: &mut Random, decimal: Decimal, chance: usize) -> String {
     let mut spelled = decimal;
     let chance = if random.percent(3) { 95 } else { chance };
     while spelled.decimals < 9 && random.percent(chance) {
@@ -81,6 +86,7 @@ pub fn size(random: &mut Random) -> String {
         0 => "9999999999.999999999".to_string(),
         1 => "0.000000001".to_string(),
         2 => "0.00000500".to_string(),
+        3 => large(random).text(),
         _ => {
             let decimals = random.below(10);
             let most = random.between(1, 9 + decimals) as u32;
@@ -88,6 +94,20 @@ pub fn size(random: &mut Random) -> String {
             Decimal { digits, decimals: decimals as u32 }.text()
         }
     }
+}
+
+/// 19 digits that are about 2^63 as one number, or above it.
+pub fn large(random: &mut Random) -> Decimal {
+    const AT: u64 = 1 << 63;
+    const END: u64 = 10_000_000_000_000_000_000;
+    let digits = match random.below(6) {
+        0 => AT - 1,
+        1 => AT,
+        2 => AT + 1,
+        3 => END - 1,
+        _ => AT + random.next() % (END - AT),
+    };
+    Decimal { digits, decimals: 9 }
 }
 
 pub fn zero(random: &mut Random) -> String {

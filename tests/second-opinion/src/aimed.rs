@@ -1,0 +1,377 @@
+//! Sessions aimed at the ends of the rules: full working sides, sides that pass
+//! 100 levels midway, every depth, the largest digits, bad first lines, long files.
+
+use crate::book::{Book, Scope, State};
+use crate::decimal::Decimal;
+use crate::message::{Kind, Side, MAX_ENTRIES, MAX_MESSAGE};
+use crate::random::Random;
+use crate::seen::{BLOCK, DEPTHS};
+use crate::session::{Call, Opening, Purpose, Session};
+use crate::settings::{Dialect, Settings};
+use crate::traffic::{finished, large, respelled, size, zero, Draft, Line};
+use crate::value::Blanks;
+
+const AT: u64 = 1 << 63;
+const LARGEST: u64 = 9_999_999_999_999_999_999;
+
+/// One session for each depth, and some for each other end.
+pub fn sessions(random: &mut Random, purpose: Purpose) -> Vec<Session> {
+    let mut all: Vec<Session> = DEPTHS.map(|depth| deep(random, purpose, depth)).collect();
+    for _ in 0..4 {
+        all.push(deep(random, purpose, 100));
+        all.push(overfull(random, purpose));
+        all.push(midway(random, purpose));
+    }
+    for dialect in [Dialect::K, Dialect::M] {
+        for base in [AT - 150, LARGEST - 250] {
+            all.push(digits(random, purpose, dialect, base));
+        }
+    }
+    all
+}
+
+/// One of them.
+pub fn one(random: &mut Random, purpose: Purpose) -> Session {
+    match random.below(5) {
+        0 => {
+            let depth = random.between(10, 100) as u64;
+            deep(random, purpose, depth)
+        }
+        1 => deep(random, purpose, 100),
+        2 => overfull(random, purpose),
+        3 => midway(random, purpose),
+        _ => {
+            let dialect = random.pick(&[Dialect::K, Dialect::M]);
+            let base = random.pick(&[AT - 150, LARGEST - 250]);
+            digits(random, purpose, dialect, base)
+        }
+    }
+}
+
+/// A session in the making, and the book so far.
+struct Making {
+    settings: Settings,
+    book: Book,
+    calls: Vec<Call>,
+    purpose: Purpose,
+}
+
+impl Making {
+    fn new(purpose: Purpose, dialect: Dialect, depth: u64) -> Making {
+        let settings = Settings { dialect, depth, name: b"XBT/USD".to_vec() };
+        Making { book: Book::open(Some(settings.clone())), settings, calls: vec![], purpose }
+    }
+
+    /// The draft as a message, with the checksum of the book after it.
+    fn text(&self, random: &mut Random, kind: Kind, lines: Vec<Line>) -> Vec<u8> {
+        let gsn = match kind {
+            Kind::Snapshot => random.below(1000).to_string(),
+            Kind::Update => (self.book.number + 1).to_string(),
+        };
+        let draft = finished(&self.book, Draft { kind, lines, checksum: String::new(), gsn });
+        draft.value(random, &self.settings).written(random, Blanks::None)
+    }
+
+    fn push(&mut self, text: Vec<u8>) {
+        self.book.take(&text);
+        self.calls.push(Call::Message(text));
+    }
+
+    fn send(&mut self, random: &mut Random, kind: Kind, lines: Vec<Line>) {
+        let text = self.text(random, kind, lines);
+        self.push(text);
+    }
+
+    /// Everything that the book shows; to the line program, an update that changes
+    /// nothing, whose checksum says what stands.
+    fn ask(&mut self, random: &mut Random) {
+        if self.purpose == Purpose::Lines {
+            if self.book.state == State::Live {
+                self.send(random, Kind::Update, vec![]);
+            }
+            return;
+        }
+        let scope = random.pick(&[Scope::Live, Scope::LastGood]);
+        for side in Side::BOTH {
+            let count = self.book.sides.side(side).len() as u64;
+            self.calls.extend((0..=count).map(|place| Call::Level(scope, side, place)));
+        }
+        let mut room = vec![0; 2 * MAX_MESSAGE];
+        let (_, length) = self.book.write(&mut room);
+        let writer = [Call::Write(length.saturating_sub(1)), Call::Write(length)];
+        self.calls.extend([Call::Levels(scope), Call::Number(scope), Call::Updates(scope)]);
+        self.calls.extend(writer);
+    }
+
+    fn made(self) -> Session {
+        let Settings { dialect, depth, name } = self.settings;
+        let opening = match self.purpose {
+            Purpose::Lines => Opening::Line([format!("{} {depth} ", dialect.letter()).as_bytes(), &name].concat()),
+            Purpose::Calls => Opening::Words { dialect: dialect.letter() as u8, depth, name },
+        };
+        Session { dialect, opening, calls: self.calls }
+    }
+}
+
+/// `count` different prices one after another from some base on, shuffled.
+fn prices(random: &mut Random, count: usize) -> Vec<Decimal> {
+    let base = random.pick(&[1, 95, 5_000_000_000, AT - 150, LARGEST - 250]);
+    prices_from(random, base, count)
+}
+
+fn prices_from(random: &mut Random, base: u64, count: usize) -> Vec<Decimal> {
+    let decimals = if base > AT / 2 { 9 } else { random.below(10) as u32 };
+    let step = |place: usize| Decimal { digits: base + place as u64, decimals };
+    let mut all: Vec<Decimal> = (0..count).map(step).collect();
+    random.shuffle(&mut all);
+    all
+}
+
+fn set(random: &mut Random, side: Side, price: Decimal) -> Line {
+    let size = if random.percent(20) { large(random).text() } else { size(random) };
+    Line { side, price: respelled(random, price, 10), size }
+}
+
+fn removal(random: &mut Random, side: Side, price: Decimal) -> Line {
+    Line { side, price: respelled(random, price, 10), size: zero(random) }
+}
+
+fn sets(random: &mut Random, side: Side, prices: &[Decimal]) -> Vec<Line> {
+    prices.iter().map(|&price| set(random, side, price)).collect()
+}
+
+/// A snapshot of 100 levels a side, cut to the depth, then 100 new ones on each:
+/// the working sides have `depth` + 100 levels.
+fn deep(random: &mut Random, purpose: Purpose, depth: u64) -> Session {
+    let mut making = Making::new(purpose, Dialect::K, depth);
+    let all = Side::BOTH.map(|side| (side, prices(random, 2 * MAX_ENTRIES)));
+    for (kind, part) in [(Kind::Snapshot, 0..MAX_ENTRIES), (Kind::Update, MAX_ENTRIES..2 * MAX_ENTRIES)] {
+        let lines = all.iter().flat_map(|(side, prices)| sets(random, *side, &prices[part.clone()])).collect();
+        making.send(random, kind, lines);
+    }
+    making.ask(random);
+    // One in, one out: only a cut after the whole message keeps the last level.
+    let gone = random.pick(&making.book.sides.asks).price;
+    let out = removal(random, Side::Ask, gone);
+    let back = all[1].1[random.below(2 * MAX_ENTRIES)];
+    let lines = vec![set(random, Side::Ask, back), out];
+    making.send(random, Kind::Update, lines);
+    making.ask(random);
+    making.made()
+}
+
+/// 100 levels stand in an M book and 100 more come: refused 12.
+fn overfull(random: &mut Random, purpose: Purpose) -> Session {
+    let mut making = Making::new(purpose, Dialect::M, 100);
+    let all = Side::BOTH.map(|side| (side, prices(random, 2 * MAX_ENTRIES)));
+    let lines = |random: &mut Random, from: usize, to: usize| -> Vec<Line> {
+        all.iter().flat_map(|(side, prices)| sets(random, *side, &prices[from..to])).collect()
+    };
+    let standing = lines(random, 0, MAX_ENTRIES);
+    making.send(random, Kind::Snapshot, standing.clone());
+    let mut coming = lines(random, MAX_ENTRIES, 2 * MAX_ENTRIES);
+    if random.percent(50) {
+        let side = random.pick(&Side::BOTH);
+        coming.retain(|line| line.side == side);
+    }
+    making.send(random, Kind::Update, coming);
+    if purpose == Purpose::Calls {
+        making.ask(random);
+    }
+    making.send(random, Kind::Snapshot, standing);
+    making.ask(random);
+    making.made()
+}
+
+/// M updates that pass 100 levels and end with at most 100, or now and then with 101.
+fn midway(random: &mut Random, purpose: Purpose) -> Session {
+    let mut making = Making::new(purpose, Dialect::M, 100);
+    let all = Side::BOTH.map(|_| prices(random, 250));
+    let standing = Side::BOTH.map(|_| random.pick(&[100, 100, 99, 80, 60]));
+    let mut lines = Vec::new();
+    for (place, side) in Side::BOTH.into_iter().enumerate() {
+        lines.extend(sets(random, side, &all[place][..standing[place]]));
+    }
+    making.send(random, Kind::Snapshot, lines);
+    for turn in 0..4 {
+        let mut lines = Vec::new();
+        for (place, side) in Side::BOTH.into_iter().enumerate() {
+            if turn < 2 || random.percent(70) {
+                lines.extend(through(random, &making.book, side, &all[place], turn));
+            }
+        }
+        making.send(random, Kind::Update, lines);
+        if purpose == Purpose::Calls || turn == 3 {
+            making.ask(random);
+        }
+        if making.book.state != State::Live {
+            break;
+        }
+    }
+    making.made()
+}
+
+/// New prices first, then removals of standing and new ones. In the first turn 100
+/// levels are left; in the last there may be one too many.
+fn through(random: &mut Random, book: &Book, side: Side, all: &[Decimal], turn: usize) -> Vec<Line> {
+    let mut standing: Vec<Decimal> = book.sides.side(side).iter().map(|level| level.price).collect();
+    let stands = |price: &&Decimal| !standing.iter().any(|other| other.value() == price.value());
+    let new: Vec<Decimal> = all.iter().filter(stands).copied().collect();
+    let count = standing.len();
+    // New ones and removals together are at most 100.
+    let coming = random.between(101 - count, (200 - count) / 2);
+    let least = count + coming - 100;
+    let going = match turn {
+        0 => least,
+        3 if random.percent(30) => least - 1,
+        _ => random.between(least, MAX_ENTRIES - coming),
+    };
+    let mut lines = sets(random, side, &new[..coming]);
+    standing.extend(&new[..coming]);
+    random.shuffle(&mut standing);
+    lines.extend(standing[..going].iter().map(|&price| removal(random, side, price)));
+    lines
+}
+
+/// Prices and sizes of 19 digits from `base` on, taken one after another.
+fn digits(random: &mut Random, purpose: Purpose, dialect: Dialect, base: u64) -> Session {
+    let depth = if dialect == Dialect::K { random.pick(&[10, 57, 100]) } else { 100 };
+    let mut making = Making::new(purpose, dialect, depth);
+    let all = prices_from(random, base, 240);
+    let line = |random: &mut Random, price: Decimal| {
+        let side = random.pick(&Side::BOTH);
+        Line { side, price: price.text(), size: large(random).text() }
+    };
+    let lines = all[..100].iter().map(|&price| line(random, price)).collect();
+    making.send(random, Kind::Snapshot, lines);
+    making.ask(random);
+    for part in all[100..].chunks(5) {
+        let mut lines: Vec<Line> = part.iter().map(|&price| line(random, price)).collect();
+        for side in Side::BOTH {
+            let standing = making.book.sides.side(side);
+            if standing.len() > 80 {
+                let places: Vec<usize> = (0..6).map(|_| random.below(standing.len())).collect();
+                lines.extend(places.iter().map(|&place| removal(random, side, standing[place].price)));
+            }
+        }
+        making.send(random, Kind::Update, lines);
+    }
+    making.ask(random);
+    making.made()
+}
+
+// The line program alone.
+
+/// Kinds of bad first lines.
+pub const FIRST_LINES: [&str; 16] = [
+    "first line missing", "first line empty", "first line with two blanks", "first line with a tab",
+    "first line with a trailing blank", "first line with a leading blank", "first line with byte 13",
+    "first line of dialect KK", "first line of dialect M1", "first line of depth 010 or 0100",
+    "first line of depth +10 or +100", "first line of a depth that is not allowed", "first line with a name of 17 bytes",
+    "first line with a name with a quote", "first line with a name with a backslash", "first line without a name",
+];
+
+/// The lines of a kind, as they are.
+fn bad_lines(kind: usize) -> &'static [&'static str] {
+    match kind {
+        0 | 1 => &[""],
+        2 => &["K  10 x", "K 10  x", "M  100 x", "M 100  x", "  "],
+        3 => &["K\t10 x", "K 10\tx", "M\t100 x", "M 100\tx", "K 10 x\t", "M 100 x\t"],
+        4 => &["K 10 x ", "M 100 x "],
+        5 => &[" K 10 x", " M 100 x"],
+        6 => &["K 10 x\r", "M 100 x\r", "\r", "K 10\r x", "K\r 10 x", "\rM 100 x"],
+        7 => &["KK 10 x", "KK 100 x"],
+        8 => &["M1 100 x", "M1 10 x"],
+        9 => &["K 010 x", "M 0100 x", "K 0100 x"],
+        10 => &["K +10 x", "M +100 x", "K +100 x"],
+        11 => &["K 9 x", "K 101 x", "M 99 x", "M 101 x", "M 10 x", "K 0 x", "K 10.0 x", "K 1e1 x", "M -100 x", "K 18446744073709551626 x"],
+        12 => &["K 10 0123456789abcdefg", "M 100 0123456789abcdefg"],
+        13 => &["K 10 x\"", "M 100 \"x", "K 10 \"", "M 100 x\"y"],
+        14 => &["K 10 x\\", "M 100 \\x"],
+        _ => &["K 10", "M 100", "K 10 ", "M 100 ", "K", "M", "K ", "M "],
+    }
+}
+
+/// Every bad first line with its kind, each before messages that a lenient reading of
+/// it would take. A missing line has nothing after it.
+pub fn bad_first_lines() -> Vec<(&'static str, Session)> {
+    let mut all = Vec::new();
+    for (kind, name) in FIRST_LINES.iter().enumerate() {
+        for line in bad_lines(kind) {
+            let calls = if kind == 0 { vec![] } else { lenient(line) };
+            let dialect = if line.contains('M') { Dialect::M } else { Dialect::K };
+            all.push((*name, Session { dialect, opening: Opening::Line(line.as_bytes().to_vec()), calls }));
+        }
+    }
+    all
+}
+
+/// Snapshots for the names and depths that the line might be read to have.
+fn lenient(line: &str) -> Vec<Call> {
+    let last = line.rsplit([' ', '\t', '\r']).find(|word| !word.is_empty()).unwrap_or("x");
+    let mut texts = vec![String::new(), "{".to_string()];
+    for name in ["x", last, last.get(..16).unwrap_or(last)] {
+        for depth in ["10", "010", "100", "0100", "9", "101", "99"] {
+            texts.push(format!("[0,{{\"as\":[],\"bs\":[]}},\"book-{depth}\",\"{name}\"]"));
+        }
+        texts.push(format!(
+            "{{\"channel\":\"book\",\"product\":\"{name}\",\"type\":\"snapshot\",\"data\":{{\"bids\":[],\"asks\":[]}},\"checksum\":0,\"gsn\":1}}"
+        ));
+    }
+    texts.into_iter().map(|text| Call::Message(text.into_bytes())).collect()
+}
+
+/// Inputs of some blocks: lines that end at a block's end, next to it and far from it,
+/// and inputs that end there.
+pub fn files(random: &mut Random) -> Vec<Session> {
+    let mut all = Vec::new();
+    for dialect in [Dialect::K, Dialect::M] {
+        for past in [-2, -1, 0, 1, 2, 700] {
+            all.push(file(random, dialect, past, false));
+            all.push(file(random, dialect, past, true));
+        }
+    }
+    all
+}
+
+/// Right messages, some of them with blanks at the end, so that a line end lies `past`
+/// bytes past the end of each block; more after it, unless the input ends there.
+fn file(random: &mut Random, dialect: Dialect, past: i64, ends: bool) -> Session {
+    let mut making = Making::new(Purpose::Lines, dialect, 100);
+    let all = Side::BOTH.map(|_| prices(random, 120));
+    let mut length = format!("{} 100 XBT/USD\n", dialect.letter()).len();
+    let blocks = if ends { random.between(1, 2) } else { 3 };
+    for block in 1..=blocks {
+        let end = (block * BLOCK).saturating_add_signed(past as isize);
+        while length + 20_000 < end {
+            let text = busy(random, &making, &all);
+            length += text.len() + 1;
+            making.push(text);
+        }
+        let mut text = making.text(random, Kind::Snapshot, vec![]);
+        text.resize((end - length - 1).max(text.len()), random.pick(b" \t\r"));
+        length += text.len() + 1;
+        making.push(text);
+    }
+    if !ends {
+        let long = random.pick(&[MAX_MESSAGE + 1, BLOCK - 1, BLOCK, BLOCK + 1, 3 * BLOCK + 5]);
+        let texts = [busy(random, &making, &all), vec![b' '; long]];
+        texts.into_iter().for_each(|text| making.push(text));
+        making.send(random, Kind::Snapshot, vec![]);
+    }
+    making.made()
+}
+
+/// A snapshot, or an update that leaves no more than 100 levels in an M book.
+fn busy(random: &mut Random, making: &Making, all: &[Vec<Decimal>; 2]) -> Vec<u8> {
+    let fresh = making.book.state != State::Live || random.percent(20);
+    let mut lines = Vec::new();
+    for (place, side) in Side::BOTH.into_iter().enumerate() {
+        let count = random.between(0, MAX_ENTRIES);
+        for &price in &all[place][..count] {
+            let remove = !fresh && random.percent(40);
+            lines.push(if remove { removal(random, side, price) } else { set(random, side, price) });
+        }
+    }
+    making.text(random, if fresh { Kind::Snapshot } else { Kind::Update }, lines)
+}

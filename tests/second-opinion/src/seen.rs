@@ -1,0 +1,189 @@
+//! What came up in the calls that were compared, beside the answer numbers: the
+//! ends of the rules that chance alone would rarely reach.
+
+use crate::book::{Book, Scope};
+use crate::message::{self, Entry, Kind, Level, Message, Side};
+use crate::session::{Call, Session};
+use crate::settings::{Dialect, Settings};
+use std::collections::{BTreeMap, BTreeSet, HashSet};
+
+pub const FULL_K: &str = "working side of 200 levels, K, taken";
+pub const FULL_M: &str = "working side of 200 levels, M, refused 12";
+pub const MIDWAY: &str = "over 100 levels midway, M, taken";
+pub const MIDWAY_FULL: &str = "over 100 levels midway and 100 at the end, M, taken";
+pub const PRICE_BELOW: &str = "price of 2^63 - 1 digits, taken";
+pub const PRICE_AT: &str = "price of 2^63 digits, taken";
+pub const PRICE_ABOVE: &str = "price above 2^63 digits, taken";
+pub const SIZE_BELOW: &str = "size of 2^63 - 1 digits, taken";
+pub const SIZE_AT: &str = "size of 2^63 digits, taken";
+pub const SIZE_ABOVE: &str = "size above 2^63 digits, taken";
+pub const PRICE_SHOWN: &str = "level shown, price of 2^63 digits or above";
+pub const SIZE_SHOWN: &str = "level shown, size of 2^63 digits or above";
+pub const FILE: &str = "file longer than a block";
+pub const ACROSS: &str = "file with a line across a block's end";
+pub const AT_END: &str = "file with a line end at a block's end";
+pub const CHECKED: &str = "first bad text asked for";
+pub const BAD_PRICE: &str = "first bad text, a price";
+pub const BAD_SIZE: &str = "first bad text, a size";
+pub const BAD_NONE: &str = "first bad text, none";
+
+/// What every run has to bring up.
+const ALWAYS: [&str; 10] = [
+    FULL_K, FULL_M, MIDWAY, MIDWAY_FULL, PRICE_BELOW, PRICE_AT, PRICE_ABOVE, SIZE_BELOW, SIZE_AT, SIZE_ABOVE,
+];
+/// What a run of every call has to bring up.
+const CALLS: [&str; 2] = [PRICE_SHOWN, SIZE_SHOWN];
+/// What a run against the line program has to bring up, beside the bad first lines.
+const LINES: [&str; 3] = [FILE, ACROSS, AT_END];
+/// What a run with the program for the first bad text has to bring up.
+const BAD: [&str; 4] = [CHECKED, BAD_PRICE, BAD_SIZE, BAD_NONE];
+
+/// The depths of K.
+pub const DEPTHS: std::ops::RangeInclusive<u64> = 10..=100;
+
+/// The block of bytes whose ends a file is to have lines across.
+pub const BLOCK: usize = 65_536;
+
+#[derive(Default)]
+pub struct Seen {
+    counts: BTreeMap<String, u64>,
+    /// The K depths to which a side was cut.
+    depths: BTreeSet<u64>,
+}
+
+/// What a run compares with.
+#[derive(Clone, Copy)]
+pub struct Against {
+    pub lines: bool,
+    pub first_bad: bool,
+}
+
+impl Seen {
+    pub fn count(&mut self, name: &str) {
+        *self.counts.entry(name.to_string()).or_insert(0) += 1;
+    }
+
+    pub fn times(&self, name: &str) -> u64 {
+        self.counts.get(name).copied().unwrap_or(0)
+    }
+
+    /// Runs the session on this book once more and counts.
+    pub fn session(&mut self, session: &Session) {
+        let mut book = Book::open(session.opening.settings());
+        let Some(settings) = book.settings.clone() else { return };
+        for call in &session.calls {
+            match call {
+                Call::Message(text) => self.message(&mut book, &settings, text),
+                Call::Level(scope, side, place) => self.level(&book, *scope, *side, *place),
+                _ => {}
+            }
+        }
+    }
+
+    fn level(&mut self, book: &Book, scope: Scope, side: Side, place: u64) {
+        let (_, level) = book.level(scope, side, place);
+        if level.price.digits >= 1 << 63 {
+            self.count(PRICE_SHOWN);
+        }
+        if level.size.digits >= 1 << 63 {
+            self.count(SIZE_SHOWN);
+        }
+    }
+
+    fn message(&mut self, book: &mut Book, settings: &Settings, text: &[u8]) {
+        let read = message::read(settings, text);
+        let worked = read.as_ref().ok().map(|message| Side::BOTH.map(|side| worked(book, message, side)));
+        let levels: Vec<Level> = read.iter().flat_map(|message| &message.entries).map(|entry| entry.level).collect();
+        let answer = book.take_read(settings, read);
+        let Some(worked) = worked else { return };
+        for (most, end) in worked {
+            match (settings.dialect, answer) {
+                (Dialect::K, 0) => {
+                    if most == 200 {
+                        self.count(FULL_K);
+                    }
+                    if end > settings.depth as usize {
+                        self.depths.insert(settings.depth);
+                    }
+                }
+                (Dialect::M, 12) if most == 200 => self.count(FULL_M),
+                (Dialect::M, 0) if most > 100 => {
+                    self.count(MIDWAY);
+                    if end == 100 {
+                        self.count(MIDWAY_FULL);
+                    }
+                }
+                _ => {}
+            }
+        }
+        if answer == 0 {
+            levels.iter().for_each(|level| self.digits(level));
+        }
+    }
+
+    fn digits(&mut self, level: &Level) {
+        const AT: u64 = 1 << 63;
+        for (digits, names) in [
+            (level.price.digits, [PRICE_BELOW, PRICE_AT, PRICE_ABOVE]),
+            (level.size.digits, [SIZE_BELOW, SIZE_AT, SIZE_ABOVE]),
+        ] {
+            if digits + 1 == AT {
+                self.count(names[0]);
+            } else if digits == AT {
+                self.count(names[1]);
+            } else if digits > AT {
+                self.count(names[2]);
+            }
+        }
+    }
+
+    /// An input that was handed over as a file.
+    pub fn file(&mut self, input: &[u8]) {
+        if input.len() <= BLOCK {
+            return;
+        }
+        self.count(FILE);
+        self.count(if input[BLOCK - 1] == b'\n' { AT_END } else { ACROSS });
+    }
+
+    /// What did not come up and had to.
+    pub fn missing(&self, against: Against, first_lines: &[&str]) -> Vec<String> {
+        let mut wanted: Vec<&str> = ALWAYS.to_vec();
+        if against.lines {
+            wanted.extend(LINES);
+            wanted.extend(first_lines);
+        } else {
+            wanted.extend(CALLS);
+        }
+        if against.first_bad {
+            wanted.extend(BAD);
+        }
+        let mut missing: Vec<String> =
+            wanted.iter().filter(|name| self.times(name) == 0).map(|name| name.to_string()).collect();
+        missing.extend(DEPTHS.filter(|depth| !self.depths.contains(depth)).map(|depth| format!("K depth {depth}")));
+        missing
+    }
+
+    /// A line for each, with how often it came up.
+    pub fn report(&self) -> String {
+        let line = |(name, times): (&String, &u64)| format!("{times:>9}  {name}\n");
+        let depths = format!("{:>9}  K depths to which a side was cut\n", self.depths.len());
+        self.counts.iter().map(line).collect::<String>() + &depths
+    }
+}
+
+/// The most levels that a side has while the message is worked, and how many before any cut.
+fn worked(book: &Book, message: &Message, side: Side) -> (usize, usize) {
+    let standing: &[Level] = if message.kind == Kind::Update { book.sides.side(side) } else { &[] };
+    let mut prices: HashSet<u128> = standing.iter().map(|level| level.price.value()).collect();
+    let mut most = prices.len();
+    for Entry { level, .. } in message.entries.iter().filter(|entry| entry.side == side) {
+        if level.size.is_zero() {
+            prices.remove(&level.price.value());
+        } else {
+            prices.insert(level.price.value());
+        }
+        most = most.max(prices.len());
+    }
+    (most, prices.len())
+}

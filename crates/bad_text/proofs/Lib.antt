@@ -1,0 +1,2 @@
+-- Words that are laid.
+pub mod Placing

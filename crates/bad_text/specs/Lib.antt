@@ -1,0 +1,2 @@
+-- What is laid.
+pub mod Words

@@ -2,6 +2,7 @@
 //! 100 levels midway, every depth, the largest digits, bad first lines, long files.
 
 use crate::book::{Book, Scope, State};
+use crate::damage::BAD_DECIMALS;
 use crate::decimal::Decimal;
 use crate::message::{Kind, Side, MAX_ENTRIES, MAX_MESSAGE};
 use crate::random::Random;
@@ -26,13 +27,15 @@ pub fn sessions(random: &mut Random, purpose: Purpose) -> Vec<Session> {
         for base in [AT - 150, LARGEST - 250] {
             all.push(digits(random, purpose, dialect, base));
         }
+        all.push(bad_texts(random, purpose, dialect));
     }
     all
 }
 
 /// One of them.
 pub fn one(random: &mut Random, purpose: Purpose) -> Session {
-    match random.below(5) {
+    let dialect = random.pick(&[Dialect::K, Dialect::M]);
+    match random.below(6) {
         0 => {
             let depth = random.between(10, 100) as u64;
             deep(random, purpose, depth)
@@ -40,8 +43,8 @@ pub fn one(random: &mut Random, purpose: Purpose) -> Session {
         1 => deep(random, purpose, 100),
         2 => overfull(random, purpose),
         3 => midway(random, purpose),
+        4 => bad_texts(random, purpose, dialect),
         _ => {
-            let dialect = random.pick(&[Dialect::K, Dialect::M]);
             let base = random.pick(&[AT - 150, LARGEST - 250]);
             digits(random, purpose, dialect, base)
         }
@@ -257,6 +260,29 @@ fn digits(random: &mut Random, purpose: Purpose, dialect: Dialect, base: u64) ->
         making.send(random, Kind::Update, lines);
     }
     making.ask(random);
+    making.made()
+}
+
+/// Messages with one to four texts that break check 8, or with zeros that may not.
+fn bad_texts(random: &mut Random, purpose: Purpose, dialect: Dialect) -> Session {
+    let mut making = Making::new(purpose, dialect, 100);
+    let all = prices(random, MAX_ENTRIES);
+    for _ in 0..100 {
+        let kind = random.pick(&[Kind::Snapshot, Kind::Update]);
+        let count = random.pick(&[1, 2, 5, MAX_ENTRIES]);
+        let mut lines = Vec::new();
+        for side in Side::BOTH {
+            lines.extend(sets(random, side, &all[..count]));
+        }
+        for _ in 0..random.between(1, 4) {
+            let any = random.below(2 * count);
+            let place = random.pick(&[0, count - 1, count, 2 * count - 1, any]);
+            let bad = if random.percent(30) { zero(random) } else { random.pick(&BAD_DECIMALS).to_string() };
+            let line = &mut lines[place];
+            *(if random.percent(50) { &mut line.price } else { &mut line.size }) = bad;
+        }
+        making.send(random, kind, lines);
+    }
     making.made()
 }
 

@@ -7,7 +7,7 @@ use crate::settings::{Dialect, Settings};
 use crate::traffic::{finished, size, zero, Draft, Line, Market};
 use crate::value::{key, nested, quoted, raw, stray, text, Value, NAMES};
 
-const BAD_DECIMALS: [&str; 31] = [
+pub const BAD_DECIMALS: [&str; 31] = [
     "", ".", "5.", ".5", "05", "00", "00.5", "-1", "+1", "1e1", "1E1", "1.2.3", " 1", "1 ", "10000000000",
     "0.0000000001", "1.0000000000", "1,5", "x", "0x1", "1.", "\\u0031", "1\\u002e5", "\u{e9}", "12345678901", "NaN",
     "1..2", "-0", "99999999999999999999", "1/", "1:",

@@ -97,7 +97,7 @@ impl Run {
         }
         let enough = self.done + self.options.calls;
         while self.done < enough {
-            if self.random.percent(3) {
+            if self.random.percent(6) {
                 let session = aimed::one(&mut self.random, purpose);
                 self.one(&session, Way::Drawn)?;
             }

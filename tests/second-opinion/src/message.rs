@@ -71,7 +71,7 @@ struct Written<'a> {
 pub fn read(settings: &Settings, message: &[u8]) -> Result<Message, Refusal> {
     let tree = tree(message)?;
     let layout = layout(settings, message, &tree)?;
-    if first_bad_node(message, &layout).is_some() {
+    if layout.entries.iter().any(|entry| !entry.bad_texts(message, layout.kind).is_empty()) {
         return Err(8);
     }
     let entries: Vec<Entry> = layout.entries.iter().map(|written| written.meaning(message)).collect();
@@ -81,15 +81,30 @@ pub fn read(settings: &Settings, message: &[u8]) -> Result<Message, Refusal> {
     Ok(Message { kind: layout.kind, entries, checksum: layout.checksum, gsn: layout.gsn })
 }
 
+/// A text that breaks check 8, and where it stands, with its quotes.
+#[derive(Clone, Debug, PartialEq, Eq)]
+pub struct BadText {
+    pub side: Side,
+    /// Else it is a size.
+    pub is_price: bool,
+    pub place: Range<usize>,
+}
+
+/// Every text that breaks check 8, in message order; none if the settings are bad or
+/// one of checks 2 to 7 refuses.
+pub fn bad_texts(settings: Option<&Settings>, message: &[u8]) -> Vec<BadText> {
+    let find = || -> Option<Vec<BadText>> {
+        let tree = tree(message).ok()?;
+        let layout = layout(settings?, message, &tree).ok()?;
+        Some(layout.entries.iter().flat_map(|entry| entry.bad_texts(message, layout.kind)).collect())
+    };
+    find().unwrap_or_default()
+}
+
 /// Where the first text stands that breaks check 8, with its quotes; else the
 /// empty part at the message's start.
 pub fn first_bad(settings: Option<&Settings>, message: &[u8]) -> Range<usize> {
-    let find = || -> Option<Range<usize>> {
-        let tree = tree(message).ok()?;
-        let layout = layout(settings?, message, &tree).ok()?;
-        first_bad_node(message, &layout).map(|node| node.start..node.end)
-    };
-    find().unwrap_or(0..0)
+    bad_texts(settings, message).first().map_or(0..0, |bad| bad.place.clone())
 }
 
 /// Checks 2 and 3.
@@ -114,27 +129,21 @@ fn layout<'a>(settings: &Settings, message: &[u8], tree: &'a Node) -> Result<Lay
     Ok(layout)
 }
 
-fn first_bad_node<'a>(message: &[u8], layout: &Layout<'a>) -> Option<&'a Node> {
-    layout.entries.iter().find_map(|entry| entry.first_bad(message, layout.kind))
-}
-
 fn names_twice(entries: &[Entry]) -> bool {
     let mut seen = HashSet::new();
     entries.iter().any(|entry| !seen.insert((entry.side, entry.level.price.value())))
 }
 
-impl<'a> Written<'a> {
-    /// The first of price and size that breaks check 8.
-    fn first_bad(&self, message: &[u8], kind: Kind) -> Option<&'a Node> {
+impl Written<'_> {
+    /// Those of price and size that break check 8.
+    fn bad_texts(&self, message: &[u8], kind: Kind) -> Vec<BadText> {
         let zero_allowed = kind == Kind::Update;
-        match decimal(message, self.price) {
-            Some(price) if !price.is_zero() => {}
-            _ => return Some(self.price),
-        }
-        match decimal(message, self.size) {
-            Some(size) if zero_allowed || !size.is_zero() => None,
-            _ => Some(self.size),
-        }
+        let price_good = decimal(message, self.price).is_some_and(|price| !price.is_zero());
+        let size_good = decimal(message, self.size).is_some_and(|size| zero_allowed || !size.is_zero());
+        let bad = |node: &Node, is_price| BadText { side: self.side, is_price, place: node.start..node.end };
+        let price = (!price_good).then(|| bad(self.price, true));
+        let size = (!size_good).then(|| bad(self.size, false));
+        price.into_iter().chain(size).collect()
     }
 
     /// Of an entry that breaks nothing.

@@ -2,7 +2,7 @@
 //! ends of the rules that chance alone would rarely reach.
 
 use crate::book::{Book, Scope};
-use crate::message::{self, Entry, Kind, Level, Message, Side};
+use crate::message::{self, BadText, Entry, Kind, Level, Message, Side};
 use crate::session::{Call, Session};
 use crate::settings::{Dialect, Settings};
 use std::collections::{BTreeMap, BTreeSet, HashSet};
@@ -11,20 +11,23 @@ pub const FULL_K: &str = "working side of 200 levels, K, taken";
 pub const FULL_M: &str = "working side of 200 levels, M, refused 12";
 pub const MIDWAY: &str = "over 100 levels midway, M, taken";
 pub const MIDWAY_FULL: &str = "over 100 levels midway and 100 at the end, M, taken";
-pub const PRICE_BELOW: &str = "price of 2^63 - 1 digits, taken";
-pub const PRICE_AT: &str = "price of 2^63 digits, taken";
-pub const PRICE_ABOVE: &str = "price above 2^63 digits, taken";
-pub const SIZE_BELOW: &str = "size of 2^63 - 1 digits, taken";
-pub const SIZE_AT: &str = "size of 2^63 digits, taken";
-pub const SIZE_ABOVE: &str = "size above 2^63 digits, taken";
-pub const PRICE_SHOWN: &str = "level shown, price of 2^63 digits or above";
-pub const SIZE_SHOWN: &str = "level shown, size of 2^63 digits or above";
+pub const PRICE_BELOW: &str = "price with the digits 2^63 - 1, taken";
+pub const PRICE_AT: &str = "price with the digits 2^63, taken";
+pub const PRICE_ABOVE: &str = "price with digits above 2^63, taken";
+pub const SIZE_BELOW: &str = "size with the digits 2^63 - 1, taken";
+pub const SIZE_AT: &str = "size with the digits 2^63, taken";
+pub const SIZE_ABOVE: &str = "size with digits above 2^63, taken";
+pub const PRICE_SHOWN: &str = "level shown, price with the digits 2^63 or above";
+pub const SIZE_SHOWN: &str = "level shown, size with the digits 2^63 or above";
 pub const FILE: &str = "file longer than a block";
 pub const ACROSS: &str = "file with a line across a block's end";
 pub const AT_END: &str = "file with a line end at a block's end";
 pub const CHECKED: &str = "first bad text asked for";
 pub const BAD_PRICE: &str = "first bad text, a price";
 pub const BAD_SIZE: &str = "first bad text, a size";
+pub const BAD_ASK: &str = "first bad text, on an ask before a bad bid";
+pub const BAD_BID: &str = "first bad text, on a bid before a bad ask";
+pub const BAD_BOTH: &str = "first bad text, a price before a bad size";
 pub const BAD_NONE: &str = "first bad text, none";
 
 /// What every run has to bring up.
@@ -36,7 +39,7 @@ const CALLS: [&str; 2] = [PRICE_SHOWN, SIZE_SHOWN];
 /// What a run against the line program has to bring up, beside the bad first lines.
 const LINES: [&str; 3] = [FILE, ACROSS, AT_END];
 /// What a run with the program for the first bad text has to bring up.
-const BAD: [&str; 4] = [CHECKED, BAD_PRICE, BAD_SIZE, BAD_NONE];
+const BAD: [&str; 7] = [CHECKED, BAD_PRICE, BAD_SIZE, BAD_ASK, BAD_BID, BAD_BOTH, BAD_NONE];
 
 /// The depths of K.
 pub const DEPTHS: std::ops::RangeInclusive<u64> = 10..=100;
@@ -134,6 +137,19 @@ impl Seen {
             } else if digits > AT {
                 self.count(names[2]);
             }
+        }
+    }
+
+    /// The texts of a message that break check 8, where the first was compared.
+    pub fn bad_texts(&mut self, texts: &[BadText]) {
+        self.count(CHECKED);
+        let Some(first) = texts.first() else { return self.count(BAD_NONE) };
+        self.count(if first.is_price { BAD_PRICE } else { BAD_SIZE });
+        if texts.iter().any(|other| other.side != first.side) {
+            self.count(if first.side == Side::Ask { BAD_ASK } else { BAD_BID });
+        }
+        if first.is_price && texts.get(1).is_some_and(|second| !second.is_price) {
+            self.count(BAD_BOTH);
         }
     }
 

@@ -3,8 +3,8 @@
 //! says the first of checks 1 to 8 that refuses, where the first bad text lies, and the text.
 
 use crate::lines::{first_difference, run, shown};
-use crate::message::{self, first_bad};
-use crate::seen::{self, Seen};
+use crate::message::{self, bad_texts, BadText};
+use crate::seen::Seen;
 use crate::session::{Call, Session};
 use crate::settings::Settings;
 use std::path::Path;
@@ -12,19 +12,21 @@ use std::path::Path;
 /// No more than this is handed over at once.
 const MOST: usize = 200_000;
 
-/// The end of the line for a message, from its first bad text on; the number before it.
-pub fn expected(settings: Option<&Settings>, text: &[u8]) -> (u8, String) {
+/// The line for a message whose texts that break check 8 are `bad`, without what is
+/// said of a message that passes.
+pub fn expected(settings: Option<&Settings>, text: &[u8], bad: &[BadText]) -> String {
     let number = match settings.map(|settings| message::read(settings, text)) {
         None => 1,
         Some(Err(number @ 2..=8)) => number,
         Some(_) => 0,
     };
-    let bad = first_bad(settings, text);
-    let mut end = format!("bad {} {}", bad.start, bad.end);
-    if !bad.is_empty() {
-        end += &format!(" {}", String::from_utf8_lossy(&text[bad]));
+    match bad.first() {
+        None => format!("{number} bad 0 0"),
+        Some(BadText { place, .. }) => {
+            let first = String::from_utf8_lossy(&text[place.clone()]);
+            format!("{number} bad {} {} {first}", place.start, place.end)
+        }
     }
-    (number, end)
 }
 
 /// The line that was printed, without what is said of a message that passes.
@@ -73,15 +75,33 @@ pub fn compare(program: &Path, session: &Session, seen: &mut Seen) -> std::io::R
 }
 
 fn counted(settings: Option<&Settings>, text: &[u8], seen: &mut Seen) -> String {
-    let (number, end) = expected(settings, text);
-    seen.count(seen::CHECKED);
-    let bad = first_bad(settings, text);
-    // A price follows the bracket of its entry.
-    let before = text[..bad.start].iter().rev().find(|byte| !b" \t\r\n".contains(byte));
-    seen.count(match before {
-        _ if bad.is_empty() => seen::BAD_NONE,
-        Some(b'[') => seen::BAD_PRICE,
-        _ => seen::BAD_SIZE,
-    });
-    format!("{number} {end}")
+    let bad = bad_texts(settings, text);
+    seen.bad_texts(&bad);
+    expected(settings, text, &bad)
+}
+
+#[cfg(test)]
+mod tests {
+    use super::*;
+    use crate::settings::Dialect;
+
+    fn told(settings: Option<&Settings>, text: &str) -> String {
+        expected(settings, text.as_bytes(), &bad_texts(settings, text.as_bytes()))
+    }
+
+    #[test]
+    fn what_is_said() {
+        let settings = Settings::good(Dialect::K, 10, b"a");
+        let text = |asks: &str| format!("[0,{{\"as\":[{asks}],\"bs\":[]}},\"book-10\",\"a\"]");
+        let told_of = |asks: &str| told(settings.as_ref(), &text(asks));
+        assert_eq!(told_of("[\"1\",\"1\",\"\"]"), "0 bad 0 0");
+        assert_eq!(told_of("[\"1\",\"0\",\"\"]"), "8 bad 15 18 \"0\"");
+        assert_eq!(told_of("[\"\",\"0\",\"\"]"), "8 bad 11 13 \"\"");
+        assert_eq!(told_of("[\"1\",0,\"\"]"), "6 bad 0 0");
+        // Check 9 is none of these.
+        assert_eq!(told_of("[\"1\",\"1\",\"\"],[\"1\",\"1\",\"\"]"), "0 bad 0 0");
+        assert_eq!(told(None, &text("[\"1\",\"0\",\"\"]")), "1 bad 0 0");
+        assert_eq!(shortened("0 snapshot bids 3 0 asks 4 0 number 7 bad 0 0"), "0 bad 0 0");
+        assert_eq!(shortened("8 bad 1 6 \"bad\""), "8 bad 1 6 \"bad\"");
+    }
 }

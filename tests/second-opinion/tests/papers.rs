@@ -157,6 +157,47 @@ fn the_first_bad_decimal() {
     assert_eq!(first_bad(settings.as_ref(), b"["), 0..0);
 }
 
+/// The first bad text of a message of product or pair `a`.
+fn bad_of(dialect: Dialect, message: &str) -> &str {
+    let depth = if dialect == Dialect::K { 10 } else { 100 };
+    &message[first_bad(Settings::good(dialect, depth, b"a").as_ref(), message.as_bytes())]
+}
+
+#[test]
+fn the_first_bad_decimal_in_message_order() {
+    let k = |objects: &str| bad_of(Dialect::K, &format!(r#"[0,{objects},"book-10","a"]"#)).to_string();
+    // As written, whichever side and object; a price before its size.
+    assert_eq!(k(r#"{"a":[["1","x","t"]]},{"b":[["y","1","t"]],"c":"0"}"#), r#""x""#);
+    assert_eq!(k(r#"{"b":[["y","1","t"]]},{"a":[["1","x","t"]],"c":"0"}"#), r#""y""#);
+    assert_eq!(k(r#"{"bs":[["1","1","t"],["0.0","","t"]],"as":[["","","t"]]}"#), r#""0.0""#);
+    assert_eq!(k(r#"{"as":[["1","0","t"]],"bs":[]}"#), r#""0""#);
+    assert_eq!(k(r#"{"a":[["1","0","t"],["2","1\u002e5","t"]],"c":"0"}"#), r#""1\u002e5""#);
+    // Nothing breaks, or checks 5 and 6 refuse: the checksum is no decimal, the timestamp is none.
+    assert_eq!(k(r#"{"a":[["1","0","x"]],"c":"0"}"#), "");
+    assert_eq!(k(r#"{"a":[["1","x","t"]],"c":"01"}"#), "");
+    assert_eq!(k(r#"{"a":[["1","x","t"],["1","x"]],"c":"0"}"#), "");
+    assert_eq!(bad_of(Dialect::K, r#"[0,{"a":[["1","x","t"]],"c":"0"},"book-10","b"]"#), "");
+    let m = |data: &str| {
+        let rest = r#""type":"snapshot","checksum":0,"gsn":1"#;
+        bad_of(Dialect::M, &format!(r#"{{"channel":"book","data":{data},"product":"a",{rest}}}"#)).to_string()
+    };
+    assert_eq!(m(r#"{"asks":[["1","1"],["1","05"]],"bids":[["-1","1"]]}"#), r#""05""#);
+    assert_eq!(m(r#"{"bids":[["-1","1"]],"asks":[["1","1"],["1","05"]]}"#), r#""-1""#);
+    // One price twice breaks check 9, which comes after.
+    assert_eq!(m(r#"{"bids":[["1","1"],["1","1"]],"asks":[]}"#), "");
+    let many = vec![r#"["x","1"]"#; 101].join(",");
+    assert_eq!(m(&format!(r#"{{"bids":[{many}],"asks":[]}}"#)), "");
+}
+
+#[test]
+fn the_first_bad_decimal_is_empty_at_the_start() {
+    let settings = Settings::good(Dialect::K, 10, b"a");
+    let message = format!(r#"{}[0,{{"as":[["1","x","t"]],"bs":[]}},"book-10","a"]"#, " ".repeat(32_768));
+    assert_eq!(first_bad(settings.as_ref(), message.as_bytes()), 0..0);
+    assert_eq!(first_bad(Settings::good(Dialect::K, 9, b"a").as_ref(), message.trim().as_bytes()), 0..0);
+    assert_eq!(first_bad(settings.as_ref(), message.trim().as_bytes()), 15..18);
+}
+
 /// An M message of product `a`.
 fn m_text(kind: &str, bids: &str, checksum: u32, gsn: u64) -> Vec<u8> {
     let data = format!(r#"{{"bids":[{bids}],"asks":[]}}"#);

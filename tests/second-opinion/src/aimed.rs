@@ -1,7 +1,7 @@
 //! Sessions aimed at the ends of the rules: full working sides, sides that pass
 //! 100 levels midway, every depth, the largest digits, bad first lines, long files.
 
-use crate::book::{Book, Scope, State};
+use crate::book::{Book, Scope, Sides, State};
 use crate::damage::BAD_DECIMALS;
 use crate::decimal::Decimal;
 use crate::message::{Kind, Side, MAX_ENTRIES, MAX_MESSAGE};
@@ -106,6 +106,19 @@ impl Making {
         self.calls.extend(writer);
     }
 
+    /// Removes the ten best levels of each side again and again: one after another, every
+    /// level of a K book comes into the checksum.
+    fn peel(&mut self, random: &mut Random) {
+        while self.book.state == State::Live && self.book.sides != Sides::default() {
+            let mut lines = Vec::new();
+            for side in Side::BOTH {
+                let best = self.book.sides.side(side).iter().take(10);
+                lines.extend(best.map(|level| removal(random, side, level.price)));
+            }
+            self.send(random, Kind::Update, lines);
+        }
+    }
+
     fn made(self) -> Session {
         let Settings { dialect, depth, name } = self.settings;
         let opening = match self.purpose {
@@ -147,20 +160,40 @@ fn sets(random: &mut Random, side: Side, prices: &[Decimal]) -> Vec<Line> {
 /// the working sides have `depth` + 100 levels.
 fn deep(random: &mut Random, purpose: Purpose, depth: u64) -> Session {
     let mut making = Making::new(purpose, Dialect::K, depth);
-    let all = Side::BOTH.map(|side| (side, prices(random, 2 * MAX_ENTRIES)));
+    let all = Side::BOTH.map(|side| {
+        let mut prices = prices(random, 2 * MAX_ENTRIES);
+        // The entry that fills the working side is often the best of the new ones.
+        if random.percent(70) {
+            best_last(side, &mut prices[MAX_ENTRIES..]);
+        }
+        (side, prices)
+    });
     for (kind, part) in [(Kind::Snapshot, 0..MAX_ENTRIES), (Kind::Update, MAX_ENTRIES..2 * MAX_ENTRIES)] {
         let lines = all.iter().flat_map(|(side, prices)| sets(random, *side, &prices[part.clone()])).collect();
         making.send(random, kind, lines);
     }
     making.ask(random);
-    // One in, one out: only a cut after the whole message keeps the last level.
-    let gone = random.pick(&making.book.sides.asks).price;
-    let out = removal(random, Side::Ask, gone);
-    let back = all[1].1[random.below(2 * MAX_ENTRIES)];
-    let lines = vec![set(random, Side::Ask, back), out];
+    // New ones in, then others out: only a cut after the whole message keeps the last levels.
+    let mut lines = Vec::new();
+    for (side, prices) in &all {
+        let some = random.between(1, 60);
+        let coming = random.pick(&[1, 50, some]);
+        let going = random.pick(&[1, MAX_ENTRIES - coming]);
+        lines.extend(in_and_out(random, &making.book, *side, prices, coming, going));
+    }
     making.send(random, Kind::Update, lines);
     making.ask(random);
+    if purpose == Purpose::Lines {
+        making.peel(random);
+    }
     making.made()
+}
+
+fn best_last(side: Side, prices: &mut [Decimal]) {
+    match side {
+        Side::Bid => prices.sort_by_key(|price| price.value()),
+        Side::Ask => prices.sort_by_key(|price| std::cmp::Reverse(price.value())),
+    }
 }
 
 /// 100 levels stand in an M book and 100 more come: refused 12.
@@ -214,25 +247,32 @@ fn midway(random: &mut Random, purpose: Purpose) -> Session {
     making.made()
 }
 
-/// New prices first, then removals of standing and new ones. In the first turn 100
-/// levels are left; in the last there may be one too many.
+/// Through more than 100 levels. In the first turn 100 are left; in the last there may
+/// be one too many.
 fn through(random: &mut Random, book: &Book, side: Side, all: &[Decimal], turn: usize) -> Vec<Line> {
-    let mut standing: Vec<Decimal> = book.sides.side(side).iter().map(|level| level.price).collect();
-    let stands = |price: &&Decimal| !standing.iter().any(|other| other.value() == price.value());
-    let new: Vec<Decimal> = all.iter().filter(stands).copied().collect();
-    let count = standing.len();
+    let count = book.sides.side(side).len();
     // New ones and removals together are at most 100.
-    let coming = random.between(101 - count, (200 - count) / 2);
+    let (fewest, most) = (101 - count, (200 - count) / 2);
+    let some = random.between(fewest, most);
+    let coming = random.pick(&[fewest, most, some, some]);
     let least = count + coming - 100;
     let going = match turn {
         0 => least,
         3 if random.percent(30) => least - 1,
         _ => random.between(least, MAX_ENTRIES - coming),
     };
-    let mut lines = sets(random, side, &new[..coming]);
-    standing.extend(&new[..coming]);
+    in_and_out(random, book, side, all, coming, going)
+}
+
+/// `coming` new prices first, then removals of `going` standing and new ones, if there are so many.
+fn in_and_out(random: &mut Random, book: &Book, side: Side, all: &[Decimal], coming: usize, going: usize) -> Vec<Line> {
+    let mut standing: Vec<Decimal> = book.sides.side(side).iter().map(|level| level.price).collect();
+    let is_new = |price: &&Decimal| !standing.iter().any(|other| other.value() == price.value());
+    let new: Vec<Decimal> = all.iter().filter(is_new).take(coming).copied().collect();
+    let mut lines = sets(random, side, &new);
+    standing.extend(new);
     random.shuffle(&mut standing);
-    lines.extend(standing[..going].iter().map(|&price| removal(random, side, price)));
+    lines.extend(standing.iter().take(going).map(|&price| removal(random, side, price)));
     lines
 }
 

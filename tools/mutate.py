@@ -9,6 +9,8 @@
 A change is of a constant, a comparison, a sum, a truth value, a variant, a name beside its counterpart (bids for asks), or of the order of two
 arguments, in a line of code that stands once in its file. Programs are left out. `--each N` takes N of every function (2), `--public` those of public
 functions and constants alone, by `--seed N` (1).
+
+A public constant has no contract of its own: a change of one may be proved in its crate, and is then to be tried in the crates that use it.
 """
 import argparse
 import collections

@@ -17,13 +17,13 @@ use Rattle.settings.specs.Kept.{configOf, Chosen}
 use Rattle.settings.specs.declared.Settings.{Settings}
 use Rattle.settings.specs.declared.Dialect.{Dialect}
 use Rattle.settings.specs.declared.Dialect.the-variants.{K, M, Unknown}
-use Rattle.level.specs.Level.{PriceLevel}
+use Rattle.edit.specs.Edit.{PriceLevel}
 use Rattle.level.specs.Words.{levelPrice, levelSize, shown}
 use Rattle.level.specs.Kept as kept·
 use Rattle.level.specs.Kept.{held, Empty}
 use Rattle.level.specs.Ranked.{All}
-use Rattle.level.specs.declared.Side.{Side}
-use Rattle.level.specs.declared.Side.the-variants.{Bids, Asks}
+use Rattle.edit.specs.declared.Side.{Side}
+use Rattle.edit.specs.declared.Side.the-variants.{Bids, Asks}
 use Rattle.level.specs.declared.Level.{Level}
 use Rattle.level.specs.declared.Levels.{Levels}
 use Rattle.level.specs.declared.MaybeLevel.{MaybeLevel}

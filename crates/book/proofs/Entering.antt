@@ -26,8 +26,8 @@ use Rattle.message.specs.Meaning.{LevelChange, levelChangeAt, Checked, fails, p
 use Rattle.answer.specs.declared.Answer.{Answer}
 use Rattle.answer.specs.declared.Answer.the-variants.{TooLong, NotJson, Escaped, NotOurs, BadLayout, TooManyEntries, BadDecimal}
 use Rattle.message.proofs.Where.{formIn, Lies, nowhere, there}
-use Rattle.level.specs.Level.{PriceLevel, shownPrice}
-use Rattle.level.specs.Side.{Edit, sets, removes}
+use Rattle.edit.specs.Edit.{PriceLevel, shownPrice}
+use Rattle.edit.specs.Edit.{Edit, sets, removes}
 use Rattle.level.specs.Ranked.{All, IsSet, named}
 use Rattle.entries.specs.Arrays.{rowsAt}
 use Rattle.loader.specs.Loaded.{editFor, editAt}

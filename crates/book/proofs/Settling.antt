@@ -24,16 +24,17 @@ use Rattle.entries.specs.Places.{inner}
 use Rattle.entries.specs.Rows.{Row, numberAt, badPrice, badSize, badTexts}
 use Rattle.entries.specs.Summary.{zeroSize, anyBroken, anyZero}
 use Rattle.entries.proofs.Claims.{zero-none}
-use Rattle.level.specs.Level.{PriceLevel, shownPrice}
+use Rattle.edit.specs.Edit.{PriceLevel, shownPrice}
 use Rattle.level.specs.Words.{shown}
-use Rattle.level.specs.Side.{Edit, sets, removes, namesTwice, applyAll, ranked}
+use Rattle.edit.specs.Edit.{Edit, sets, removes}
+use Rattle.level.specs.Side.{namesTwice, applyAll, ranked}
 use Rattle.level.specs.Ranked.{All, IsSet, named, Sorted, afterMessage, replaced}
 use Rattle.level.specs.Kept.{keptIn, held}
 use Rattle.level.specs.Kept as kept·
 use Rattle.piece.specs.Piece.{kPiece, mPiece}
 use Rattle.checksum.specs.Carried.{Carries}
-use Rattle.level.specs.declared.Side.{Side}
-use Rattle.level.specs.declared.Side.the-variants.{Bids, Asks}
+use Rattle.edit.specs.declared.Side.{Side}
+use Rattle.edit.specs.declared.Side.the-variants.{Bids, Asks}
 use Rattle.level.specs.declared.Levels.{Levels}
 use Rattle.level.proofs.Lengths.{length-ranked, length-applyAll, afterMessage-whole}
 use Rattle.level.proofs.Meeting.{met-snapshot}

@@ -11,8 +11,8 @@ use Rattle.settings.specs.Kept.{configOf}
 use Rattle.answer.specs.Answers.{isTaken}
 use Rattle.level.specs.Words.{shown, wordsPast}
 use Rattle.level.specs.Kept.{keptIn, held}
-use Rattle.level.specs.declared.Side.{Side}
-use Rattle.level.specs.declared.Side.the-variants.{Bids, Asks}
+use Rattle.edit.specs.declared.Side.{Side}
+use Rattle.edit.specs.declared.Side.the-variants.{Bids, Asks}
 use Rattle.sides.specs.Worked.{Sound}
 use Rattle.lifecycle.specs.Lifecycle.{statusOf}
 use Rattle.reference.specs.Reference.{isShut, Reference, opened, After, receive, Question, howMany, levelAt, write, counts, level, amount, question, does}

@@ -14,7 +14,7 @@ use Rattle.settings.specs.Kept.{configOf}
 use Rattle.settings.specs.declared.Dialect.{Dialect}
 use Rattle.level.specs.Words.{shown}
 use Rattle.level.specs.Kept.{keptIn, held}
-use Rattle.level.specs.declared.Side.the-variants.{Bids, Asks}
+use Rattle.edit.specs.declared.Side.the-variants.{Bids, Asks}
 use Rattle.sides.specs.Worked.{SideAfter, editsAt, Worked}
 use Rattle.level.specs.declared.Levels.{Levels}
 use Rattle.layout.specs.Layout.{isSnapshot, Layout}

@@ -20,7 +20,7 @@ use decimal::Written;
 use level::Levels;
 use level::MAX_WORDS;
 use level::MaybeLevel;
-use level::Side;
+use edit::Side;
 use lifecycle::Counts;
 use lifecycle::Lifecycle;
 use lifecycle::count_levels;

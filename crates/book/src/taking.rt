@@ -7,7 +7,7 @@ ghost use Rattle.lifecycle.specs.Lifecycle.{statusOf, judgedUpdate, liveLifecyc
 ghost use Rattle.crc32.specs.Table.{ShiftTable};
 ghost use Rattle.level.specs.Words.{shown};
 ghost use Rattle.level.specs.Kept.{keptIn, held};
-ghost use Rattle.level.specs.declared.Side.the-variants.{Bids, Asks};
+ghost use Rattle.edit.specs.declared.Side.the-variants.{Bids, Asks};
 ghost use Rattle.settings.specs.Kept.{isM};
 ghost use Rattle.settings.specs.Rules.{rulesOf};
 ghost use Rattle.sides.specs.Worked.{Sound, sideAfter};
@@ -22,7 +22,7 @@ use answer::is_taken;
 use layout::Outline;
 use layout::is_snapshot;
 use level::MAX_WORDS;
-use level::Side;
+use edit::Side;
 use lifecycle::count_before;
 use lifecycle::is_over;
 use lifecycle::judge;

@@ -14,7 +14,7 @@ use book::Book;
 use decimal::Decimal;
 use decimal::ParsedWhole;
 use decimal::Step;
-use level::Side;
+use edit::Side;
 use libc::STDIN_FILENO;
 use libc::STDOUT_FILENO;
 use lines::LINE_END;

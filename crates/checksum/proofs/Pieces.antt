@@ -17,7 +17,7 @@ use Rattle.crc32_spec.specs.Laws.{xor-assoc, bits-xor, bits-add}
 use Rattle.crc32_spec.specs.Text.{run-append, run-from}
 use Rattle.piece.specs.Piece.{kPiece, mPiece, SumsTo}
 use Rattle.piece.specs.declared.Piece.{Piece}
-use Rattle.level.specs.Level.{PriceLevel}
+use Rattle.edit.specs.Edit.{PriceLevel}
 use Rattle.level.specs.Words.{levelPrice, levelSize, levelSum, levelLength, maxLength, MadeOf, shown}
 use Rattle.level.specs.Ranked.{All}
 use Rattle.level.specs.Words.{levelsIn, noLevel}

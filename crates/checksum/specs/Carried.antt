@@ -7,7 +7,7 @@ use lib.Bits.{bitXor}
 use Rattle.decimal.specs.Decimal.{Number, number}
 use Rattle.decimal.specs.declared.Decimal.{Decimal}
 use Rattle.crc32_spec.specs.Crc.{bits, run}
-use Rattle.level.specs.Level.{PriceLevel}
+use Rattle.edit.specs.Edit.{PriceLevel}
 use Rattle.level.specs.Words.{levelPrice, levelSize, levelSum, levelLength, shown}
 use Rattle.level.specs.declared.Level.{Level}
 

@@ -9,7 +9,7 @@ use Rattle.decimal.specs.Decimal.{Number, isWhole, fractional, pointed, prefix,
 use Rattle.decimal.specs.Limits.{orderOf, order}
 use Rattle.decimal.specs.declared.Order.the-variants.{Equal}
 use Rattle.crc32_spec.specs.Crc.{bit, bits, step, run, crc}
-use Rattle.level.specs.Level.{PriceLevel}
+use Rattle.edit.specs.Edit.{PriceLevel}
 use Rattle.level.specs.Ranked.{All}
 use Rattle.checksum.specs.Text.{kLevel, kChecksumText, interleaved, colonJoined, mLevel, mChecksumText}
 

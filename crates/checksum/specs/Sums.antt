@@ -2,7 +2,7 @@
 use Prim.Native.Nat.{ℕ}
 use mathlib.Core.List.{List}
 use Rattle.crc32_spec.specs.Crc.{crc}
-use Rattle.level.specs.Level.{PriceLevel}
+use Rattle.edit.specs.Edit.{PriceLevel}
 use Rattle.checksum.specs.Text.{kChecksumText, mChecksumText}
 
 -- How many levels a side K sums.

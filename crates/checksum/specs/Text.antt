@@ -5,7 +5,7 @@ use mathlib.Core.List.{List, [], _∷_, _++_, map}
 use lib.ListN.{take, drop}
 use Rattle.text.specs.Text.{colon, joined}
 use Rattle.decimal.specs.Decimal.{text, stripped}
-use Rattle.level.specs.Level.{PriceLevel}
+use Rattle.edit.specs.Edit.{PriceLevel}
 
 -- ---- K: the best asks, low to high, then the best bids, high to low, or as many as there are. No separators.
 

@@ -15,7 +15,7 @@ ghost use Rattle.decimal.specs.Decimal.{number};
 ghost use Rattle.decimal.specs.Limits.{Within};
 ghost use Rattle.crc32.specs.Table.{ShiftTable};
 ghost use Rattle.piece.specs.Piece.{kPiece, mPiece};
-ghost use Rattle.level.specs.declared.Side.the-variants.{Bids, Asks};
+ghost use Rattle.edit.specs.declared.Side.the-variants.{Bids, Asks};
 ghost use Rattle.level.specs.Words.{shown};
 ghost use Rattle.level.specs.Ranked.{All};
 ghost use Rattle.level.specs.Words.{levelsIn};

@@ -10,14 +10,14 @@ use lib.Seq.{take-suc-set, length-take-le}
 use Rattle.decimal.specs.Decimal.{Number, number, isZero}
 use Rattle.decimal.specs.Limits.{Within}
 use Rattle.decimal.specs.declared.Decimal.{Decimal}
-use Rattle.level.specs.Level.{PriceLevel}
+use Rattle.edit.specs.Edit.{PriceLevel}
 use Rattle.level.specs.Words.{levelPrice, levelSize, shown}
-use Rattle.level.specs.Side.{Edit, sets, removes}
+use Rattle.edit.specs.Edit.{Edit, sets, removes}
 use Rattle.level.specs.Ranked.{All, IfSet, named}
 use Rattle.level.specs.Words.{Holds, editOf, entriesOf}
 use Rattle.level.specs.Kept.{keptIn, Good, held}
 use Rattle.side.specs.Applying.{Given, AfterEntries}
-use Rattle.level.specs.declared.Side.{Side}
+use Rattle.edit.specs.declared.Side.{Side}
 use Rattle.level.specs.declared.Level.{Level}
 use Rattle.level.specs.declared.Levels.{Levels}
 use Rattle.level.specs.declared.words.LevelWords.{LevelWords}

@@ -12,8 +12,8 @@ use Rattle.level.specs.Ranked.{All, IfSet}
 use Rattle.level.specs.Words.{entriesOf}
 use Rattle.level.specs.Kept.{Good, held}
 use Rattle.side.specs.Applying.{Given}
-use Rattle.level.specs.declared.Side.{Side}
-use Rattle.level.specs.declared.Side.the-variants.{Bids, Asks}
+use Rattle.edit.specs.declared.Side.{Side}
+use Rattle.edit.specs.declared.Side.the-variants.{Bids, Asks}
 use Rattle.level.specs.declared.Level.{Level}
 use Rattle.level.specs.declared.Levels.{Levels}
 use Rattle.level.specs.declared.MaybeLevel.{MaybeLevel}

@@ -18,7 +18,7 @@ use decimal::ParsedWhole;
 use level::Level;
 use level::Levels;
 use level::MaybeLevel;
-use level::Side;
+use edit::Side;
 use libc::STDIN_FILENO;
 use libc::STDOUT_FILENO;
 use lines::LINE_END;

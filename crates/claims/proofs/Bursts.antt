@@ -15,7 +15,7 @@ use Rattle.crc32_spec.specs.Text.{Bytes}
 use Rattle.crc32_bursts.proofs.Claims.{bursts-caught}
 use Rattle.settings.specs.declared.SumText.{SumText}
 use Rattle.settings.specs.declared.SumText.the-variants.{Stripped, Interleaved}
-use Rattle.level.specs.Level.{PriceLevel}
+use Rattle.edit.specs.Edit.{PriceLevel}
 use Rattle.checksum.specs.Text.{kLevel, kChecksumText, mLevel, interleaved, colonJoined, mChecksumText}
 use Rattle.layout.specs.Layout.{Printed, printed, unprinted}
 use Rattle.message.specs.Meaning.{Message, decodes, decode}

@@ -10,7 +10,7 @@ use denote.Ref.{RefT, now}
 use Rattle.decimal.specs.Decimal.{number as numberOf}
 use Rattle.answer.specs.declared.Answer.{Answer}
 use Rattle.settings.specs.declared.Dialect.{Dialect}
-use Rattle.level.specs.declared.Side.{Side}
+use Rattle.edit.specs.declared.Side.{Side}
 use Rattle.settings.specs.Settings.{kept}
 use Rattle.layout.specs.declared.Kind.the-variants.{Snapshot}
 use Rattle.message.specs.Meaning.{Message, decodes, decode}

@@ -5,6 +5,7 @@ use mathlib.Core.List.{List, [], _∷_}
 use native.Mathlib.Nat.{div-add-mod', div-div-eq-div-mul, mod-eq-of-lt}
 use native.Mathlib.Omega.{arith}
 use lib.ListN.{length, take, drop}
+use Rattle.edit.specs.Buffer.{byThrees}
 use Rattle.level.specs.declared.Level.{Level}
 use Rattle.level.specs.Ranked.{All}
 use Rattle.level.specs.Words.{levelOf, levelsIn, wordsPast}
@@ -52,7 +53,7 @@ next-three n = omega arith
 
 pub words-one : (n : ℕ) (a b : List ℕ) → 3 * n ≤ length a → 3 * n ≤ length b → All Word a → All Word b
     → take n (levelsIn a) ≡ take n (levelsIn b) → wordsPast n a ≡ wordsPast n b → a ≡ b
-unfolding All levelsIn wordsPast
+unfolding All levelsIn byThrees wordsPast
 words-one zero a b la lb wa wb e f = f
 words-one (suc n) [] b la lb wa wb e f = absurd (omega arith)
 words-one (suc n) (p ∷ []) b la lb wa wb e f = absurd (omega arith)

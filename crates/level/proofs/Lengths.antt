@@ -8,8 +8,9 @@ use lib.Dec.{eqb}
 use lib.ListN.{length}
 use lib.Seq.{take-all}
 use Rattle.decimal.specs.Decimal.{Number, value}
-use Rattle.level.specs.declared.Side.{Side}
-use Rattle.level.specs.Side.{Edit, sets, removes, nearer, without, apply, applyAll, place, ranked}
+use Rattle.edit.specs.declared.Side.{Side}
+use Rattle.edit.specs.Edit.{Edit, sets, removes}
+use Rattle.level.specs.Side.{nearer, without, apply, applyAll, place, ranked}
 use Rattle.level.specs.Ranked.{afterMessage}
 
 module _ {A : Type 0} (priceOf : A → Number) where

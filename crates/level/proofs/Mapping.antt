@@ -7,11 +7,12 @@ use mathlib.Core.List.{List, [], _∷_, map}
 use lib.Dec.{eqb}
 use lib.ListN.{length, take, length-map}
 use Rattle.decimal.specs.Decimal.{Number, value}
-use Rattle.level.specs.declared.Side.{Side}
+use Rattle.edit.specs.declared.Side.{Side}
 use Rattle.level.specs.declared.Level.{Level}
-use Rattle.level.specs.Level.{PriceLevel, shownPrice}
+use Rattle.edit.specs.Edit.{PriceLevel, shownPrice}
 use Rattle.level.specs.Words.{levelPrice, shown}
-use Rattle.level.specs.Side.{Edit, sets, removes, nearer, without, apply, applyAll, place, ranked}
+use Rattle.edit.specs.Edit.{Edit, sets, removes}
+use Rattle.level.specs.Side.{nearer, without, apply, applyAll, place, ranked}
 use Rattle.level.specs.Ranked.{standing, afterMessage, named, replaces, replaced, mapEdit}
 
 map-take : {A B : Type 0} (f : A → B) (n : ℕ) (s : List A) → map f (take n s) ≡ take n (map f s)

@@ -9,8 +9,9 @@ use lib.ListN.{length, getD}
 use native.Mathlib.Nat.{le-of-suc-le-suc, not-suc-le-zero}
 use borrow.Author.Tests.{eqb-true, eqb-false, eq-eqb, ne-eqb}
 use Rattle.decimal.specs.Decimal.{Number, value}
-use Rattle.level.specs.declared.Side.{Side}
-use Rattle.level.specs.Side.{Edit, sets, removes, nearer, names, namesTwice, without, apply, place, ranked}
+use Rattle.edit.specs.declared.Side.{Side}
+use Rattle.edit.specs.Edit.{Edit, sets, removes}
+use Rattle.level.specs.Side.{nearer, names, namesTwice, without, apply, place, ranked}
 use Rattle.level.specs.Ranked.{All, standing, named, replaces, replaced, IsSet}
 use Rattle.level.proofs.Ranking.{applyRanked, commute}
 

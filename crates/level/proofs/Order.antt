@@ -10,8 +10,8 @@ use Rattle.decimal.specs.Limits.{orderOf}
 use Rattle.decimal.specs.declared.Order.{Order}
 use Rattle.decimal.specs.declared.Order.the-variants.{Less, Equal, Greater}
 use Rattle.decimal.proofs.ByValue.{Holds, order-holds}
-use Rattle.level.specs.declared.Side.{Side}
-use Rattle.level.specs.declared.Side.the-variants.{Bids, Asks}
+use Rattle.edit.specs.declared.Side.{Side}
+use Rattle.edit.specs.declared.Side.the-variants.{Bids, Asks}
 use Rattle.level.specs.Side.{nearer}
 use Rattle.level.specs.Order.{aheadOf, equalOf}
 

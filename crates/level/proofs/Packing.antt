@@ -3,22 +3,16 @@ use Prim.Native.Nat.{ℕ, zero, suc, _+_, _*_, _/_, _%_, _^_, _<_, _≤_}
 use mathlib.Core.Path.{_≡_, refl, sym, ap, _∙_}
 use mathlib.Core.Bool.{true, false}
 use mathlib.Core.List.{List, [], _∷_, _++_}
-use native.Mathlib.Nat.{zero-add, mod-eq-of-lt, div-eq-of-lt, add-mul-mod-self-left, add-mul-div-left, div-div-eq-div-mul}
+use native.Mathlib.Nat.{mod-eq-of-lt, div-div-eq-div-mul}
 use native.Mathlib.Omega.{arith}
 use lib.Dec.{lit<}
 use lib.ListN.{length}
 use Rattle.decimal.specs.Decimal.{Number, isZero}
+use Rattle.edit.proofs.Packing.{low, high}
 use Rattle.level.specs.declared.Level.{Level}
 use Rattle.level.specs.declared.words.LevelWords.{LevelWords}
-use Rattle.level.specs.Side.{Edit, sets, removes}
+use Rattle.edit.specs.Edit.{Edit, sets, removes}
 use Rattle.level.specs.Words.{levelPrice, levelSize, levelSum, levelLength, MadeOf, Fits, packed, Holds, levelOf, editFor, editOf, entriesOf}
-
--- the low part of a number, and what is above it
-low : (m : ℕ) (x y : ℕ) → x < m → (x + m * y) % m ≡ x
-low m x y h = add-mul-mod-self-left x m y ∙ mod-eq-of-lt h
-
-high : (m : ℕ) (x y : ℕ) → 0 < m → x < m → (x + m * y) / m ≡ y
-high m x y p h = add-mul-div-left x y p ∙ ap (λ (n : ℕ). n + y) (div-eq-of-lt h) ∙ zero-add y
 
 module _ (level : Level) (fits : Fits level) where
   abbrev decimals : ℕ

@@ -4,9 +4,10 @@ use mathlib.Core.Bool.{Bool, true, false}
 use mathlib.Core.List.{List, [], _∷_}
 use Prim.Native.Nat.{ℕ}
 use Rattle.decimal.specs.Decimal.{Number, value}
-use Rattle.level.specs.declared.Side.the-variants.{Bids, Asks}
-use Rattle.level.specs.Level.{PriceLevel, shownPrice}
-use Rattle.level.specs.Side.{Edit, sets, removes, names, namesTwice, without, apply, applyAll, place, ranked}
+use Rattle.edit.specs.declared.Side.the-variants.{Bids, Asks}
+use Rattle.edit.specs.Edit.{PriceLevel, shownPrice}
+use Rattle.edit.specs.Edit.{Edit, sets, removes}
+use Rattle.level.specs.Side.{names, namesTwice, without, apply, applyAll, place, ranked}
 use Rattle.level.specs.Ranked.{standing, afterMessage, replaces, replaced}
 
 unfoldable decimal : ℕ → ℕ → Number

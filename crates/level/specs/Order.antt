@@ -2,8 +2,8 @@
 use mathlib.Core.Bool.{Bool, true, false}
 use Rattle.decimal.specs.declared.Order.{Order}
 use Rattle.decimal.specs.declared.Order.the-variants.{Less, Equal, Greater}
-use Rattle.level.specs.declared.Side.{Side}
-use Rattle.level.specs.declared.Side.the-variants.{Bids, Asks}
+use Rattle.edit.specs.declared.Side.{Side}
+use Rattle.edit.specs.declared.Side.the-variants.{Bids, Asks}
 
 -- Does the first of the two stand nearer the top?
 abbrev pub aheadOf : Side → Order → Bool

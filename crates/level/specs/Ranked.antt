@@ -6,8 +6,9 @@ use mathlib.Core.List.{List, [], _∷_}
 use lib.Dec.{eqb}
 use lib.ListN.{take}
 use Rattle.decimal.specs.Decimal.{Number, value}
-use Rattle.level.specs.Side.{Edit, sets, removes, nearer, valueAt, apply, applyAll, ranked}
-use Rattle.level.specs.declared.Side.{Side}
+use Rattle.edit.specs.Edit.{Edit, sets, removes}
+use Rattle.level.specs.Side.{nearer, valueAt, apply, applyAll, ranked}
+use Rattle.edit.specs.declared.Side.{Side}
 
 -- What holds of each element of a list.
 unfoldable pub All : {A : Type 0} → (A → Type 0) → List A → Type 0

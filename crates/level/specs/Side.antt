@@ -5,13 +5,9 @@ use mathlib.Core.Bool.{Bool, true, false, _||_, cond}
 use mathlib.Core.List.{List, [], _∷_}
 use lib.Dec.{ltb, eqb}
 use Rattle.decimal.specs.Decimal.{Number, value}
-use Rattle.level.specs.declared.Side.{Side}
-use Rattle.level.specs.declared.Side.the-variants.{Bids, Asks}
-
--- An entry for one side (01: "carries a level to set or to remove"): it sets a level, text included, or removes the level at a price.
-pub data Edit (A : Type 0) : Type 0 where
-  sets : A → Edit A
-  removes : Number → Edit A
+use Rattle.edit.specs.Edit.{Edit, sets, removes}
+use Rattle.edit.specs.declared.Side.{Side}
+use Rattle.edit.specs.declared.Side.the-variants.{Bids, Asks}
 
 -- Which of two prices, by value, stands nearer the top (01: "Bids stand high to low, asks low to high").
 abbrev pub nearer : Side → ℕ → ℕ → Bool

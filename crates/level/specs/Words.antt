@@ -7,14 +7,15 @@ use mathlib.Core.Bool.{Bool, true, false, cond}
 use mathlib.Core.List.{List, [], _∷_}
 use lib.ListN.{drop}
 use Rattle.decimal.specs.Decimal.{Number, number, isZero}
-use Rattle.level.specs.declared.Side.{Side}
+use Rattle.edit.specs.declared.Side.{Side}
+use Rattle.edit.specs.Buffer.{byThrees}
 use Rattle.level.specs.declared.Level.{Level}
 use Rattle.level.specs.declared.words.LevelWords.{LevelWords}
 use Rattle.level.specs.declared.Change.{Change}
 use Rattle.level.specs.declared.Change.the-variants.{Set, Remove}
 use Rattle.level.specs.declared.Entry.{Entry}
-use Rattle.level.specs.Level.{PriceLevel}
-use Rattle.level.specs.Side.{Edit, sets, removes}
+use Rattle.edit.specs.Edit.{PriceLevel}
+use Rattle.edit.specs.Edit.{Edit, sets, removes}
 
 -- The price and the size that a level of the code has.
 unfoldable pub levelPrice : Level → Number
@@ -82,10 +83,7 @@ levelWords = 3
 
 -- The levels that a list of words holds.
 unfoldable pub levelsIn : List ℕ → List Level
-levelsIn (price ∷ size ∷ rest ∷ words) = levelOf price size rest ∷ levelsIn words
-levelsIn [] = []
-levelsIn (price ∷ []) = []
-levelsIn (price ∷ size ∷ []) = []
+levelsIn words = byThrees levelOf words
 
 -- The words past the first n levels.
 unfoldable pub wordsPast : ℕ → List ℕ → List ℕ

@@ -17,6 +17,7 @@ ghost use Rattle.level.specs.Words.{maxLength, levelPrice, levelSize, le
 ghost use Rattle.level.specs.Kept.{maxLevels, held, levelAt, Empty};
 use decimal::Decimal;
 use decimal::Order;
+use edit::Side;
 pub use words::LevelWords;
 pub use words::entry_at;
 pub use words::level_in;
@@ -31,11 +32,6 @@ const LEVEL_WORDS: usize = 3;
 
 // The words of a side that is kept.
 pub const MAX_WORDS: usize = LEVEL_WORDS * MAX_LEVELS;
-
-pub enum Side {
-    Bids,
-    Asks,
-}
 
 // A price and a size as they were sent: the digits as one whole number, and how many of them stand after the point.
 // `sum` and `length` are the CRC of the level's own piece of checksum text and its length, made by whoever makes the level.

@@ -10,9 +10,9 @@ use crate::Entry;
 use crate::LEVEL_WORDS;
 use crate::Level;
 use crate::MAX_WORDS;
-use crate::Side;
 use crate::price_of;
 use crate::removes;
+use edit::Side;
 
 // Where a level's length, price decimals and size decimals begin in the word; its sum begins at 1.
 const LENGTH: u64 = 4_294_967_296;

@@ -5,8 +5,8 @@ use mathlib.Core.List.{List, [], _∷_, map}
 use lib.ListN.{drop}
 use Rattle.entries.specs.Rows.{Row}
 use Rattle.entries.proofs.Shift.{shiftedRow, number-shift}
-use Rattle.level.specs.Side.{Edit}
-use Rattle.level.specs.Level.{PriceLevel}
+use Rattle.edit.specs.Edit.{Edit}
+use Rattle.edit.specs.Edit.{PriceLevel}
 use Rattle.loader.specs.Loaded.{editFor, editAt}
 
 module _ (k : ℕ) (s : List ℕ) where

@@ -14,9 +14,9 @@ use Rattle.entries.specs.Rows.{Row, numberAt}
 use Rattle.entries.specs.Summary.{priceSpan, sizeSpan}
 use Rattle.entries.specs.Decimals.{NumberOf}
 use Rattle.entries.specs.declared.EntryPlace.{EntryPlace}
-use Rattle.level.specs.Level.{PriceLevel}
+use Rattle.edit.specs.Edit.{PriceLevel}
 use Rattle.level.specs.Words.{levelPrice, levelSize, shown}
-use Rattle.level.specs.Side.{Edit, sets, removes}
+use Rattle.edit.specs.Edit.{Edit, sets, removes}
 use Rattle.level.specs.Ranked.{mapEdit, All, IfSet, named}
 use Rattle.level.specs.Words.{Holds, editOf, entriesOf}
 use Rattle.level.specs.declared.Level.{Level}

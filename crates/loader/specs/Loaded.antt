@@ -8,9 +8,9 @@ use Rattle.decimal.specs.Decimal.{Number, isZero}
 use Rattle.piece.specs.Piece.{kPiece, mPiece}
 use Rattle.entries.specs.Rows.{Row, numberAt}
 use Rattle.entries.specs.Arrays.{maxEntries}
-use Rattle.level.specs.Level.{PriceLevel}
+use Rattle.edit.specs.Edit.{PriceLevel}
 use Rattle.level.specs.Words.{shown}
-use Rattle.level.specs.Side.{Edit, sets, removes}
+use Rattle.edit.specs.Edit.{Edit, sets, removes}
 use Rattle.level.specs.Ranked.{mapEdit, All, IfSet}
 use Rattle.level.specs.Words.{entriesOf}
 use Rattle.side.specs.Applying.{Given}

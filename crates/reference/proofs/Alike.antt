@@ -15,7 +15,7 @@ use Rattle.reference.specs.Reference.{Status, shut, waiting, live, isShu
 use Rattle.settings.specs.Settings.{Config}
 use Rattle.settings.specs.declared.Dialect.{Dialect}
 use Rattle.settings.specs.declared.Dialect.the-variants.{K, M, Unknown}
-use Rattle.level.specs.declared.Side.the-variants.{Bids, Asks}
+use Rattle.edit.specs.declared.Side.the-variants.{Bids, Asks}
 use Rattle.reference.specs.declared.Scope.{Scope}
 use Rattle.reference.specs.declared.Scope.the-variants.{Current, LastGood}
 

@@ -23,11 +23,12 @@ use Rattle.entries.specs.Places.{inner}
 use Rattle.entries.specs.Rows.{Row, numberAt, badPrice, badSize, badTexts}
 use Rattle.entries.specs.Summary.{anyBroken}
 use Rattle.entries.proofs.Claims.{broken-none, zero-none}
-use Rattle.level.specs.Level.{PriceLevel, shownPrice}
-use Rattle.level.specs.Side.{Edit, sets, removes, nearer, place, apply, applyAll, ranked, namesTwice}
+use Rattle.edit.specs.Edit.{PriceLevel, shownPrice}
+use Rattle.edit.specs.Edit.{Edit, sets, removes}
+use Rattle.level.specs.Side.{nearer, place, apply, applyAll, ranked, namesTwice}
 use Rattle.level.specs.Ranked.{All, IfSet, Sorted, Distinct}
-use Rattle.level.specs.declared.Side.{Side}
-use Rattle.level.specs.declared.Side.the-variants.{Bids, Asks}
+use Rattle.edit.specs.declared.Side.{Side}
+use Rattle.edit.specs.declared.Side.the-variants.{Bids, Asks}
 use Rattle.level.proofs.All.{all-take}
 use Rattle.level.proofs.Ranking.{all-applyAll, all-ranked, applyRanked, commute, without-none, place-middle, ranked-sorted, sorted-take, sorted-distinct, distinct-applyAll, distinct-once}
 use Rattle.level.proofs.Lengths.{length-ranked}

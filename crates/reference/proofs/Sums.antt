@@ -5,7 +5,7 @@ use lib.ListN.{take}
 use Rattle.settings.specs.Rules.{rulesOf}
 use Rattle.settings.specs.declared.Dialect.the-variants.{K, M, Unknown}
 use Rattle.text.specs.Text.{joined}
-use Rattle.level.specs.Level.{PriceLevel}
+use Rattle.edit.specs.Edit.{PriceLevel}
 use Rattle.crc32_spec.specs.Crc.{run, crc}
 use Rattle.checksum.specs.Text.{kChecksumText}
 use Rattle.checksum.specs.Sums.{kChecksum, mChecksum}

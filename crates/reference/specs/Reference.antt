@@ -14,10 +14,11 @@ use Rattle.settings.specs.declared.Dialect.the-variants.{K, M, Unknown}
 use Rattle.settings.specs.declared.Rules.{Rules}
 use Rattle.settings.specs.declared.SumText.{SumText}
 use Rattle.settings.specs.declared.SumText.the-variants.{Stripped, Interleaved}
-use Rattle.level.specs.Level.{PriceLevel, shownPrice}
-use Rattle.level.specs.Side.{Edit, sets, removes, namesTwice, applyAll, ranked}
-use Rattle.level.specs.declared.Side.{Side}
-use Rattle.level.specs.declared.Side.the-variants.{Bids, Asks}
+use Rattle.edit.specs.Edit.{PriceLevel, shownPrice}
+use Rattle.edit.specs.Edit.{Edit, sets, removes}
+use Rattle.level.specs.Side.{namesTwice, applyAll, ranked}
+use Rattle.edit.specs.declared.Side.{Side}
+use Rattle.edit.specs.declared.Side.the-variants.{Bids, Asks}
 use Rattle.crc32_spec.specs.Crc.{crc}
 use Rattle.checksum.specs.Text.{kChecksumText, mChecksumText}
 use Rattle.layout.specs.Layout.{isSnapshot, Printed, printed, unprinted}

@@ -13,8 +13,8 @@ use lib.Seq.{drop-drop, take-at, drop-at}
 use Rattle.text.specs.Words.{word, wordAt}
 use Rattle.crc32_spec.specs.Text.{Bytes}
 use Rattle.level.specs.Ranked.{All}
-use Rattle.level.specs.declared.Side.{Side}
-use Rattle.level.specs.declared.Side.the-variants.{Bids, Asks}
+use Rattle.edit.specs.declared.Side.{Side}
+use Rattle.edit.specs.declared.Side.the-variants.{Bids, Asks}
 use Rattle.reference.specs.declared.Scope.{Scope}
 use Rattle.reference.specs.declared.Scope.the-variants.{Current, LastGood}
 use Rattle.reference.specs.Reference.{Ask, message, question, howMany, levelAt, whichNumber, howManyUpdates, write, Call, repliesTo, opened}

@@ -8,8 +8,8 @@ use lib.ListN.{length}
 use Rattle.crc32_spec.specs.Text.{Bytes}
 use Rattle.settings.specs.Settings.{Config, kept}
 use Rattle.level.specs.Ranked.{All}
-use Rattle.level.specs.declared.Side.{Side}
-use Rattle.level.specs.declared.Side.the-variants.{Bids, Asks}
+use Rattle.edit.specs.declared.Side.{Side}
+use Rattle.edit.specs.declared.Side.the-variants.{Bids, Asks}
 use Rattle.layout.specs.declared.Kind.the-variants.{Snapshot}
 use Rattle.message.specs.Meaning.{Message, decodes, decode}
 use Rattle.answer.specs.declared.Answer.the-variants.{Taken}

@@ -7,9 +7,9 @@ use lib.ListN.{length, take, drop}
 use Rattle.text.specs.Words.{wordAt}
 use Rattle.settings.specs.declared.Dialect.{Dialect}
 use Rattle.settings.specs.declared.Dialect.the-variants.{K, M, Unknown}
-use Rattle.level.specs.Level.{PriceLevel}
-use Rattle.level.specs.declared.Side.{Side}
-use Rattle.level.specs.declared.Side.the-variants.{Bids, Asks}
+use Rattle.edit.specs.Edit.{PriceLevel}
+use Rattle.edit.specs.declared.Side.{Side}
+use Rattle.edit.specs.declared.Side.the-variants.{Bids, Asks}
 use Rattle.answer.specs.Answers.{answerNumber}
 use Rattle.reference.specs.declared.Scope.{Scope}
 use Rattle.reference.specs.declared.Scope.the-variants.{Current, LastGood}

@@ -11,7 +11,7 @@ use book::CountsReply;
 use book::LevelReply;
 use book::NumberReply;
 use book::Step;
-use level::Side;
+use edit::Side;
 use reference::Scope;
 use text::word_at;
 ghost use mathlib.Core.Path.{_≡_};

@@ -18,7 +18,7 @@ use Rattle.entries.specs.declared.Form.{Form}
 use Rattle.entries.specs.declared.Form.the-variants.{Triple, Pair}
 use Rattle.layout.specs.Layout.{Listed, listedAt}
 use Rattle.message.specs.Meaning.{LevelChange, levelChangeAt}
-use Rattle.level.specs.Level.{PriceLevel}
+use Rattle.edit.specs.Edit.{PriceLevel}
 use Rattle.writer.specs.Snapshot.{quoted, array, kEntry, mEntry}
 use Rattle.round_trip.specs.Claims.{levelChangeOf, Positive, ValidLevel, Each, each-none, each-more}
 use Rattle.round_trip.proofs.Places.{Is}

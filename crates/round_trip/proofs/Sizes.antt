@@ -7,7 +7,7 @@ use lib.ListN.{length, length-append}
 use Rattle.text.specs.Text.{ascii}
 use Rattle.decimal.specs.Decimal.{Number, text, maxWhole, maxDecimals}
 use Rattle.decimal.proofs.Text.{length-text}
-use Rattle.level.specs.Level.{PriceLevel}
+use Rattle.edit.specs.Edit.{PriceLevel}
 use Rattle.writer.specs.Snapshot.{quoted, commaJoined, array, kEntry, mEntry}
 use Rattle.round_trip.specs.Claims.{Positive, ValidLevel, Valid, Each, each-none, each-more}
 use Rattle.round_trip.proofs.Tokens.{length-quoted}

@@ -21,7 +21,7 @@ use Rattle.message_k.specs.LayoutK.{Frame, frameOf, escapedK, oursK, times, tog
 use Rattle.message.specs.Meaning.{envelopeIn, decode, decodes}
 use Rattle.settings.specs.Settings.{Config, good}
 use Rattle.settings.specs.declared.Dialect.the-variants.{K}
-use Rattle.level.specs.Level.{PriceLevel}
+use Rattle.edit.specs.Edit.{PriceLevel}
 use Rattle.writer.specs.Snapshot.{quoted, commaJoined, array, kEntry, kSnapshot}
 use Rattle.round_trip.specs.Claims.{Each, each-none, each-more, ValidLevel, Valid, levelChangeOf}
 use Rattle.round_trip.proofs.Places.{Is, part-is}

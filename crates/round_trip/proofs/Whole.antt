@@ -20,7 +20,7 @@ use Rattle.layout.specs.Layout.{isSnapshot, Printed, Listed, Layout, Envelope}
 use Rattle.layout.specs.declared.Kind.the-variants.{Snapshot}
 use Rattle.message.specs.Meaning.{fails, passes, decodes, tooMany, counted, laidOut, addressed, envelopeIn, framed, bad, decimals, alsoDecimals, checked, messageOf, decodedOf, decode}
 use Rattle.answer.specs.declared.Answer.the-variants.{TooManyEntries}
-use Rattle.level.specs.Level.{PriceLevel}
+use Rattle.edit.specs.Edit.{PriceLevel}
 use Rattle.round_trip.specs.Claims.{levelChangeOf}
 use Rattle.round_trip.proofs.Places.{no-blanks, nothing-stops, Is}
 use Rattle.round_trip.proofs.Lists.{Matched}

@@ -6,7 +6,7 @@ use mathlib.Core.List.{List, [], _∷_, map}
 use lib.ListN.{length}
 use Rattle.decimal.specs.Decimal.{Number, isZero}
 use Rattle.decimal.specs.Limits.{Within}
-use Rattle.level.specs.Level.{PriceLevel}
+use Rattle.edit.specs.Edit.{PriceLevel}
 use Rattle.settings.specs.Settings.{good}
 use Rattle.settings.specs.declared.Dialect.the-variants.{K, M}
 use Rattle.layout.specs.Layout.{printed, unprinted}

@@ -3,7 +3,7 @@ use mathlib.Core.Path.{refl}
 use mathlib.Core.List.{[], _∷_}
 use native.Mathlib.Omega.{arith}
 use Rattle.decimal.specs.Decimal.{isZero}
-use Rattle.level.specs.Level.{PriceLevel}
+use Rattle.edit.specs.Edit.{PriceLevel}
 use Rattle.round_trip.specs.Claims.{ValidLevel, Valid, each-none, each-more}
 
 -- 0.05120 at 9999999999

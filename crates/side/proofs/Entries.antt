@@ -13,10 +13,11 @@ use Rattle.decimal.specs.Decimal.{Number, number, value}
 use Rattle.decimal.specs.Limits.{order, Within}
 use Rattle.decimal.specs.declared.Decimal.{Decimal}
 use Rattle.decimal.specs.declared.Order.{Order}
-use Rattle.level.specs.declared.Side.{Side}
+use Rattle.edit.specs.declared.Side.{Side}
 use Rattle.level.specs.declared.Level.{Level}
 use Rattle.level.specs.Words.{levelPrice}
-use Rattle.level.specs.Side.{Edit, sets, removes, nearer, without, applyAll, ranked}
+use Rattle.edit.specs.Edit.{Edit, sets, removes}
+use Rattle.level.specs.Side.{nearer, without, applyAll, ranked}
 use Rattle.level.specs.Ranked.{All, standing, afterMessage, named, replaces, replaced, Sorted, IfSet}
 use Rattle.level.specs.Order.{aheadOf, equalOf}
 use Rattle.level.specs.Words.{noLevel, editOf, entriesOf}

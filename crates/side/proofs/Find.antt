@@ -9,8 +9,9 @@ use native.Mathlib.Omega.{arith}
 use lib.ListN.{length, getD, set, take, drop, take-append-drop, drop-of-length-le}
 use lib.Seq.{length-take-le, take-suc, drop-cons, split-at, set-split, take-set-lt}
 use Rattle.decimal.specs.Decimal.{Number, value}
-use Rattle.level.specs.declared.Side.{Side}
-use Rattle.level.specs.Side.{sets, removes, nearer, without, place}
+use Rattle.edit.specs.declared.Side.{Side}
+use Rattle.edit.specs.Edit.{sets, removes}
+use Rattle.level.specs.Side.{nearer, without, place}
 use Rattle.level.specs.Ranked.{All, standing, Sorted}
 use Rattle.level.proofs.Order.{before-ne, before-trans, before-or-after, after-not-before}
 use Rattle.level.proofs.All.{all-map, all-append, all-at}

@@ -3,12 +3,13 @@ use Prim.Native.Nat.{ℕ}
 use mathlib.Core.Path.{_≡_, sym, ap, _∙_}
 use mathlib.Core.List.{List, map}
 use lib.ListN.{length}
-use Rattle.level.specs.Level.{shownPrice}
-use Rattle.level.specs.Side.{Edit, applyAll}
+use Rattle.edit.specs.Edit.{shownPrice}
+use Rattle.edit.specs.Edit.{Edit}
+use Rattle.level.specs.Side.{applyAll}
 use Rattle.level.specs.Ranked.{afterMessage, replaced, mapEdit}
 use Rattle.level.specs.Words.{shown}
 use Rattle.level.specs.Kept.{keptIn, held}
-use Rattle.level.specs.declared.Side.{Side}
+use Rattle.edit.specs.declared.Side.{Side}
 use Rattle.level.specs.declared.Level.{Level}
 use Rattle.level.specs.declared.Levels.{Levels}
 use Rattle.level.proofs.Mapping.{shown-afterMessage, shown-count, shown-met}

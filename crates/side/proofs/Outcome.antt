@@ -5,11 +5,11 @@ use mathlib.Core.Bool.{Bool}
 use mathlib.Core.List.{List}
 use native.Mathlib.Omega.{arith}
 use lib.ListN.{length, take}
-use Rattle.level.specs.Side.{Edit}
+use Rattle.edit.specs.Edit.{Edit}
 use Rattle.level.specs.Ranked.{All}
 use Rattle.level.specs.Words.{levelsIn, wordsPast}
 use Rattle.level.specs.Kept.{keptIn, held}
-use Rattle.level.specs.declared.Side.{Side}
+use Rattle.edit.specs.declared.Side.{Side}
 use Rattle.level.specs.declared.Level.{Level}
 use Rattle.level.specs.declared.Levels.{Levels}
 use Rattle.level.proofs.Held.{held-length}

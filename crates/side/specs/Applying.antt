@@ -4,11 +4,12 @@ use mathlib.Core.Path.{_≡_}
 use mathlib.Core.List.{List}
 use lib.ListN.{length}
 use Rattle.decimal.specs.Limits.{Within}
-use Rattle.level.specs.Side.{Edit, applyAll}
+use Rattle.edit.specs.Edit.{Edit}
+use Rattle.level.specs.Side.{applyAll}
 use Rattle.level.specs.Ranked.{All, named, afterMessage, replaced}
 use Rattle.level.specs.Words.{levelPrice, wordsPast, entriesOf}
 use Rattle.level.specs.Kept.{held, keptIn, Good}
-use Rattle.level.specs.declared.Side.{Side}
+use Rattle.edit.specs.declared.Side.{Side}
 use Rattle.level.specs.declared.Level.{Level}
 use Rattle.level.specs.declared.Levels.{Levels}
 use Rattle.side.specs.declared.Applied.{Applied}

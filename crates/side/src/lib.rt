@@ -10,7 +10,7 @@ ghost use Rattle.side.specs.Applying.{Given, AfterEntries};
 use level::Change;
 use level::EMPTY;
 use level::MAX_WORDS;
-use level::Side;
+use edit::Side;
 use level::entry_at;
 use level::is_ahead;
 use level::is_equal;

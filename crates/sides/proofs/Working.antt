@@ -13,14 +13,15 @@ use Rattle.decimal.specs.Limits.{Within}
 use Rattle.entries.specs.Rows.{Row, numberAt}
 use Rattle.entries.specs.Arrays.{formOf, rowsAt}
 use Rattle.entries.proofs.Numbers.{number-within}
-use Rattle.level.specs.Level.{PriceLevel, shownPrice}
+use Rattle.edit.specs.Edit.{PriceLevel, shownPrice}
 use Rattle.level.specs.Words.{levelPrice, levelSize, shown}
-use Rattle.level.specs.Side.{Edit, sets, removes, applyAll}
+use Rattle.edit.specs.Edit.{Edit, sets, removes}
+use Rattle.level.specs.Side.{applyAll}
 use Rattle.level.specs.Ranked.{mapEdit, All, IfSet, afterMessage, replaced}
 use Rattle.level.specs.Words.{entriesOf}
 use Rattle.level.specs.Kept.{held, Good}
 use Rattle.side.specs.Applying.{AfterEntries}
-use Rattle.level.specs.declared.Side.{Side}
+use Rattle.edit.specs.declared.Side.{Side}
 use Rattle.level.specs.declared.Level.{Level}
 use Rattle.level.specs.declared.Levels.{Levels}
 use Rattle.side.specs.declared.Applied.{Applied}

@@ -6,12 +6,13 @@ use mathlib.Core.Path.{_≡_}
 use lib.Dec.{eqb}
 use lib.ListN.{length, drop}
 use Rattle.decimal.specs.Limits.{Within}
-use Rattle.level.specs.Level.{PriceLevel, shownPrice}
+use Rattle.edit.specs.Edit.{PriceLevel, shownPrice}
 use Rattle.level.specs.Words.{levelSize, shown, wordsPast}
-use Rattle.level.specs.Side.{Edit, applyAll}
+use Rattle.edit.specs.Edit.{Edit}
+use Rattle.level.specs.Side.{applyAll}
 use Rattle.level.specs.Ranked.{All, afterMessage, replaced}
 use Rattle.level.specs.Kept.{keptIn, held, Good}
-use Rattle.level.specs.declared.Side.{Side}
+use Rattle.edit.specs.declared.Side.{Side}
 use Rattle.level.specs.declared.Levels.{Levels}
 use Rattle.side.specs.declared.Applied.{Applied}
 use Rattle.checksum.specs.Carried.{Carries}

@@ -11,7 +11,7 @@ use Rattle.text.specs.Text.{ascii}
 use Rattle.decimal.specs.Digits.{written}
 use Rattle.decimal.specs.Limits.{Within}
 use Rattle.decimal.proofs.Digits.{length-written}
-use Rattle.level.specs.declared.Side.{Side}
+use Rattle.edit.specs.declared.Side.{Side}
 use Rattle.level.specs.declared.Level.{Level}
 use Rattle.level.specs.declared.Levels.{Levels}
 use Rattle.level.specs.Words.{levelPrice, levelSize, shown}

@@ -11,7 +11,7 @@ ghost use mathlib.Core.List.{map};
 ghost use Prim.Native.Nat.{_≤_};
 ghost use lib.ListN.{length};
 ghost use Rattle.decimal.specs.Laying.{Laid};
-ghost use Rattle.level.specs.declared.Side.the-variants.{Bids, Asks};
+ghost use Rattle.edit.specs.declared.Side.the-variants.{Bids, Asks};
 ghost use Rattle.level.specs.Words.{shown};
 ghost use Rattle.level.specs.Kept.{held, Good};
 ghost use Rattle.writer.specs.Snapshot.{kSnapshot, mSnapshot};

@@ -16,7 +16,8 @@ use Rattle.level.specs.declared.Level.{Level}
 use Rattle.level.specs.declared.Change.{Change}
 use Rattle.level.specs.declared.Change.the-variants.{Set, Remove}
 use Rattle.level.specs.Words.{levelPrice}
-use Rattle.level.specs.Side.{Edit, sets, removes, nearer, without, applyAll}
+use Rattle.edit.specs.Edit.{Edit, sets, removes}
+use Rattle.level.specs.Side.{nearer, without, applyAll}
 use Rattle.level.specs.Ranked.{All, standing, afterMessage, named, replaces, replaced, Sorted}
 use Rattle.level.specs.Words.{levelsIn, wordsPast, noLevel, edit, entriesOf}
 use Rattle.level.specs.Kept.{maxWords, keptIn, held, Good}

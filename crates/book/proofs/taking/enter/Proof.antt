@@ -1,6 +1,6 @@
 -- `enter` meets its contract: side by side.
 use denote.Ref.{now}
-use Rattle.level.specs.declared.Side.the-variants.{Bids, Asks}
+use Rattle.edit.specs.declared.Side.the-variants.{Bids, Asks}
 use Rattle.sides.specs.Worked.{sideAfter}
 use Rattle.book.specs.Shown.{bookOf}
 use Rattle.book.specs.declared.Book.{Book}

@@ -3,7 +3,7 @@ use mathlib.Core.Path.{refl, sym, ap, _∙_}
 use mathlib.Core.Bool.{Bool}
 use Rattle.decimal.specs.Decimal.{isZero}
 use Rattle.level.specs.declared.Level.{Level}
-use Rattle.level.specs.Side.{sets, removes}
+use Rattle.edit.specs.Edit.{sets, removes}
 use Rattle.level.specs.Words.{edit, editFor, editOf}
 use Rattle.level.proofs.Packing.{edit-set, edit-removal}
 use borrow.Author.Needs.{needs}

@@ -1,24 +1,17 @@
--- Decimals in quotes, read where they lie, and the numbers of an entry.
+-- Decimals in quotes, read where they lie.
 -- Assumes nothing: these are definitions.
 use Prim.Native.Nat.{ℕ}
 use mathlib.Core.List.{List}
 use mathlib.Core.Path.{_≡_}
 use Rattle.decimal.specs.Digits.{reads}
 use Rattle.decimal.specs.Decimal.{number, read}
-use Rattle.decimal.specs.Limits.{Within}
-use Rattle.decimal.specs.declared.Decimal.{Decimal}
 use Rattle.json_tokens.specs.Tokens.{At, string}
-use Rattle.json.specs.Json.{Span}
 use Rattle.entries.specs.Places.{inner}
-use Rattle.entries.specs.Rows.{numberAt}
-use Rattle.entries.specs.Summary.{priceSpan, sizeSpan, entryPlaceAt}
+use Rattle.entries.specs.Found.{priceSpan, sizeSpan}
 use Rattle.entries.specs.Front.{Two}
-use Rattle.entries.specs.declared.Form.{Form}
 use Rattle.entries.specs.declared.EntryPlace.{EntryPlace}
 use Rattle.entries.specs.declared.Amounts.{Amounts}
 use Rattle.entries.specs.declared.QuotedDecimal.{QuotedDecimal}
-
--- ---- read in one go
 
 -- The string at a position is the decimal that r has, and ends where r says.
 pub record QuotedAt (s : List ℕ) (at : ℕ) (r : QuotedDecimal) : Type 0 where
@@ -32,15 +25,3 @@ pub record TwoDecimals (s : List ℕ) (at : ℕ) (r : Amounts) : Type 0 where
   pub ends : found .end ≡ r .end
   pub price : read (inner s (priceSpan found)) ≡ reads (number (r .price))
   pub size : read (inner s (sizeSpan found)) ≡ reads (number (r .size))
-
--- ---- the numbers of an entry
-
-pub record NumberOf (s : List ℕ) (a : Span) (d : Decimal) : Type 0 where
-  pub is : number d ≡ numberAt s a
-  pub within : Within (number d)
-
--- The price and the size of the entry that is found at a position, and its end.
-pub record EntryAt (form : Form) (depth : ℕ) (s : List ℕ) (at : ℕ) (r : Amounts) : Type 0 where
-  pub end : r .end ≡ entryPlaceAt form depth s at .end
-  pub price : NumberOf s (priceSpan (entryPlaceAt form depth s at)) (r .price)
-  pub size : NumberOf s (sizeSpan (entryPlaceAt form depth s at)) (r .size)

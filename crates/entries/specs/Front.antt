@@ -12,7 +12,7 @@ use Rattle.json_tokens.specs.Tokens.{End, At, Broken, blanks, separator, string
 use Rattle.json_tokens.specs.Ends.{endOf}
 use Rattle.json.specs.Json.{list, itemsEnd, element, value}
 use Rattle.entries.specs.Rows.{entryOf}
-use Rattle.entries.specs.Summary.{entryPlaceOf, priceSpan, sizeSpan, entryPlaceAt}
+use Rattle.entries.specs.Found.{entryPlaceOf, rowFrom, entryPlaceAt}
 use Rattle.entries.specs.declared.Form.{Form}
 use Rattle.entries.specs.declared.EntryPlace.{EntryPlace}
 
@@ -41,10 +41,10 @@ RestEnd depth s at r = (n : ℕ) → length s ≤ n + at → itemsEnd (list (ele
 
 -- An entry whose two strings end at `at` ends at r; an r of 0 says that what follows is no entry's.
 pub record EntryEnd (form : Form) (depth : ℕ) (s : List ℕ) (at r : ℕ) : Type 0 where
-  pub some : (r ≡ 0 → ⊥) → (from : ℕ) (f : EntryPlace) → Two s from f → f .end ≡ at → entryPlaceAt form depth s from ≡ entryPlaceOf r (reads (record { price = priceSpan f; size = sizeSpan f }))
+  pub some : (r ≡ 0 → ⊥) → (from : ℕ) (f : EntryPlace) → Two s from f → f .end ≡ at → entryPlaceAt form depth s from ≡ entryPlaceOf r (reads (rowFrom from f))
   pub none : r ≡ 0 → (from : ℕ) (f : EntryPlace) → Two s from f → f .end ≡ at → (to : ℕ) → entryOf form depth s (record { from = from; to = to }) ≡ refused
 
 -- The entry at `at` whose front is f, if it ends at e; an e of 0 says that it is none.
 pub record EndedAt (depth : ℕ) (s : List ℕ) (at : ℕ) (f : EntryPlace) (e : ℕ) (r : EntryPlace) : Type 0 where
-  pub some : (e ≡ 0 → ⊥) → r ≡ entryPlaceOf e (reads (record { price = priceSpan f; size = sizeSpan f }))
+  pub some : (e ≡ 0 → ⊥) → r ≡ entryPlaceOf e (reads (rowFrom at f))
   pub none : e ≡ 0 → r ≡ entryPlaceOf (endOf (value depth s at)) refused

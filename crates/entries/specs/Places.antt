@@ -2,7 +2,7 @@
 -- Assumes nothing: these are definitions.
 use Prim.Native.Nat.{ℕ, zero, suc, _+_, _-_}
 use mathlib.Core.Bool.{Bool, cond}
-use mathlib.Core.List.{List, [], _∷_}
+use mathlib.Core.List.{List, [], _∷_, _++_}
 use lib.Dec.{eqb}
 use lib.ListN.{take, drop}
 use Rattle.text.specs.Text.{byteAt}
@@ -21,6 +21,10 @@ andThen refused next = refused
 unfoldable pub all : {A B : Type 0} → (A → Reading B) → List A → Reading (List B)
 all f [] = reads []
 all f (a ∷ l) = andThen (f a) (λ b. andThen (all f l) (λ bs. reads (b ∷ bs)))
+
+-- The items of one reading and of another, in this order.
+unfoldable pub andAlso : {A : Type 0} → Reading (List A) → Reading (List A) → Reading (List A)
+andAlso x y = andThen x (λ l. andThen y (λ r. reads (l ++ r)))
 
 -- ---- values
 

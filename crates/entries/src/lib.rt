@@ -1,22 +1,20 @@
-// The entries of a message, read where they lie, with no copy: an entry is an array that begins with
-// two strings, a price and a size. What else it has is its form.
+// The entries of a message, read once, where they lie: an entry is an array that begins with two strings, a price and a size. What else it
+// has is its form. What each says goes into a buffer that is lent, in the order of the message; what was met is counted.
 //
 // Any position may be asked for. Each answer has the position past the value there, whatever it is,
 // or 0 where it is not JSON, so that one walk over a message finds out whether it is JSON and reads it.
 //
 // `depth` is how deep arrays and objects may nest in what is read.
 //
-// Example: the price of an entry of dialect K, `["5541.30","2.50700000","1534614248.123678"]`.
-//
-//     let found = entries::entry_at(s, at, depth, Form::Triple);
-//     if found.well_formed {
-//         let price = entries::parse_quoted(s, found.price_from, found.price_to);
-//         ..
-//     }
+//     let read = entries::entries_at(s, at, SIDE_DEPTH, Form::Triple, Side::Bids, entries::none_yet(), &mut buffer);
+//     edit::entry_in(&buffer, 0)     // the first of them, if read.tally.bids is not 0
 use decimal::Decimal;
 use decimal::Parsed;
 use decimal::ParsedFront;
 use decimal::parse;
+use edit::BUFFER_WORDS;
+use edit::Side;
+use edit::put;
 use json::MAX_DEPTH;
 use json::value_end;
 use json_tokens::OPEN_ARRAY;
@@ -29,22 +27,22 @@ use text::byte_at;
 use text::either;
 ghost use mathlib.Core.Path.{_≡_};
 ghost use mathlib.Core.Bool.{true, false, _||_};
-ghost use Prim.Native.Nat.{suc, _+_, _≤_};
+ghost use Prim.Native.Nat.{suc, _+_, _≤_, _<_, _^_};
+ghost use lib.ListN.{length};
+ghost use Rattle.text.specs.Text.{byteAt};
 ghost use Rattle.decimal.specs.Digits.{refused};
 ghost use Rattle.decimal.specs.Decimal.{number, read};
 ghost use Rattle.decimal.specs.Reads.{parsed};
+ghost use Rattle.edit.specs.Buffer.{bufferWords};
+ghost use Rattle.json_tokens.specs.Bytes.{openArray};
 ghost use Rattle.json_tokens.specs.Ends.{endOf};
 ghost use Rattle.json.specs.Json.{value};
 ghost use Rattle.entries.specs.Places.{inner};
-ghost use Rattle.entries.specs.Rows.{isBadPrice, isBadSize};
-ghost use Rattle.entries.specs.Summary.{entryPlaceOf, entryPlaceAt, isZeroSize, noEntries, summaryAt};
-ghost use Rattle.entries.specs.Arrays.{formOf, firstAt};
-ghost use Rattle.entries.specs.Counting.{Quoted, Placed, Laid, withNumbers, counted};
+ghost use Rattle.entries.specs.Rows.{isBadPrice, isBadSize, numberIn};
+ghost use Rattle.entries.specs.Found.{entryPlaceOf, entryPlaceAt, Quoted, Laid};
+ghost use Rattle.entries.specs.Tally.{noneYet, toldNot, earliest, withEntry, Counted, Met};
 ghost use Rattle.entries.specs.Front.{Front, RestEnd, EntryEnd, EndedAt};
-ghost use Rattle.entries.specs.Decimals.{QuotedAt, TwoDecimals, NumberOf, EntryAt};
-
-// The most entries of a side in one message.
-pub const MAX_ENTRIES: usize = 100;
+ghost use Rattle.entries.specs.Decimals.{QuotedAt, TwoDecimals};
 
 // How deep arrays and objects may nest in an entry of a message of dialect K or M.
 pub const ENTRY_DEPTH: usize = MAX_DEPTH - 3;
@@ -70,24 +68,30 @@ pub struct EntryPlace {
     pub well_formed: bool,
 }
 
-// What stands at a position, as an array of entries.
+// What was met of the entries of a message so far.
+pub struct Tally {
+    pub bids: usize,
+    pub asks: usize,
+    // Where the first entry begins whose price is no decimal or zero or whose size is no decimal, or 0 where there is none.
+    pub broken_at: usize,
+    // The same with a size of zero counted too, which a snapshot must not have.
+    pub strict_at: usize,
+    // Whether all that was met were arrays of entries. If not, the rest says nothing.
+    pub well_formed: bool,
+}
+
+// What was met once the value at a position was read.
 pub struct Entries {
     // Past the value, or 0 where it is not JSON.
     pub end: usize,
-    pub count: usize,
-    // Whether the value is an array of entries. If not, the rest but for the end says nothing.
-    pub well_formed: bool,
-    // Whether some price is no decimal or zero, or some size is no decimal.
-    pub broken: bool,
-    // Whether some size is zero.
-    pub zero: bool,
+    pub tally: Tally,
 }
 
-// The price and the size of an entry, and the position past it, or past the size alone. An end of 0 says that they were not read.
-pub struct Amounts {
-    pub price: Decimal,
-    pub size: Decimal,
-    pub end: usize,
+// The price and the size of an entry, and the position past the size. An end of 0 says that they were not read.
+struct Amounts {
+    price: Decimal,
+    size: Decimal,
+    end: usize,
 }
 
 // A decimal in quotes, and the position past them. An end of 0 says that none is there.
@@ -96,46 +100,43 @@ struct QuotedDecimal {
     end: usize,
 }
 
-// The form of the entries of dialect M, or else of K.
-pub fn form_of(m: bool) -> Form
-    ensures { λ r. ⌜ r ≡ formOf m ⌝ }
+// No entry was met yet.
+pub fn none_yet() -> Tally
+    ensures { λ r. ⌜ r ≡ noneYet ⌝ }
 {
-    if m {
-        return Form::Pair;
+    Tally {
+        bids: 0,
+        asks: 0,
+        broken_at: 0,
+        strict_at: 0,
+        well_formed: true,
     }
-    Form::Triple
 }
 
-// The value at `at` as an array of entries.
-pub fn entries_at(s: &[u8], at: usize, depth: usize, form: Form) -> Entries
-    requires { ⌜ 2 ≤ depth ⌝ }
-    ensures { λ r. ⌜ r ≡ summaryAt form depth (now (s .entry)) at ⌝ }
+// The value at `at` as an array of entries of one side, after those that were met before. They are put into the buffer behind these.
+pub fn entries_at(
+    s: &[u8],
+    at: usize,
+    depth: usize,
+    form: Form,
+    side: Side,
+    before: Tally,
+    buffer: &mut [u64; BUFFER_WORDS],
+) -> Entries
+    requires { ⌜ (2 ≤ depth) × (before .bids + before .asks ≤ at) × (length (now buffer) ≡ bufferWords) ⌝ }
+    ensures { λ r. ⌜ Met 0 (now (s .entry)) depth form side before at (now (buffer .entry)) (now (buffer .exit)) r ⌝ }
 {
     if byte_at(s, at) != OPEN_ARRAY {
-        return refused(value_end(s, at, depth));
+        return told_not(value_end(s, at, depth));
     }
-    let none = array_close_end(s, at + 1);
-    if 0 < none {
-        return empty(none);
+    let read = entries_in(&s[at..], at, depth, form, side, before, buffer);
+    if read.end == 0 {
+        return told_not(0);
     }
-    let mut i = skip_blanks(s, at + 1);
-    let mut sum = empty(0);
-    loop {
-        let more = next_entry(s, i, depth - 1, form, sum);
-        let past = more.end;
-        if past == 0 {
-            return refused(0);
-        }
-        let j = comma_end(s, past);
-        if j == 0 {
-            let end = array_close_end(s, past);
-            if end == 0 {
-                return refused(0);
-            }
-            return closed(more, end);
-        }
-        sum = more;
-        i = j;
+    let tally = read.tally;
+    Entries {
+        end: at + read.end,
+        tally,
     }
 }
 
@@ -152,33 +153,6 @@ pub fn entry_at(s: &[u8], at: usize, depth: usize, form: Form) -> EntryPlace
         };
     }
     passed_over(s, at, depth)
-}
-
-// Where the first entry of the array begins that the text begins with, or 0 where it has none.
-pub fn first_at(s: &[u8]) -> usize
-    ensures { λ r. ⌜ r ≡ firstAt (now (s .entry)) ⌝ }
-{
-    if 0 < array_close_end(s, 1) {
-        return 0;
-    }
-    skip_blanks(s, 1)
-}
-
-// The price and the size of the entry at `at`, and the position past it. Most often they are decimals, read on the way to its end.
-pub fn read_entry(s: &[u8], at: usize, depth: usize, form: Form) -> Amounts
-    requires { ⌜ (1 ≤ depth) × Placed (now s) (entryPlaceAt form depth (now s) at) ⌝ }
-    ensures { λ r. ⌜ EntryAt form depth (now (s .entry)) at r ⌝ }
-{
-    let front = two_amounts(s, at);
-    if 0 < front.end {
-        let end = entry_end(s, front.end, depth, form);
-        if 0 < end {
-            let price = front.price;
-            let size = front.size;
-            return Amounts { price, size, end };
-        }
-    }
-    any_entry(s, at, depth, form)
 }
 
 // What the string from `from` to `to`, quotes included, says. The decimal is read where it lies.
@@ -218,115 +192,155 @@ pub fn is_bad_size(size: Parsed, snapshot: bool) -> bool
 
 // ---- an array of entries
 
-// What was counted, and the entry at `at` more. Most entries have two decimals, which are read in one go on the way to the entry's end;
+// The array of entries that the text begins with, which stands at `base` of its message.
+fn entries_in(
+    s: &[u8],
+    base: usize,
+    depth: usize,
+    form: Form,
+    side: Side,
+    before: Tally,
+    buffer: &mut [u64; BUFFER_WORDS],
+) -> Entries
+    requires { ⌜ (2 ≤ depth) × (before .bids + before .asks ≤ base) × (base + length (now s) < 2 ^ 63) × (byteAt (now s) 0 ≡ openArray) × (length (now buffer) ≡ bufferWords) ⌝ }
+    ensures { λ r. ⌜ Met base (now (s .entry)) depth form side before 0 (now (buffer .entry)) (now (buffer .exit)) r ⌝ }
+{
+    let none = array_close_end(s, 1);
+    if 0 < none {
+        return Entries {
+            end: none,
+            tally: before,
+        };
+    }
+    let mut i = skip_blanks(s, 1);
+    let mut tally = before;
+    loop {
+        let more = next_entry(s, i, base, depth - 1, form, side, tally, buffer);
+        let past = more.end;
+        if past == 0 {
+            return told_not(0);
+        }
+        let j = comma_end(s, past);
+        if j == 0 {
+            let end = array_close_end(s, past);
+            if end == 0 {
+                return told_not(0);
+            }
+            let all = more.tally;
+            return Entries { end, tally: all };
+        }
+        tally = more.tally;
+        i = j;
+    }
+}
+
+// What was met, and the entry at `at` more. Most entries have two decimals, which are read in one go on the way to the entry's end;
 // any other is found first. Where the value there is not JSON, the end is 0.
-fn next_entry(s: &[u8], at: usize, depth: usize, form: Form, sum: Entries) -> Entries
-    requires { ⌜ (1 ≤ depth) × (sum .count ≤ at) ⌝ }
-    ensures { λ r. ⌜ r ≡ counted (now (s .entry)) sum (entryPlaceAt form depth (now (s .entry)) at) ⌝ }
+fn next_entry(
+    s: &[u8],
+    at: usize,
+    base: usize,
+    depth: usize,
+    form: Form,
+    side: Side,
+    before: Tally,
+    buffer: &mut [u64; BUFFER_WORDS],
+) -> Entries
+    requires { ⌜ (1 ≤ depth) × (before .bids + before .asks ≤ base + at) × (base + length (now s) < 2 ^ 63) × (length (now buffer) ≡ bufferWords) ⌝ }
+    ensures { λ r. ⌜ Counted (now (s .entry)) side before (base + at) (entryPlaceAt form depth (now (s .entry)) at) (now (buffer .entry)) (now (buffer .exit)) r ⌝ }
 {
     let front = two_amounts(s, at);
     if 0 < front.end {
         let end = entry_end(s, front.end, depth, form);
         if 0 < end {
-            return with_amounts(sum, front, end);
+            let price = front.price;
+            let size = front.size;
+            put(buffer, before.bids + before.asks, side, price, size);
+            let broken = decimal::is_zero(price);
+            let strict = either(broken, decimal::is_zero(size));
+            let tally = with_entry(before, side, base + at, broken, strict);
+            return Entries { end, tally };
         }
     }
     let found = entry_at(s, at, depth, form);
     if found.end == 0 {
-        return refused(0);
+        return told_not(0);
     }
-    counted(s, sum, found)
+    any_entry(s, base + at, found, side, before, buffer)
 }
 
-// What was counted, and one entry more.
-fn counted(s: &[u8], sum: Entries, found: EntryPlace) -> Entries
-    requires { ⌜ Laid (now s) found × (sum .count + 1 ≤ found .end) ⌝ }
-    ensures { λ r. ⌜ r ≡ counted (now (s .entry)) sum found ⌝ }
+// The same for the entry that was found there, whatever its strings hold; `at` is its place in the message.
+fn any_entry(
+    s: &[u8],
+    at: usize,
+    found: EntryPlace,
+    side: Side,
+    before: Tally,
+    buffer: &mut [u64; BUFFER_WORDS],
+) -> Entries
+    requires { ⌜ Laid (now s) found × (before .bids + before .asks < 2 ^ 63) × (length (now buffer) ≡ bufferWords) ⌝ }
+    ensures { λ r. ⌜ Counted (now (s .entry)) side before at found (now (buffer .entry)) (now (buffer .exit)) r ⌝ }
 {
-    let end = found.end;
-    if sum.well_formed {
-        if found.well_formed {
-            let price = parse_quoted(s, found.price_from, found.price_to);
-            let size = parse_quoted(s, found.size_from, found.size_to);
-            let bad = either(is_bad_price(price), is_bad_size(size, false));
-            return Entries {
-                end,
-                well_formed: true,
-                count: sum.count + 1,
-                broken: either(sum.broken, bad),
-                zero: either(sum.zero, is_zero_size(size)),
-            };
-        }
-        return refused(end);
-    }
-    refused(end)
-}
-
-// What was counted, and one entry more: its two decimals, and its end.
-fn with_amounts(sum: Entries, front: Amounts, end: usize) -> Entries
-    requires { ⌜ sum .count + 1 ≤ end ⌝ }
-    ensures { λ r. ⌜ r ≡ withNumbers sum end (number (front .price)) (number (front .size)) ⌝ }
-{
-    if sum.well_formed {
-        let price = front.price;
-        let size = front.size;
+    if found.well_formed {
+        let price = parse_quoted(s, found.price_from, found.price_to);
+        let size = parse_quoted(s, found.size_from, found.size_to);
+        put(buffer, before.bids + before.asks, side, number_of(price), number_of(size));
+        let bad = is_bad_price(price);
+        let broken = either(bad, is_bad_size(size, false));
+        let strict = either(bad, is_bad_size(size, true));
+        let tally = with_entry(before, side, at, broken, strict);
         return Entries {
-            end,
-            well_formed: true,
-            count: sum.count + 1,
-            broken: either(sum.broken, decimal::is_zero(price)),
-            zero: either(sum.zero, decimal::is_zero(size)),
+            end: found.end,
+            tally,
         };
     }
-    refused(end)
+    told_not(found.end)
 }
 
-// Whether the text of a size says zero.
-fn is_zero_size(size: Parsed) -> bool
-    ensures { λ r. ⌜ r ≡ isZeroSize (parsed size) ⌝ }
+// What was met, and one entry more, which begins at `at`.
+fn with_entry(before: Tally, side: Side, at: usize, broken: bool, strict: bool) -> Tally
+    requires { ⌜ before .bids + before .asks < 2 ^ 63 ⌝ }
+    ensures { λ r. ⌜ r ≡ withEntry before side at broken strict ⌝ }
 {
-    match size {
-        Parsed::Number(d) => decimal::is_zero(d),
-        Parsed::Refused => false,
+    let mut tally = before;
+    match side {
+        Side::Bids => {
+            tally.bids += 1;
+        }
+        Side::Asks => {
+            tally.asks += 1;
+        }
     }
+    tally.broken_at = earliest(before.broken_at, broken, at);
+    tally.strict_at = earliest(before.strict_at, strict, at);
+    tally
 }
 
-// What was counted of an array that ends at `end`.
-fn closed(sum: Entries, end: usize) -> Entries
-    ensures { λ r. ⌜ r ≡ record { end = end; «well_formed» = sum .«well_formed»; count = sum .count; broken = sum .broken; zero = sum .zero } ⌝ }
+// Where the first of some kind begins, if one more begins at `at`.
+fn earliest(known: usize, is_one: bool, at: usize) -> usize
+    ensures { λ r. ⌜ r ≡ earliest known «is_one» at ⌝ }
 {
-    Entries {
-        end,
-        well_formed: sum.well_formed,
-        count: sum.count,
-        broken: sum.broken,
-        zero: sum.zero,
+    if known == 0 {
+        if is_one {
+            return at;
+        }
     }
-}
-
-// An array of no entries that ends at `end`.
-fn empty(end: usize) -> Entries
-    ensures { λ r. ⌜ r ≡ record { end = end; «well_formed» = true; count = 0; broken = false; zero = false } ⌝ }
-{
-    Entries {
-        end,
-        well_formed: true,
-        count: 0,
-        broken: false,
-        zero: false,
-    }
+    known
 }
 
 // A value that ends at `end` and is no array of entries.
-fn refused(end: usize) -> Entries
-    ensures { λ r. ⌜ r ≡ noEntries end ⌝ }
+fn told_not(end: usize) -> Entries
+    ensures { λ r. ⌜ r ≡ toldNot end ⌝ }
 {
     Entries {
         end,
-        well_formed: false,
-        count: 0,
-        broken: false,
-        zero: false,
+        tally: Tally {
+            bids: 0,
+            asks: 0,
+            broken_at: 0,
+            strict_at: 0,
+            well_formed: false,
+        },
     }
 }
 
@@ -447,27 +461,11 @@ fn no_entry(end: usize) -> EntryPlace
 
 // ---- its price and its size
 
-// The price and the size of the entry at `at`, whatever its strings hold.
-fn any_entry(s: &[u8], at: usize, depth: usize, form: Form) -> Amounts
-    requires { ⌜ (1 ≤ depth) × Placed (now s) (entryPlaceAt form depth (now s) at) ⌝ }
-    ensures { λ r. ⌜ EntryAt form depth (now (s .entry)) at r ⌝ }
+// The decimal that was read, or 0.
+fn number_of(text: Parsed) -> Decimal
+    ensures { λ r. ⌜ number r ≡ numberIn (parsed text) ⌝ }
 {
-    let found = entry_at(s, at, depth, form);
-    let price = number_at(s, found.price_from, found.price_to);
-    let size = number_at(s, found.size_from, found.size_to);
-    Amounts {
-        price,
-        size,
-        end: found.end,
-    }
-}
-
-// The decimal in the string from `from` to `to`; 0 where it is none.
-fn number_at(s: &[u8], from: usize, to: usize) -> Decimal
-    requires { ⌜ Quoted (now s) from to ⌝ }
-    ensures { λ r. ⌜ NumberOf (now (s .entry)) (record { from = from; to = to }) r ⌝ }
-{
-    match parse_quoted(s, from, to) {
+    match text {
         Parsed::Number(d) => d,
         Parsed::Refused => decimal::zero(),
     }

@@ -1,11 +1,13 @@
 -- What is read of a message, in either dialect. Assumes nothing: these are definitions.
 use Prim.Native.Nat.{ℕ}
-use mathlib.Core.Bool.{Bool, true, false}
+use mathlib.Core.Bool.{Bool, true, false, cond}
 use mathlib.Core.List.{List, [], _∷_}
-use Rattle.decimal.specs.Digits.{Reading, reads, refused}
-use Rattle.json.specs.Json.{Span}
-use Rattle.entries.specs.Places.{andThen}
-use Rattle.entries.specs.Rows.{Row, entriesAt}
+use Rattle.decimal.specs.Digits.{Reading, reads}
+use Rattle.edit.specs.declared.Side.the-variants.{Bids, Asks}
+use Rattle.json.specs.Json.{Pair}
+use Rattle.json.specs.Names.{means}
+use Rattle.entries.specs.Places.{andThen, andAlso}
+use Rattle.entries.specs.Rows.{Entry, sidedAt}
 use Rattle.entries.specs.declared.Form.{Form}
 use Rattle.layout.specs.declared.Kind.{Kind}
 use Rattle.layout.specs.declared.Kind.the-variants.{Snapshot, Update}
@@ -19,16 +21,10 @@ pub data Printed : Type 0 where
   printed : ℕ → Printed
   unprinted : Printed
 
--- The entries of one side in written order, and the position where their array begins, which is 0 if the message has none for that side.
-pub record Listed : Type 0 where
-  pub at : ℕ
-  pub rows : List Row
-
--- What the layout of a message gives: its kind, the entries of each side, the checksum, the sequence number.
+-- What the layout of a message gives: its kind, its entries in the order in which they stand in it, the checksum, the sequence number.
 pub record Layout : Type 0 where
   pub kind : Kind
-  pub bids : Listed
-  pub asks : Listed
+  pub entries : List Entry
   pub checksum : Printed
   pub number : ℕ
 
@@ -38,14 +34,16 @@ pub record Envelope : Type 0 where
   pub ours : Bool
   pub layout : Reading Layout
 
--- The entries of a side that has no array.
-abbrev pub unlisted : Listed
-unlisted = record { at = 0; rows = [] }
+-- The entries that a member holds, by its name: the bids' or the asks'. depth is how deep arrays and objects may nest in its value.
+unfoldable pub memberEntries : Form → ℕ → List ℕ → List ℕ → List ℕ → Pair → Reading (List Entry)
+memberEntries form depth s bids asks m =
+    cond (means s (m .name) bids) (sidedAt Bids form depth s (m .value))
+    (cond (means s (m .name) asks) (sidedAt Asks form depth s (m .value)) (reads []))
 
--- The array of entries that a value is; depth is how deep arrays and objects may nest in it.
-unfoldable pub listedAt : Form → ℕ → List ℕ → Span → Reading Listed
-listedAt form depth s a = andThen (entriesAt form depth s a) (λ rows. reads (record { at = a .from; rows = rows }))
+-- Those that the members of an object hold, in their order.
+unfoldable pub entriesIn : Form → ℕ → List ℕ → List ℕ → List ℕ → List Pair → Reading (List Entry)
+entriesIn form depth s bids asks [] = reads []
+entriesIn form depth s bids asks (m ∷ ms) = andAlso (memberEntries form depth s bids asks m) (entriesIn form depth s bids asks ms)
 
-unfoldable pub laid : Kind → Printed → ℕ → Reading Listed → Reading Listed → Reading Layout
-laid kind sum number bids asks =
-    andThen bids (λ b. andThen asks (λ a. reads (record { kind = kind; bids = b; asks = a; checksum = sum; number = number })))
+unfoldable pub laid : Kind → Printed → ℕ → Reading (List Entry) → Reading Layout
+laid kind sum number entries = andThen entries (λ es. reads (record { kind = kind; entries = es; checksum = sum; number = number }))

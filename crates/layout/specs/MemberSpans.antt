@@ -4,10 +4,7 @@ use Prim.Native.Nat.{ℕ, zero, suc}
 use mathlib.Core.List.{List}
 use Rattle.json.specs.Json.{Span}
 use Rattle.json.specs.Fold.{foldFrom}
-use Rattle.layout.specs.Scan.{notEntryArray}
-use Rattle.layout.specs.declared.EntryArray.{EntryArray}
 use Rattle.layout.specs.declared.MemberSpan.{MemberSpan}
-use Rattle.layout.specs.declared.EntryMember.{EntryMember}
 
 -- none, one, or more
 unfoldable pub few : ℕ → ℕ
@@ -20,8 +17,6 @@ unfoldable pub fewMore : ℕ → ℕ
 fewMore zero = 1
 fewMore (suc n) = 2
 
--- ---- members whose value is looked at later
-
 abbrev pub noMemberSpan : MemberSpan
 noMemberSpan = record { times = 0; from = 0; to = 0 }
 
@@ -30,14 +25,3 @@ withMemberSpan m a = record { times = fewMore (m .times); from = a .from; to = a
 
 abbrev pub memberSpanOf : List Span → MemberSpan
 memberSpanOf l = foldFrom withMemberSpan noMemberSpan l
-
--- ---- members that hold entries
-
-abbrev pub noEntryMember : EntryMember
-noEntryMember = record { times = 0; listing = notEntryArray }
-
-unfoldable pub withEntryArray : (Span → EntryArray) → EntryMember → Span → EntryMember
-withEntryArray listing t a = record { times = fewMore (t .times); listing = listing a }
-
-abbrev pub entryMemberOf : (Span → EntryArray) → List Span → EntryMember
-entryMemberOf listing l = foldFrom (withEntryArray listing) noEntryMember l

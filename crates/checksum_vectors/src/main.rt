@@ -15,10 +15,10 @@ ghost use Rattle.checksum_vectors.specs.Book.{pieceFor, Valid, ValidSide
 use decimal::Decimal;
 use decimal::Parsed;
 use decimal::ParsedWhole;
+use edit::Side;
 use level::Level;
 use level::Levels;
 use level::MaybeLevel;
-use edit::Side;
 use libc::STDIN_FILENO;
 use libc::STDOUT_FILENO;
 use lines::LINE_END;

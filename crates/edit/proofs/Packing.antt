@@ -8,7 +8,8 @@ use Rattle.decimal.specs.Decimal.{Number}
 use Rattle.decimal.specs.Limits.{Within}
 use Rattle.edit.specs.declared.Side.{Side}
 use Rattle.edit.specs.declared.Side.the-variants.{Bids, Asks}
-use Rattle.edit.specs.Buffer.{Numbers, sideNumber, sideIn, entryOf}
+use Rattle.edit.specs.Edit.{Numbers}
+use Rattle.edit.specs.Buffer.{sideNumber, sideIn, entryOf}
 
 -- the low part of a number, and what is above it
 pub low : (m : ℕ) (x y : ℕ) → x < m → (x + m * y) % m ≡ x

@@ -1,19 +1,13 @@
 -- Entries in a buffer, a word each for the price's digits, the size's digits and the rest. Assumes nothing: these are definitions.
 use Prim.Native.Nat.{ℕ, zero, suc, _+_, _*_, _/_, _%_, _^_}
 use mathlib.Core.Path.{_≡_}
-use mathlib.Core.Bool.{Bool, true, false, cond}
 use mathlib.Core.List.{List, [], _∷_}
 use lib.ListN.{length, set}
-use Rattle.decimal.specs.Decimal.{Number, number}
+use Rattle.decimal.specs.Decimal.{number}
+use Rattle.edit.specs.Edit.{Numbers}
 use Rattle.edit.specs.declared.Side.{Side}
 use Rattle.edit.specs.declared.Side.the-variants.{Bids, Asks}
 use Rattle.edit.specs.declared.Buffered.{Buffered}
-
-unfoldable pub isSame : Side → Side → Bool
-isSame Bids Bids = true
-isSame Bids Asks = false
-isSame Asks Bids = false
-isSame Asks Asks = true
 
 -- What is made of the words of a list, three at a time.
 unfoldable pub byThrees : {A : Type 0} → (ℕ → ℕ → ℕ → A) → List ℕ → List A
@@ -28,12 +22,6 @@ maxBuffered = 200
 
 abbrev pub bufferWords : ℕ
 bufferWords = 3 * maxBuffered
-
--- What an entry says in numbers. A text that is no decimal says 0.
-pub record Numbers : Type 0 where
-  pub side : Side
-  pub price : Number
-  pub size : Number
 
 abbrev pub numbersOf : Buffered → Numbers
 numbersOf e = record { side = e .side; price = number (e .price); size = number (e .size) }

@@ -8,7 +8,8 @@ ghost use Prim.Native.Nat.{_<_};
 ghost use lib.ListN.{length, getD};
 ghost use Rattle.decimal.specs.Decimal.{number};
 ghost use Rattle.decimal.specs.Limits.{Within};
-ghost use Rattle.edit.specs.Buffer.{maxBuffered, bufferWords, sideIn, isSame, entriesIn, numbersOf, noNumbers, Put, sideNumber};
+ghost use Rattle.edit.specs.Edit.{isSame};
+ghost use Rattle.edit.specs.Buffer.{maxBuffered, bufferWords, sideIn, entriesIn, numbersOf, noNumbers, Put, sideNumber};
 use decimal::Decimal;
 
 pub enum Side {

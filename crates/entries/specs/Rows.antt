@@ -5,7 +5,7 @@ use mathlib.Core.Bool.{Bool, true, _&&_, _||_, cond}
 use mathlib.Core.List.{List, [], _∷_, _++_, map}
 use Rattle.decimal.specs.Digits.{Reading, reads, refused}
 use Rattle.decimal.specs.Decimal.{Number, read, isZero}
-use Rattle.edit.specs.Buffer.{Numbers}
+use Rattle.edit.specs.Edit.{Numbers}
 use Rattle.edit.specs.declared.Side.{Side}
 use Rattle.json.specs.Json.{Span}
 use Rattle.entries.specs.Places.{andThen, all, isString, inner, arrayAt}

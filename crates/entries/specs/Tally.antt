@@ -7,7 +7,8 @@ use mathlib.Core.List.{List, [], _∷_, _++_, map}
 use lib.Dec.{eqb}
 use lib.ListN.{length, take}
 use Rattle.decimal.specs.Digits.{Reading, reads, refused}
-use Rattle.edit.specs.Buffer.{maxBuffered, bufferWords, Numbers, entriesIn, Put}
+use Rattle.edit.specs.Edit.{Numbers}
+use Rattle.edit.specs.Buffer.{maxBuffered, bufferWords, entriesIn, Put}
 use Rattle.edit.specs.declared.Side.{Side}
 use Rattle.edit.specs.declared.Side.the-variants.{Bids, Asks}
 use Rattle.json_tokens.specs.Tokens.{At, Broken}

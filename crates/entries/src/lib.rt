@@ -284,7 +284,13 @@ fn any_entry(
     if found.well_formed {
         let price = parse_quoted(s, found.price_from, found.price_to);
         let size = parse_quoted(s, found.size_from, found.size_to);
-        put(buffer, before.bids + before.asks, side, number_of(price), number_of(size));
+        put(
+            buffer,
+            before.bids + before.asks,
+            side,
+            number_of(price),
+            number_of(size),
+        );
         let bad = is_bad_price(price);
         let broken = either(bad, is_bad_size(size, false));
         let strict = either(bad, is_bad_size(size, true));

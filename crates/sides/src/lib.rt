@@ -5,9 +5,9 @@ ghost use lib.ListN.{length};
 ghost use Rattle.level.specs.Kept.{keptIn, held};
 ghost use Rattle.entries.specs.Arrays.{formOf, Ready};
 ghost use Rattle.sides.specs.Worked.{Sound, editsAt, sideAfter, Worked};
+use edit::Side;
 use entries::MAX_ENTRIES;
 use level::MAX_WORDS;
-use edit::Side;
 use side::Applied;
 
 // The side after the entries in the array at `at`, of which there are `count`; `m` says that the dialect is M, else it is K. The side

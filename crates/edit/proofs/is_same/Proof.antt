@@ -1,6 +1,6 @@
 -- `is_same` meets its contract, by cases.
 use borrow.Author.Needs.{needs}
-use Rattle.edit.specs.Buffer.{isSame}
+use Rattle.edit.specs.Edit.{isSame}
 use Rattle.edit.proofs.is_same.Statement.{statement}
 use Rattle.edit.proofs.is_same.Tie as tie
 

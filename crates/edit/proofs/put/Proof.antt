@@ -5,7 +5,8 @@ use native.Mathlib.Omega.{arith}
 use borrow.Author.Needs.{needs}
 use lib.ListN.{set, length-set}
 use Rattle.decimal.specs.Decimal.{number}
-use Rattle.edit.specs.Buffer.{Numbers, entryOf, entriesIn}
+use Rattle.edit.specs.Edit.{Numbers}
+use Rattle.edit.specs.Buffer.{entryOf, entriesIn}
 use Rattle.edit.proofs.Threes.{threes-length, threes-set, set-past}
 use Rattle.edit.proofs.Packing.{side-few, packed, entry-packed}
 use Rattle.edit.proofs.put.Statement.{statement}

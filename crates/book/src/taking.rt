@@ -51,19 +51,20 @@ pub fn receive(
 {
     let settings = header.settings;
     let lifecycle = header.lifecycle;
-    match judge(settings, lifecycle, header.number, s) {
+    let mut buffer = [0; BUFFER_WORDS];
+    match judge(settings, lifecycle, header.number, s, &mut buffer) {
         Verdict::Fails(refusal) => Answered {
             header: refuse(header, refusal),
             answer: refusal,
         },
         Verdict::Passes(outline) => {
             if outline.bids == 0 {
-                return take_asks(header, outline, bids, asks, s, table);
+                return take_asks(header, outline, bids, asks, &buffer, table);
             }
             if outline.asks == 0 {
-                return take_bids(header, outline, bids, asks, s, table);
+                return take_bids(header, outline, bids, asks, &buffer, table);
             }
-            take_both(header, outline, bids, asks, s, table)
+            take_both(header, outline, bids, asks, &buffer, table)
         }
     }
 }

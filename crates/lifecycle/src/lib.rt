@@ -111,10 +111,17 @@ pub fn count_levels(lifecycle: Lifecycle, scope: Scope, bids: usize, asks: usize
     }
 }
 
-// Checks 1 to 8, 10 and 11, of a book with these settings that stands so and has that sequence number.
-pub fn judge(settings: Settings, lifecycle: Lifecycle, number: u64, s: &[u8]) -> Verdict
-    requires { ⌜ Ruled settings lifecycle ⌝ }
-    ensures { λ r. ⌜ r ≡ judged settings lifecycle number (now (s .entry)) ⌝ }
+// Checks 1 to 8, 10 and 11, of a book with these settings that stands so and has that sequence number. The buffer has the entries of a message that
+// passes, and is free after a refusal.
+pub fn judge(
+    settings: Settings,
+    lifecycle: Lifecycle,
+    number: u64,
+    s: &[u8],
+    buffer: &mut [u64; BUFFER_WORDS],
+) -> Verdict
+    requires { ⌜ Ruled settings lifecycle × (length (now buffer) ≡ bufferWords) ⌝ }
+    ensures { λ r. ⌜ JudgedAs settings lifecycle number (now (s .entry)) (now (buffer .exit)) r ⌝ }
 {
     let state = lifecycle.state;
     if is_shut(state) {
@@ -124,7 +131,7 @@ pub fn judge(settings: Settings, lifecycle: Lifecycle, number: u64, s: &[u8]) ->
     let depth = settings.depth;
     let name = settings.name;
     let n = settings.length;
-    match message::read_open(dialect, depth, &name[..n], s) {
+    match message::read_open(dialect, depth, &name[..n], s, buffer) {
         Verdict::Fails(answer) => Verdict::Fails(answer),
         Verdict::Passes(outline) => {
             let rules = rules_of(dialect);

@@ -5,21 +5,19 @@ ghost use Prim.Native.Nat.{_+_};
 ghost use mathlib.Core.Bool.{true};
 ghost use Rattle.json.specs.Names.{part};
 ghost use Rattle.settings.specs.Settings.{good};
-ghost use Rattle.entries.specs.Arrays.{Ready};
-ghost use Rattle.layout.specs.Layout.{isSnapshot};
+ghost use Rattle.entries.specs.Found.{entryDepth, entryPlaceAt, Placed};
 ghost use Rattle.message.specs.Meaning.{badDecimal, firstBadOf, framed};
-ghost use Rattle.message.specs.Bad.{partOf, badAt, earlierPlace, PlaceIs, PartIs};
+ghost use Rattle.message.specs.Bad.{partOf, formOf, badIn, PartIs};
 use crate::Part;
 use crate::Verdict;
 use crate::read_frame;
+use edit::BUFFER_WORDS;
+use entries::ENTRY_DEPTH;
 use entries::Form;
-use entries::form_of;
-use first_bad::Place;
-use first_bad::first_bad;
-use layout::Outline;
-use layout::is_snapshot;
+use entries::entry_at;
+use entries::is_bad_price;
+use entries::parse_quoted;
 use settings::Dialect;
-use settings::is_m;
 
 // The first text that breaks a rule of decimals, quotes included, as a part of the message; the empty part at its start where
 // the settings are bad, another check refuses the message, or nothing is broken.
@@ -46,70 +44,41 @@ fn bad_in_frame(dialect: Dialect, depth: usize, name: &[u8], s: &[u8]) -> Part
     requires { ⌜ good (record { dialect = dialect; depth = depth; name = now name }) ≡ true ⌝ }
     ensures { λ r. ⌜ PartIs (now (s .entry)) (partOf (firstBadOf (now (s .entry)) (framed (record { dialect = dialect; depth = depth; name = now (name .entry) }) (now (s .entry))))) r ⌝ }
 {
-    match read_frame(dialect, depth, name, s) {
+    let mut buffer = [0; BUFFER_WORDS];
+    match read_frame(dialect, depth, name, s, &mut buffer) {
         Verdict::Fails(_) => Part { from: 0, to: 0 },
-        Verdict::Passes(outline) => bad_in(s, form_of(is_m(dialect)), outline),
+        Verdict::Passes(outline) => bad_in(s, form_of(dialect), outline.bad_at),
     }
 }
 
-// Of the first bad texts of both sides the one that is written first.
-fn bad_in(s: &[u8], form: Form, outline: Outline) -> Part
-    requires { ⌜ Ready form (now s) (outline .«bids_at») (outline .bids) × Ready form (now s) (outline .«asks_at») (outline .asks) ⌝ }
-    ensures { λ r. ⌜ PartIs (now (s .entry)) (earlierPlace (badAt form (now (s .entry)) (outline .«bids_at») (outline .bids) (isSnapshot (outline .kind))) (badAt form (now (s .entry)) (outline .«asks_at») (outline .asks) (isSnapshot (outline .kind)))) r ⌝ }
+// The form of a dialect's entries.
+fn form_of(dialect: Dialect) -> Form
+    ensures { λ r. ⌜ r ≡ formOf dialect ⌝ }
 {
-    let kind = outline.kind;
-    let snapshot = is_snapshot(kind);
-    let bid = bad_at(s, form, outline.bids_at, outline.bids, snapshot);
-    let ask = bad_at(s, form, outline.asks_at, outline.asks, snapshot);
-    earlier(bid, ask)
+    match dialect {
+        Dialect::K => Form::Triple,
+        Dialect::M => Form::Pair,
+        Dialect::Unknown => Form::Pair,
+    }
 }
 
-fn earlier(bid: Place, ask: Place) -> Part
-    ensures { λ r. ⌜ r ≡ earlierPlace bid ask ⌝ }
+// The first text of the entry at `at` that breaks a rule of decimals: the price, or else the size. 0 says that there is none.
+fn bad_in(s: &[u8], form: Form, at: usize) -> Part
+    requires { ⌜ (at ≡ 0 → ⊥) → Placed (now s) (entryPlaceAt form entryDepth (now s) at) ⌝ }
+    ensures { λ r. ⌜ r ≡ badIn (now (s .entry)) form at ⌝ }
 {
-    if bid.bad {
-        if ask.bad {
-            if ask.from < bid.from {
-                return Part {
-                    from: ask.from,
-                    to: ask.to,
-                };
-            }
-            return Part {
-                from: bid.from,
-                to: bid.to,
-            };
-        }
+    if at == 0 {
+        return Part { from: 0, to: 0 };
+    }
+    let found = entry_at(s, at, ENTRY_DEPTH, form);
+    if is_bad_price(parse_quoted(s, found.price_from, found.price_to)) {
         return Part {
-            from: bid.from,
-            to: bid.to,
+            from: found.price_from,
+            to: found.price_to,
         };
     }
     Part {
-        from: ask.from,
-        to: ask.to,
+        from: found.size_from,
+        to: found.size_to,
     }
-}
-
-// The first bad text of the entries at a position.
-fn bad_at(s: &[u8], form: Form, at: usize, count: usize, snapshot: bool) -> Place
-    requires { ⌜ Ready form (now s) at count ⌝ }
-    ensures { λ r. ⌜ PlaceIs (now (s .entry)) (badAt form (now (s .entry)) at count snapshot) r ⌝ }
-{
-    if count == 0 {
-        return Place {
-            bad: false,
-            from: 0,
-            to: 0,
-        };
-    }
-    let place = first_bad(&s[at..], form, snapshot);
-    if place.bad {
-        return Place {
-            bad: true,
-            from: at + place.from,
-            to: at + place.to,
-        };
-    }
-    place
 }

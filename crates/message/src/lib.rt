@@ -3,6 +3,7 @@
 mod bad;
 
 use answer::Answer;
+use edit::BUFFER_WORDS;
 use json::MAX_DEPTH;
 use json::value_end;
 use json_tokens::is_ended;
@@ -17,10 +18,11 @@ use settings::rules_of;
 ghost use mathlib.Core.Path.{_≡_};
 ghost use mathlib.Core.Bool.{true};
 ghost use Rattle.settings.specs.Settings.{good};
-ghost use Rattle.layout.specs.Scan.{scanAt};
+ghost use lib.ListN.{length};
+ghost use Rattle.edit.specs.Buffer.{bufferWords};
+ghost use Rattle.layout.specs.Scan.{Scanned};
 ghost use Rattle.message.specs.Meaning.{envelopeIn, framed, checked};
-ghost use Rattle.message.specs.Verdict.{judged};
-ghost use Rattle.message.specs.Verdict.{verdictOf};
+ghost use Rattle.message.specs.Verdict.{judged, verdictOf, Judged};
 pub use bad::bad_decimal;
 pub use bad::bad_place;
 ghost use Rattle.message.specs.Deciding.{decided, addressedScan, laidOutline};
@@ -39,25 +41,32 @@ pub struct Part {
     pub to: usize,
 }
 
-// Checks 1 to 8.
+// Checks 1 to 8, for who asks of a message alone.
 pub fn read(dialect: Dialect, depth: usize, name: &[u8], s: &[u8]) -> Verdict
     ensures { λ r. ⌜ r ≡ verdictOf (now (s .entry)) (judged (record { dialect = dialect; depth = depth; name = now (name .entry) }) (now (s .entry))) ⌝ }
 {
     if settings::is_good(dialect, depth, name) {
-        return read_open(dialect, depth, name, s);
+        let mut buffer = [0; BUFFER_WORDS];
+        return read_open(dialect, depth, name, s, &mut buffer);
     }
     Verdict::Fails(Answer::Shut)
 }
 
-// Checks 2 to 8, of a book that is not shut.
-pub fn read_open(dialect: Dialect, depth: usize, name: &[u8], s: &[u8]) -> Verdict
-    requires { ⌜ good (record { dialect = dialect; depth = depth; name = now name }) ≡ true ⌝ }
-    ensures { λ r. ⌜ r ≡ verdictOf (now (s .entry)) (checked (record { dialect = dialect; depth = depth; name = now (name .entry) }) (now (s .entry))) ⌝ }
+// Checks 2 to 8, of a book that is not shut. The buffer has the entries of a message that passes, and is free after a refusal.
+pub fn read_open(
+    dialect: Dialect,
+    depth: usize,
+    name: &[u8],
+    s: &[u8],
+    buffer: &mut [u64; BUFFER_WORDS],
+) -> Verdict
+    requires { ⌜ (good (record { dialect = dialect; depth = depth; name = now name }) ≡ true) × (length (now buffer) ≡ bufferWords) ⌝ }
+    ensures { λ r. ⌜ Judged (now (s .entry)) (checked (record { dialect = dialect; depth = depth; name = now (name .entry) }) (now (s .entry))) (now (buffer .exit)) r ⌝ }
 {
-    match read_frame(dialect, depth, name, s) {
+    match read_frame(dialect, depth, name, s, buffer) {
         Verdict::Fails(answer) => Verdict::Fails(answer),
         Verdict::Passes(outline) => {
-            if outline.bad {
+            if outline.bad_at != 0 {
                 return Verdict::Fails(Answer::BadDecimal);
             }
             Verdict::Passes(outline)
@@ -65,28 +74,41 @@ pub fn read_open(dialect: Dialect, depth: usize, name: &[u8], s: &[u8]) -> Verdi
     }
 }
 
-// Checks 2 to 7, of a book that is not shut.
-pub fn read_frame(dialect: Dialect, depth: usize, name: &[u8], s: &[u8]) -> Verdict
-    requires { ⌜ good (record { dialect = dialect; depth = depth; name = now name }) ≡ true ⌝ }
-    ensures { λ r. ⌜ r ≡ verdictOf (now (s .entry)) (framed (record { dialect = dialect; depth = depth; name = now (name .entry) }) (now (s .entry))) ⌝ }
+// Checks 2 to 7, of a book that is not shut; the buffer as above.
+pub fn read_frame(
+    dialect: Dialect,
+    depth: usize,
+    name: &[u8],
+    s: &[u8],
+    buffer: &mut [u64; BUFFER_WORDS],
+) -> Verdict
+    requires { ⌜ (good (record { dialect = dialect; depth = depth; name = now name }) ≡ true) × (length (now buffer) ≡ bufferWords) ⌝ }
+    ensures { λ r. ⌜ Judged (now (s .entry)) (framed (record { dialect = dialect; depth = depth; name = now (name .entry) }) (now (s .entry))) (now (buffer .exit)) r ⌝ }
 {
     let rules = rules_of(dialect);
     if rules.longest < s.len() {
         return Verdict::Fails(Answer::TooLong);
     }
-    let scan = scan_at(dialect, depth, name, s, skip_blanks(s, 0));
+    let scan = scan_at(dialect, depth, name, s, skip_blanks(s, 0), buffer);
     let ended = is_ended(s, scan.end);
     decide(rules.entries, scan, ended)
 }
 
 // What one walk over the message tells.
-fn scan_at(dialect: Dialect, depth: usize, name: &[u8], s: &[u8], at: usize) -> Scan
-    requires { ⌜ good (record { dialect = dialect; depth = depth; name = now name }) ≡ true ⌝ }
-    ensures { λ r. ⌜ r ≡ scanAt (envelopeIn dialect (record { dialect = dialect; depth = depth; name = now (name .entry) })) (now (s .entry)) at ⌝ }
+fn scan_at(
+    dialect: Dialect,
+    depth: usize,
+    name: &[u8],
+    s: &[u8],
+    at: usize,
+    buffer: &mut [u64; BUFFER_WORDS],
+) -> Scan
+    requires { ⌜ (good (record { dialect = dialect; depth = depth; name = now name }) ≡ true) × (length (now buffer) ≡ bufferWords) ⌝ }
+    ensures { λ r. ⌜ Scanned (envelopeIn dialect (record { dialect = dialect; depth = depth; name = now (name .entry) })) (now (s .entry)) at (now (buffer .exit)) r ⌝ }
 {
     match dialect {
-        Dialect::K => k_message(s, at, depth, name),
-        Dialect::M => m_message(s, at, name),
+        Dialect::K => k_message(s, at, depth, name, buffer),
+        Dialect::M => m_message(s, at, name, buffer),
         Dialect::Unknown => not_framed(value_end(s, at, MAX_DEPTH)),
     }
 }

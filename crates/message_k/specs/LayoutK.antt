@@ -11,7 +11,8 @@ use Rattle.json.specs.Names.{means, hasBackslash}
 use Rattle.entries.specs.Places.{andThen, all, isString, arrayAt, objectAt, valuesOf, only, wholeAt, quotedChecksumAt}
 use Rattle.entries.specs.declared.Form.the-variants.{Triple}
 use Rattle.layout.specs.Depths.{itemDepth, sideDepth}
-use Rattle.layout.specs.Layout.{printed, unprinted, Listed, Layout, Envelope, unlisted, listedAt, laid}
+use Rattle.entries.specs.Rows.{Entry}
+use Rattle.layout.specs.Layout.{printed, unprinted, Layout, Envelope, entriesIn, laid}
 use Rattle.layout.specs.declared.Kind.the-variants.{Snapshot, Update}
 
 -- An array of four or five elements: whole number, one or two objects, channel, pair.
@@ -76,22 +77,17 @@ isUpdate s objects =
     && (eqb (times s (ascii "c") (lastOf objects)) 1
     && eqb (times s (ascii "as") (together objects) + times s (ascii "bs") (together objects)) 0))))
 
--- The array of entries that the members of a name hold, of which there is one at the most.
-unfoldable pub listedOf : List ℕ → List Span → Reading Listed
-listedOf s [] = reads unlisted
-listedOf s (a ∷ []) = listedAt Triple sideDepth s a
-listedOf s (a ∷ (b ∷ l)) = refused
-
-unfoldable pub listedIn : List ℕ → List ℕ → List (List Pair) → Reading Listed
-listedIn s name objects = listedOf s (valuesOf s name (together objects))
+-- The entries of a message, by the names of the members that hold the bids' and the asks'.
+unfoldable pub entriesK : List ℕ → List ℕ → List ℕ → List (List Pair) → Reading (List Entry)
+entriesK s bids asks objects = entriesIn Triple sideDepth s bids asks (together objects)
 
 unfoldable pub objectsLayout : List ℕ → List (List Pair) → Reading Layout
 objectsLayout s objects =
     cond (isSnapshot s objects)
-    (laid Snapshot unprinted 0 (listedIn s (ascii "bs") objects) (listedIn s (ascii "as") objects))
+    (laid Snapshot unprinted 0 (entriesK s (ascii "bs") (ascii "as") objects))
     (cond (isUpdate s objects)
     (andThen (only (valuesOf s (ascii "c") (together objects))) (λ c.
-    andThen (quotedChecksumAt s c) (λ sum. laid Update (printed sum) 0 (listedIn s (ascii "b") objects) (listedIn s (ascii "a") objects))))
+    andThen (quotedChecksumAt s c) (λ sum. laid Update (printed sum) 0 (entriesK s (ascii "b") (ascii "a") objects))))
     refused)
 
 unfoldable pub layoutK : List ℕ → Frame → Reading Layout

@@ -1,11 +1,16 @@
 -- What is told of the elements of a message of dialect K. Assumes nothing: these are definitions.
 use Prim.Native.Nat.{ℕ, _+_}
 use mathlib.Core.Bool.{Bool, true, false, _&&_, _||_, cond}
-use mathlib.Core.List.{List, _++_}
+use mathlib.Core.Path.{_≡_}
+use mathlib.Core.List.{List, [], _∷_, _++_}
 use lib.Dec.{leb, eqb}
-use Rattle.text.specs.Text.{ascii}
-use Rattle.decimal.specs.Digits.{written}
-use Rattle.json.specs.Json.{Span, Items}
+use lib.ListN.{length}
+use Rattle.text.specs.Text.{ascii, byteAt}
+use Rattle.decimal.specs.Digits.{written, reads}
+use Rattle.edit.specs.Buffer.{bufferWords}
+use Rattle.json_tokens.specs.Bytes.{openObject}
+use Rattle.json.specs.Json.{Span, Pair, Items, items}
+use Rattle.entries.specs.Tally.{Kept}
 use Rattle.json.specs.Names.{means, hasBackslash}
 use Rattle.entries.specs.Places.{isString, objectAt, wholeAt}
 use Rattle.layout.specs.Depths.{itemDepth}
@@ -13,7 +18,7 @@ use Rattle.layout.specs.Scan.{noOutline}
 use Rattle.json.specs.Fold.{foldedIn}
 use Rattle.layout.specs.declared.Outline.{Outline}
 use Rattle.layout.specs.declared.Scan.{Scan}
-use Rattle.message_k.specs.MembersK.{isRead, noMembers, membersOf, hasMore, snapshotBy, updateBy, outlineBy}
+use Rattle.message_k.specs.MembersK.{isRead, noMembers, membersOf, heldIn, hasMore, snapshotBy, updateBy, outlineBy}
 use Rattle.message_k.specs.declared.Members.{Members}
 use Rattle.message_k.specs.declared.Outer.{Outer}
 use Rattle.message_k.specs.declared.Parts.{Parts}
@@ -56,6 +61,16 @@ endedAt e t = record { end = e; outer = t .outer; one = t .one; two = t .two }
 
 unfoldable pub partsIn : List ℕ → Items Span → Parts
 partsIn s x = foldedIn (withPart s) endedAt (noParts 0) (noParts 0) x
+
+-- r tells of the elements x. Where the objects of a message of four or of five are objects, the buffer has the entries that they hold; the third of four
+-- is no object.
+pub record PartsRead (s : List ℕ) (x : Items Span) (buffer : List ℕ) (r : Parts) : Type 0 where
+  pub told : r ≡ partsIn s x
+  pub room : length buffer ≡ bufferWords
+  pub four : (n o c p : Span) (e : ℕ) → x ≡ items (n ∷ o ∷ c ∷ p ∷ []) e → (byteAt s (c .from) ≡ openObject → ⊥)
+      → (ms : List Pair) → objectAt itemDepth s o ≡ reads ms → Kept s (heldIn s (reads []) ms) buffer
+  pub five : (n o q c p : Span) (e : ℕ) → x ≡ items (n ∷ o ∷ q ∷ c ∷ p ∷ []) e
+      → (ms ns : List Pair) → objectAt itemDepth s o ≡ reads ms → objectAt itemDepth s q ≡ reads ns → Kept s (heldIn s (heldIn s (reads []) ms) ns) buffer
 
 -- ---- checks 4 and 5, of the last two elements
 

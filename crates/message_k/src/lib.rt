@@ -9,9 +9,12 @@ use decimal::ParsedChecksum;
 use decimal::ParsedWhole;
 use decimal::parse_checksum;
 use decimal::parse_whole;
-use entries::Entries;
+use edit::BUFFER_WORDS;
+use edit::Side;
 use entries::Form;
+use entries::Tally;
 use entries::entries_at;
+use entries::none_yet;
 use json::MAX_DEPTH;
 use json::has_backslash;
 use json::is_name;
@@ -25,28 +28,24 @@ use json_tokens::comma_end;
 use json_tokens::object_close_end;
 use json_tokens::skip_blanks;
 use json_tokens::string_end;
-use layout::EntryArray;
-use layout::EntryMember;
 use layout::ITEM_DEPTH;
 use layout::Kind;
 use layout::MemberSpan;
 use layout::Outline;
 use layout::SIDE_DEPTH;
 use layout::Scan;
-use layout::absent_entry_array;
-use layout::entry_array_at;
-use layout::no_entry_member;
+use layout::few_more;
 use layout::no_member_span;
 use layout::no_outline;
 use layout::not_framed;
 use layout::outline_of;
-use layout::with_entry_array;
 use layout::with_member_span;
 use text::both;
 use text::byte_at;
 ghost use mathlib.Core.Path.{_≡_};
 ghost use mathlib.Core.List.{_++_};
 ghost use Prim.Native.Nat.{_≤_, _<_};
+ghost use lib.ListN.{length};
 ghost use Rattle.text.specs.Text.{ascii};
 ghost use Rattle.decimal.specs.Digits.{written};
 ghost use Rattle.json_tokens.specs.Tokens.{At};
@@ -54,11 +53,12 @@ ghost use Rattle.json.specs.Json.{elements, value};
 ghost use Rattle.json.specs.Names.{means};
 ghost use Rattle.entries.specs.Places.{wholeAt};
 ghost use Rattle.layout.specs.Depths.{itemDepth, sideDepth};
-ghost use Rattle.layout.specs.MemberSpans.{fewMore};
-ghost use Rattle.layout.specs.Scan.{entryArrayFrom, scanAt};
+ghost use Rattle.edit.specs.Buffer.{bufferWords};
+ghost use Rattle.entries.specs.Tally.{met};
+ghost use Rattle.layout.specs.Scan.{Scanned};
 ghost use Rattle.message_k.specs.LayoutK.{envelopeK};
-ghost use Rattle.message_k.specs.MembersK.{isRead, moreSummed, MemberRead, SumRead, noMembers, closedAt, membersAt, hasMore, snapshotBy, updateBy, sideOf, outlineBy};
-ghost use Rattle.message_k.specs.PartsK.{upToSix, noOuter, withOuter, noParts, partsIn, escapedAt, framedAs, oneObject, twoObjects};
+ghost use Rattle.message_k.specs.MembersK.{isRead, moreSummed, MemberRead, EntriesRead, SumRead, noMembers, closedAt, ObjectRead, hasMore, snapshotBy, updateBy, outlineBy};
+ghost use Rattle.message_k.specs.PartsK.{upToSix, noOuter, withOuter, noParts, PartsRead, escapedAt, framedAs, oneObject, twoObjects};
 
 // The member `c`.
 struct Sum {
@@ -72,12 +72,14 @@ struct Sum {
 struct Members {
     // Past the value, or 0 where it is not JSON.
     end: usize,
-    // `as`, `bs`, `a`, `b` and `c`.
-    snapshot_asks: EntryMember,
-    snapshot_bids: EntryMember,
-    asks: EntryMember,
-    bids: EntryMember,
+    // How often `as`, `bs`, `a` and `b` were met: 0, 1, or 2 for more often.
+    snapshot_asks: usize,
+    snapshot_bids: usize,
+    asks: usize,
+    bids: usize,
     checksum: Sum,
+    // The entries that these hold.
+    tally: Tally,
     // Whether the value is an object. If not, the rest but for the end says nothing.
     is_object: bool,
 }
@@ -105,15 +107,15 @@ struct Parts {
     two: Members,
 }
 
-// The message at `at`, to a K book of that depth and name.
-pub fn k_message(s: &[u8], at: usize, depth: usize, name: &[u8]) -> Scan
-    requires { ⌜ (10 ≤ depth) × (depth ≤ 100) ⌝ }
-    ensures { λ r. ⌜ r ≡ scanAt (envelopeK depth (now (name .entry))) (now (s .entry)) at ⌝ }
+// The message at `at`, to a K book of that depth and name. Its entries go into the buffer.
+pub fn k_message(s: &[u8], at: usize, depth: usize, name: &[u8], buffer: &mut [u64; BUFFER_WORDS]) -> Scan
+    requires { ⌜ (10 ≤ depth) × (depth ≤ 100) × (length (now buffer) ≡ bufferWords) ⌝ }
+    ensures { λ r. ⌜ Scanned (envelopeK depth (now (name .entry))) (now (s .entry)) at (now (buffer .exit)) r ⌝ }
 {
     if byte_at(s, at) != OPEN_ARRAY {
         return not_framed(value_end(s, at, MAX_DEPTH));
     }
-    let parts = k_parts(s, at + 1);
+    let parts = k_parts(s, at + 1, buffer);
     let outer = parts.outer;
     let count = outer.count;
     if count == 4 {
@@ -131,8 +133,9 @@ pub fn k_message(s: &[u8], at: usize, depth: usize, name: &[u8]) -> Scan
 }
 
 // The elements of the array whose bracket ends at `at`. The second and the third may be objects.
-fn k_parts(s: &[u8], at: usize) -> Parts
-    ensures { λ r. ⌜ r ≡ partsIn (now (s .entry)) (elements (value itemDepth (now (s .entry))) (now (s .entry)) at) ⌝ }
+fn k_parts(s: &[u8], at: usize, buffer: &mut [u64; BUFFER_WORDS]) -> Parts
+    requires { ⌜ length (now buffer) ≡ bufferWords ⌝ }
+    ensures { λ r. ⌜ PartsRead (now (s .entry)) (elements (value itemDepth (now (s .entry))) (now (s .entry)) at) (now (buffer .exit)) r ⌝ }
 {
     let none = array_close_end(s, at);
     if 0 < none {
@@ -143,10 +146,10 @@ fn k_parts(s: &[u8], at: usize) -> Parts
     loop {
         let outer = parts.outer;
         let past = if outer.count == 1 {
-            parts.one = k_object(s, no_members(0), i);
+            parts.one = k_object(s, no_members(0), i, buffer);
             parts.one.end
         } else if outer.count == 2 {
-            parts.two = k_object(s, parts.one, i);
+            parts.two = k_object(s, parts.one, i, buffer);
             parts.two.end
         } else {
             value_end(s, i, ITEM_DEPTH)
@@ -228,8 +231,9 @@ fn is_whole(s: &[u8], from: usize, to: usize) -> bool
 }
 
 // The value at `at` as an object, with `before` told of the objects before it.
-fn k_object(s: &[u8], before: Members, at: usize) -> Members
-    ensures { λ r. ⌜ r ≡ membersAt (now (s .entry)) before at ⌝ }
+fn k_object(s: &[u8], before: Members, at: usize, buffer: &mut [u64; BUFFER_WORDS]) -> Members
+    requires { ⌜ (met (before .tally) ≤ at) × (length (now buffer) ≡ bufferWords) ⌝ }
+    ensures { λ r. ⌜ ObjectRead (now (s .entry)) before at (now (buffer .entry)) (now (buffer .exit)) r ⌝ }
 {
     if byte_at(s, at) != OPEN_OBJECT {
         return no_members(value_end(s, at, ITEM_DEPTH));
@@ -249,7 +253,7 @@ fn k_object(s: &[u8], before: Members, at: usize) -> Members
         if from == 0 {
             return no_members(0);
         }
-        let more = k_member(s, members, i, name_to, from);
+        let more = k_member(s, members, i, name_to, from, buffer);
         let to = more.end;
         if to == 0 {
             return no_members(0);
@@ -269,8 +273,16 @@ fn k_object(s: &[u8], before: Members, at: usize) -> Members
 
 // What was told of the members, and the one whose name lies from `name_from` to `name_to` and whose value begins at `from`.
 // `as` and `bs` hold a snapshot's asks and bids, `a` and `b` an update's, `c` a checksum.
-fn k_member(s: &[u8], members: Members, name_from: usize, name_to: usize, from: usize) -> Members
-    ensures { λ r. ⌜ MemberRead (now (s .entry)) members (record { from = «name_from»; to = «name_to» }) from r ⌝ }
+fn k_member(
+    s: &[u8],
+    members: Members,
+    name_from: usize,
+    name_to: usize,
+    from: usize,
+    buffer: &mut [u64; BUFFER_WORDS],
+) -> Members
+    requires { ⌜ (met (members .tally) ≤ from) × (length (now buffer) ≡ bufferWords) ⌝ }
+    ensures { λ r. ⌜ MemberRead (now (s .entry)) members (record { from = «name_from»; to = «name_to» }) from (now (buffer .entry)) (now (buffer .exit)) r ⌝ }
 {
     let mut next = members;
     next.is_object = true;
@@ -278,38 +290,41 @@ fn k_member(s: &[u8], members: Members, name_from: usize, name_to: usize, from: 
         return with_checksum(s, next, from);
     }
     if is_name(s, name_from, name_to, b"a") {
-        let entries = entries_at(s, from, SIDE_DEPTH, Form::Triple);
-        next.end = entries.end;
-        next.asks = with_entries(next.asks, from, entries);
-        return next;
+        next.asks = few_more(next.asks);
+        return with_entries(s, next, from, Side::Asks, buffer);
     }
     if is_name(s, name_from, name_to, b"b") {
-        let entries = entries_at(s, from, SIDE_DEPTH, Form::Triple);
-        next.end = entries.end;
-        next.bids = with_entries(next.bids, from, entries);
-        return next;
+        next.bids = few_more(next.bids);
+        return with_entries(s, next, from, Side::Bids, buffer);
     }
     if is_name(s, name_from, name_to, b"as") {
-        let entries = entries_at(s, from, SIDE_DEPTH, Form::Triple);
-        next.end = entries.end;
-        next.snapshot_asks = with_entries(next.snapshot_asks, from, entries);
-        return next;
+        next.snapshot_asks = few_more(next.snapshot_asks);
+        return with_entries(s, next, from, Side::Asks, buffer);
     }
     if is_name(s, name_from, name_to, b"bs") {
-        let entries = entries_at(s, from, SIDE_DEPTH, Form::Triple);
-        next.end = entries.end;
-        next.snapshot_bids = with_entries(next.snapshot_bids, from, entries);
-        return next;
+        next.snapshot_bids = few_more(next.snapshot_bids);
+        return with_entries(s, next, from, Side::Bids, buffer);
     }
     next.end = value_end(s, from, SIDE_DEPTH);
     next
 }
 
-// One more member, which holds the entries of the array at `at`.
-fn with_entries(slot: EntryMember, at: usize, entries: Entries) -> EntryMember
-    ensures { λ r. ⌜ r ≡ record { times = fewMore (slot .times); listing = entryArrayFrom at entries } ⌝ }
+// What was told of the members, and the entries of one side that the value at `from` holds.
+fn with_entries(
+    s: &[u8],
+    members: Members,
+    from: usize,
+    side: Side,
+    buffer: &mut [u64; BUFFER_WORDS],
+) -> Members
+    requires { ⌜ (met (members .tally) ≤ from) × (length (now buffer) ≡ bufferWords) ⌝ }
+    ensures { λ r. ⌜ EntriesRead (now (s .entry)) members from side (now (buffer .entry)) (now (buffer .exit)) r ⌝ }
 {
-    with_entry_array(slot, entry_array_at(at, entries))
+    let read = entries_at(s, from, SIDE_DEPTH, Form::Triple, side, members.tally, buffer);
+    let mut next = members;
+    next.end = read.end;
+    next.tally = read.tally;
+    next
 }
 
 // What was told of the members, and one more `c`, whose value begins at `from`.
@@ -363,15 +378,16 @@ fn no_members(end: usize) -> Members
     Members {
         end,
         is_object: false,
-        snapshot_asks: no_entry_member(),
-        snapshot_bids: no_entry_member(),
-        asks: no_entry_member(),
-        bids: no_entry_member(),
+        snapshot_asks: 0,
+        snapshot_bids: 0,
+        asks: 0,
+        bids: 0,
         checksum: Sum {
             mark: no_member_span(),
             well_formed: false,
             sum: 0,
         },
+        tally: none_yet(),
     }
 }
 
@@ -417,9 +433,9 @@ fn two_objects(whole: bool, one: Members, two: Members) -> Outline
 fn has_more(before: Members, after: Members) -> bool
     ensures { λ r. ⌜ r ≡ hasMore before after ⌝ }
 {
-    if before.asks.times < after.asks.times {
+    if before.asks < after.asks {
         true
-    } else if before.bids.times < after.bids.times {
+    } else if before.bids < after.bids {
         true
     } else {
         false
@@ -430,16 +446,16 @@ fn has_more(before: Members, after: Members) -> bool
 fn is_snapshot(one: Members) -> bool
     ensures { λ r. ⌜ r ≡ snapshotBy one ⌝ }
 {
-    if one.snapshot_asks.times != 1 {
+    if one.snapshot_asks != 1 {
         return false;
     }
-    if one.snapshot_bids.times != 1 {
+    if one.snapshot_bids != 1 {
         return false;
     }
-    if one.asks.times != 0 {
+    if one.asks != 0 {
         return false;
     }
-    if one.bids.times != 0 {
+    if one.bids != 0 {
         return false;
     }
     if one.checksum.mark.times == 0 {
@@ -453,10 +469,10 @@ fn is_snapshot(one: Members) -> bool
 fn is_update(each: bool, before: Members, all: Members) -> bool
     ensures { λ r. ⌜ r ≡ updateBy each before all ⌝ }
 {
-    if 1 < all.asks.times {
+    if 1 < all.asks {
         return false;
     }
-    if 1 < all.bids.times {
+    if 1 < all.bids {
         return false;
     }
     if !each {
@@ -468,10 +484,10 @@ fn is_update(each: bool, before: Members, all: Members) -> bool
     if before.checksum.mark.times != 0 {
         return false;
     }
-    if all.snapshot_asks.times != 0 {
+    if all.snapshot_asks != 0 {
         return false;
     }
-    if all.snapshot_bids.times == 0 {
+    if all.snapshot_bids == 0 {
         true
     } else {
         false
@@ -483,26 +499,12 @@ fn k_outline(snapshot: bool, update: bool, all: Members) -> Outline
     ensures { λ r. ⌜ r ≡ outlineBy snapshot update all ⌝ }
 {
     if snapshot {
-        let bids = side_of(all.snapshot_bids);
-        let asks = side_of(all.snapshot_asks);
-        return outline_of(Kind::Snapshot, bids, asks, false, 0, 0);
+        return outline_of(Kind::Snapshot, all.tally, false, 0, 0);
     }
     if both(update, all.checksum.well_formed) {
-        let bids = side_of(all.bids);
-        let asks = side_of(all.asks);
-        return outline_of(Kind::Update, bids, asks, true, all.checksum.sum, 0);
+        return outline_of(Kind::Update, all.tally, true, all.checksum.sum, 0);
     }
     no_outline()
-}
-
-// The entries of a side that may be missing.
-fn side_of(slot: EntryMember) -> EntryArray
-    ensures { λ r. ⌜ r ≡ sideOf slot ⌝ }
-{
-    if slot.times == 0 {
-        return absent_entry_array();
-    }
-    slot.listing
 }
 
 // A message of four or five elements, which ends at `end`.

@@ -1,25 +1,29 @@
 -- What one walk over a message of dialect M collects, member by member, and what is told of the message in the end.
 -- Assumes nothing: these are definitions.
 use Prim.Native.Nat.{ℕ, _≤_}
+use mathlib.Core.Path.{_≡_}
 use mathlib.Core.Bool.{Bool, true, false, _&&_, _||_, cond}
 use mathlib.Core.List.{List, [], _∷_}
 use lib.Dec.{eqb}
 use lib.ListN.{length}
 use Rattle.text.specs.Text.{ascii}
 use Rattle.decimal.specs.Digits.{Reading, reads, refused}
+use Rattle.edit.specs.Buffer.{bufferWords}
+use Rattle.edit.specs.declared.Side.the-variants.{Bids, Asks}
 use Rattle.json_tokens.specs.Ends.{endOf}
 use Rattle.json.specs.Json.{Span, Pair, value}
 use Rattle.json.specs.Which.{which}
 use Rattle.json.specs.Names.{means, hasBackslash}
-use Rattle.entries.specs.Places.{andThen, isString, objectAt, valuesOf, wholeAt, checksumAt}
+use Rattle.json.specs.Fold.{foldFrom}
+use Rattle.entries.specs.Places.{andThen, andAlso, isString, objectAt, wholeAt, checksumAt}
+use Rattle.entries.specs.Rows.{Entry, sidedAt}
+use Rattle.entries.specs.Tally.{noneYet, met as count, arrayTally, Tells, Kept}
 use Rattle.entries.specs.declared.Form.the-variants as forms
+use Rattle.entries.specs.declared.Tally.{Tally}
 use Rattle.layout.specs.Depths.{itemDepth, sideDepth}
-use Rattle.layout.specs.Layout.{listedAt}
-use Rattle.layout.specs.MemberSpans.{noMemberSpan, withMemberSpan, noEntryMember, withEntryArray, entryMemberOf}
-use Rattle.layout.specs.Scan.{notEntryArray, entryArrayOf, noOutline, outlineFrom}
-use Rattle.layout.specs.declared.EntryArray.{EntryArray}
+use Rattle.layout.specs.MemberSpans.{fewMore, noMemberSpan, withMemberSpan}
+use Rattle.layout.specs.Scan.{noOutline, outlineFrom}
 use Rattle.layout.specs.declared.MemberSpan.{MemberSpan}
-use Rattle.layout.specs.declared.EntryMember.{EntryMember}
 use Rattle.layout.specs.declared.Outline.{Outline}
 use Rattle.layout.specs.declared.Scan.{Scan}
 use Rattle.layout.specs.declared.Kind.{Kind}
@@ -41,37 +45,61 @@ memberAt depth s first past from = record { name = record { from = first; to = p
 
 -- ---- the value of a member `data`
 
-abbrev pub sideM : List ℕ → Span → EntryArray
-sideM s a = entryArrayOf s (listedAt forms.Pair sideDepth s a)
+-- The entries that a member holds, after those that were read before.
+unfoldable pub withHeld : List ℕ → Reading (List Entry) → Pair → Reading (List Entry)
+withHeld s x m =
+    cond (means s (m .name) (ascii "bids")) (andAlso x (sidedAt Bids forms.Pair sideDepth s (m .value)))
+    (cond (means s (m .name) (ascii "asks")) (andAlso x (sidedAt Asks forms.Pair sideDepth s (m .value))) x)
 
--- A value that ends at `end` and has no sides.
-unfoldable pub noData : ℕ → Data
-noData end = record { end = end; bids = noEntryMember; asks = noEntryMember }
+unfoldable pub tallyWith : List ℕ → Tally → Pair → Tally
+tallyWith s t m =
+    cond (means s (m .name) (ascii "bids")) (arrayTally 0 s sideDepth forms.Pair Bids t (m .value))
+    (cond (means s (m .name) (ascii "asks")) (arrayTally 0 s sideDepth forms.Pair Asks t (m .value)) t)
+
+-- A value that ends at `end` and has no sides; t was told before it.
+abbrev pub noData : ℕ → Tally → Data
+noData end t = record { end = end; bids = 0; asks = 0; tally = t }
 
 -- An object that ends at `end`, with the sides that were met in it.
 abbrev pub dataEnd : ℕ → Data → Data
-dataEnd end d = record { end = end; bids = d .bids; asks = d .asks }
+dataEnd end d = record { end = end; bids = d .bids; asks = d .asks; tally = d .tally }
 
 -- One member more.
 unfoldable pub moreData : List ℕ → Data → Pair → Data
 moreData s d m =
     record {
       end = m .value .to;
-      bids = onMember s (ascii "bids") (withEntryArray (sideM s)) (d .bids) m;
-      asks = onMember s (ascii "asks") (withEntryArray (sideM s)) (d .asks) m;
+      bids = onMember s (ascii "bids") (λ n a. fewMore n) (d .bids) m;
+      asks = onMember s (ascii "asks") (λ n a. fewMore n) (d .asks) m;
+      tally = tallyWith s (d .tally) m;
     }
 
-unfoldable pub dataFrom : List ℕ → ℕ → Reading (List Pair) → Data
-dataFrom s end (reads ms) =
-    record {
-      end = end;
-      bids = entryMemberOf (sideM s) (valuesOf s (ascii "bids") ms);
-      asks = entryMemberOf (sideM s) (valuesOf s (ascii "asks") ms);
-    }
-dataFrom s end refused = noData end
+unfoldable pub dataFrom : List ℕ → ℕ → Tally → Reading (List Pair) → Data
+dataFrom s end t (reads ms) = dataEnd end (foldFrom (moreData s) (noData 0 t) ms)
+dataFrom s end t refused = noData end t
 
-unfoldable pub dataOf : List ℕ → Span → Data
-dataOf s a = dataFrom s (a .to) (objectAt itemDepth s a)
+unfoldable pub dataOf : List ℕ → Tally → Span → Data
+dataOf s t a = dataFrom s (a .to) t (objectAt itemDepth s a)
+
+-- The entries that a value holds as that of a member `data`, after those that were read before.
+unfoldable pub heldOf : List ℕ → Reading (List Entry) → Reading (List Pair) → Reading (List Entry)
+heldOf s x (reads ms) = foldFrom (withHeld s) x ms
+heldOf s x refused = x
+
+-- What a reader promises of a value from a on, which it reads if it is JSON: that it is told, and that the buffer has what `next` says that it adds.
+pub record Added (s : List ℕ) (depth : ℕ) (a : Span) (t u : Tally) (next : Reading (List Entry) → Reading (List Entry)) (before after : List ℕ) : Type 0 where
+  pub few : (a .to ≡ 0 → ⊥) → count u ≤ a .to
+  pub room : length after ≡ bufferWords
+  pub kept : (a .to ≡ 0 → ⊥) → (x : Reading (List Entry)) → Tells s x t → Kept s x before → Tells s (next x) u × Kept s (next x) after
+
+pub record DataRead (s : List ℕ) (t : Tally) (a : Span) (before after : List ℕ) (r : Data) : Type 0 where
+  pub told : r ≡ dataOf s t a
+  pub added : Added s itemDepth a t (r .tally) (λ x. heldOf s x (objectAt itemDepth s a)) before after
+
+pub record MoreData (s : List ℕ) (d : Data) (m : Pair) (before after : List ℕ) (r : Data) : Type 0 where
+  pub told : (m .value .to ≡ 0 → ⊥) → r ≡ moreData s d m
+  pub ends : r .end ≡ m .value .to
+  pub added : Added s sideDepth (m .value) (d .tally) (r .tally) (λ x. withHeld s x m) before after
 
 -- ---- the members of the message
 
@@ -108,12 +136,20 @@ abbrev pub isEscaped : List ℕ → Span → Bool
 isEscaped s a = isString s a && hasBackslash s a
 
 unfoldable pub moreBody : List ℕ → Bool → Body → Span → Body
-moreBody s hit b a = record { end = a .to; mark = onHit hit withMemberSpan (b .mark) a; last = onHit hit (λ d v. dataOf s v) (b .last) a }
+moreBody s hit b a = record { end = a .to; mark = onHit hit withMemberSpan (b .mark) a; last = onHit hit (λ d v. dataOf s (d .tally) v) (b .last) a }
+
+-- The entries that a member of the message holds, after those that were read before: those of `data`.
+unfoldable pub bodyHeld : List ℕ → Bool → Reading (List Entry) → Span → Reading (List Entry)
+bodyHeld s hit x a = cond hit (heldOf s x (objectAt itemDepth s a)) x
+
+pub record MoreBody (s : List ℕ) (hit : Bool) (b : Body) (a : Span) (before after : List ℕ) (r : Body) : Type 0 where
+  pub told : r ≡ moreBody s hit b a
+  pub added : Added s itemDepth a (b .last .tally) (r .last .tally) (λ x. bodyHeld s hit x a) before after
 
 abbrev pub noMembers : Members
 noMembers =
     record {
-      body = record { end = 0; mark = noMemberSpan; last = noData 0 };
+      body = record { end = 0; mark = noMemberSpan; last = noData 0 noneYet };
       escaped = false;
       «is_book» = false;
       «is_product» = false;
@@ -141,29 +177,31 @@ moreMembers name s met m =
       gsn = onMember s (ascii "gsn") withMemberSpan (met .gsn) m;
     }
 
+pub record MoreMembers (name s : List ℕ) (met : Members) (m : Pair) (before after : List ℕ) (r : Members) : Type 0 where
+  pub told : r ≡ moreMembers name s met m
+  pub added : Added s itemDepth (m .value) (met .body .last .tally) (r .body .last .tally) (λ x. bodyHeld s (means s (m .name) (ascii "data")) x (m .value)) before after
+
 -- ---- the layout, once all members were met
 
 -- The value of a name that was met once.
 unfoldable pub onceAt : MemberSpan → Reading Span
 onceAt m = cond (eqb (m .times) 1) (reads (record { from = m .from; to = m .to })) refused
 
-unfoldable pub onceListed : EntryMember → EntryArray
-onceListed t = cond (eqb (t .times) 1) (t .listing) notEntryArray
-
 unfoldable pub outlineWhere : {A : Type 0} → Reading A → (A → Outline) → Outline
 outlineWhere (reads a) outline = outline a
 outlineWhere refused outline = noOutline
 
-unfoldable pub numbersIn : List ℕ → Kind → EntryArray → EntryArray → MemberSpan → MemberSpan → Outline
-numbersIn s kind bids asks checksum gsn =
+unfoldable pub numbersIn : List ℕ → Kind → Tally → MemberSpan → MemberSpan → Outline
+numbersIn s kind t checksum gsn =
     outlineWhere (andThen (onceAt checksum) (checksumAt s)) (λ sum.
     outlineWhere (andThen (onceAt gsn) (wholeAt s)) (λ number.
-    outlineFrom kind bids asks true sum number))
+    outlineFrom kind t true sum number))
 
 unfoldable pub bodyIn : List ℕ → Kind → Members → Outline
 bodyIn s kind met =
-    outlineWhere (onceAt (met .body .mark)) (λ d.
-    numbersIn s kind (onceListed (met .body .last .bids)) (onceListed (met .body .last .asks)) (met .checksum) (met .gsn))
+    cond (eqb (met .body .mark .times) 1 && (eqb (met .body .last .bids) 1 && eqb (met .body .last .asks) 1))
+    (numbersIn s kind (met .body .last .tally) (met .checksum) (met .gsn))
+    noOutline
 
 unfoldable pub outlineIn : List ℕ → Members → Outline
 outlineIn s met =

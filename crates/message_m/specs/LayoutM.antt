@@ -9,7 +9,7 @@ use Rattle.json.specs.Names.{means, hasBackslash}
 use Rattle.entries.specs.Places.{andThen, isString, objectAt, valuesOf, only, wholeAt, checksumAt}
 use Rattle.entries.specs.declared.Form.the-variants as forms
 use Rattle.layout.specs.Depths.{itemDepth, sideDepth}
-use Rattle.layout.specs.Layout.{printed, Listed, Layout, Envelope, listedAt, laid}
+use Rattle.layout.specs.Layout.{printed, Layout, Envelope, entriesIn, laid}
 use Rattle.layout.specs.declared.Kind.{Kind}
 use Rattle.layout.specs.declared.Kind.the-variants.{Snapshot, Update}
 
@@ -38,9 +38,6 @@ oursM name s ms = someMeans s (ascii "book") (valuesOf s (ascii "channel") ms) &
 unfoldable pub kindAt : List ℕ → Span → Reading Kind
 kindAt s a = cond (means s a (ascii "snapshot")) (reads Snapshot) (cond (means s a (ascii "update")) (reads Update) refused)
 
-unfoldable pub listedIn : List ℕ → List ℕ → List Pair → Reading Listed
-listedIn s name ms = andThen (only (valuesOf s name ms)) (listedAt forms.Pair sideDepth s)
-
 unfoldable pub layoutM : List ℕ → List Pair → Reading Layout
 layoutM s ms =
     andThen (only (valuesOf s (ascii "channel") ms)) (λ c.
@@ -53,7 +50,9 @@ layoutM s ms =
     andThen (checksumAt s k) (λ sum.
     andThen (only (valuesOf s (ascii "gsn") ms)) (λ g.
     andThen (wholeAt s g) (λ number.
-    laid kind (printed sum) number (listedIn s (ascii "bids") ds) (listedIn s (ascii "asks") ds)))))))))))
+    andThen (only (valuesOf s (ascii "bids") ds)) (λ b.
+    andThen (only (valuesOf s (ascii "asks") ds)) (λ a.
+    laid kind (printed sum) number (entriesIn forms.Pair sideDepth s (ascii "bids") (ascii "asks") ds)))))))))))))
 
 -- ---- the message, to a book of that name
 

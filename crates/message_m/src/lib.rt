@@ -6,8 +6,12 @@ use decimal::ParsedChecksum;
 use decimal::ParsedWhole;
 use decimal::parse_checksum;
 use decimal::parse_whole;
+use edit::BUFFER_WORDS;
+use edit::Side;
 use entries::Form;
+use entries::Tally;
 use entries::entries_at;
+use entries::none_yet;
 use json::MAX_DEPTH;
 use json::has_backslash;
 use json::is_name;
@@ -19,21 +23,17 @@ use json_tokens::comma_end;
 use json_tokens::object_close_end;
 use json_tokens::skip_blanks;
 use json_tokens::string_end;
-use layout::EntryArray;
-use layout::EntryMember;
 use layout::ITEM_DEPTH;
 use layout::Kind;
 use layout::MemberSpan;
 use layout::Outline;
 use layout::SIDE_DEPTH;
 use layout::Scan;
-use layout::entry_array_at;
-use layout::no_entry_member;
+use layout::few_more;
 use layout::no_member_span;
 use layout::no_outline;
 use layout::not_framed;
 use layout::outline_of;
-use layout::with_entry_array;
 use layout::with_member_span;
 use text::both;
 use text::byte_at;
@@ -49,9 +49,13 @@ ghost use Rattle.json.specs.Names.{means, hasBackslash};
 ghost use Rattle.entries.specs.Places.{andThen, wholeAt, checksumAt};
 ghost use Rattle.layout.specs.Depths.{itemDepth, sideDepth};
 ghost use Rattle.layout.specs.MemberSpans.{withMemberSpan};
-ghost use Rattle.layout.specs.Scan.{scanAt};
+ghost use Prim.Native.Nat.{_≤_};
+ghost use lib.ListN.{length};
+ghost use Rattle.edit.specs.Buffer.{bufferWords};
+ghost use Rattle.entries.specs.Tally.{met as count};
+ghost use Rattle.layout.specs.Scan.{Scanned};
 ghost use Rattle.message_m.specs.LayoutM.{envelopeM};
-ghost use Rattle.message_m.specs.Collected.{onHit, memberAt, noData, dataEnd, moreData, dataOf, channelKey, productKey, dataKey, keyOf, isEscaped, moreBody, noMembers, moreMembers, onceAt, onceListed, numbersIn, bodyIn, outlineIn, scanIn, Placed};
+ghost use Rattle.message_m.specs.Collected.{onHit, memberAt, noData, dataEnd, MoreData, DataRead, channelKey, productKey, dataKey, keyOf, isEscaped, MoreBody, noMembers, MoreMembers, onceAt, numbersIn, bodyIn, outlineIn, scanIn, Placed};
 
 // Which of our names a member of the message has.
 const OTHER: usize = 0;
@@ -72,9 +76,11 @@ const GSN: usize = 6;
 struct Data {
     // Past the value, or 0 where it is not JSON.
     end: usize,
-    // The members `bids` and `asks`, if it is an object.
-    bids: EntryMember,
-    asks: EntryMember,
+    // How often `bids` and `asks` were met in it, if it is an object: 0, 1, or 2 for more often.
+    bids: usize,
+    asks: usize,
+    // The entries that these hold, after those that were met before.
+    tally: Tally,
 }
 
 // The members `data` that were met.
@@ -102,9 +108,10 @@ struct Members {
     is_product: bool,
 }
 
-// The message at `at`, to an M book of that name.
-pub fn m_message(s: &[u8], at: usize, name: &[u8]) -> Scan
-    ensures { λ r. ⌜ r ≡ scanAt (envelopeM (now (name .entry))) (now (s .entry)) at ⌝ }
+// The message at `at`, to an M book of that name. Its entries go into the buffer.
+pub fn m_message(s: &[u8], at: usize, name: &[u8], buffer: &mut [u64; BUFFER_WORDS]) -> Scan
+    requires { ⌜ length (now buffer) ≡ bufferWords ⌝ }
+    ensures { λ r. ⌜ Scanned (envelopeM (now (name .entry))) (now (s .entry)) at (now (buffer .exit)) r ⌝ }
 {
     if byte_at(s, at) != OPEN_OBJECT {
         return not_framed(value_end(s, at, MAX_DEPTH));
@@ -124,7 +131,7 @@ pub fn m_message(s: &[u8], at: usize, name: &[u8]) -> Scan
         if from == 0 {
             return not_framed(0);
         }
-        let next = more_members(s, met, i, name_to, from, name);
+        let next = more_members(s, met, i, name_to, from, name, buffer);
         let to = next.body.end;
         if to == 0 {
             return not_framed(0);
@@ -152,7 +159,7 @@ fn no_members() -> Members
         body: Body {
             end: 0,
             mark: no_member_span(),
-            last: no_data(0),
+            last: no_data(0, none_yet()),
         },
         escaped: false,
         is_book: false,
@@ -173,11 +180,13 @@ fn more_members(
     past: usize,
     from: usize,
     name: &[u8],
+    buffer: &mut [u64; BUFFER_WORDS],
 ) -> Members
-    ensures { λ r. ⌜ r ≡ moreMembers (now (name .entry)) (now (s .entry)) met (memberAt itemDepth (now (s .entry)) first past from) ⌝ }
+    requires { ⌜ (count (met .body .last .tally) ≤ from) × (length (now buffer) ≡ bufferWords) ⌝ }
+    ensures { λ r. ⌜ MoreMembers (now (name .entry)) (now (s .entry)) met (memberAt itemDepth (now (s .entry)) first past from) (now (buffer .entry)) (now (buffer .exit)) r ⌝ }
 {
     let key = key_of(s, first, past);
-    let body = more_body(s, met.body, key, from);
+    let body = more_body(s, met.body, key, from, buffer);
     let to = body.end;
     Members {
         body,
@@ -275,11 +284,19 @@ fn is_product(s: &[u8], key: usize, from: usize, to: usize, name: &[u8]) -> bool
 }
 
 // The members `data`, and one member more, whose value is read here, whatever its name.
-fn more_body(s: &[u8], body: Body, key: usize, from: usize) -> Body
-    ensures { λ r. ⌜ r ≡ moreBody (now (s .entry)) (eqb key dataKey) body (record { from = from; to = endOf (value itemDepth (now (s .entry)) from) }) ⌝ }
+fn more_body(
+    s: &[u8],
+    body: Body,
+    key: usize,
+    from: usize,
+    buffer: &mut [u64; BUFFER_WORDS],
+) -> Body
+    requires { ⌜ (count (body .last .tally) ≤ from) × (length (now buffer) ≡ bufferWords) ⌝ }
+    ensures { λ r. ⌜ MoreBody (now (s .entry)) (eqb key dataKey) body (record { from = from; to = endOf (value itemDepth (now (s .entry)) from) }) (now (buffer .entry)) (now (buffer .exit)) r ⌝ }
 {
+    let last = body.last;
     if key == DATA {
-        let data = m_data(s, from);
+        let data = m_data(s, from, last.tally, buffer);
         return Body {
             end: data.end,
             mark: with_member_span(body.mark, from, data.end),
@@ -287,7 +304,6 @@ fn more_body(s: &[u8], body: Body, key: usize, from: usize) -> Body
         };
     }
     let mark = body.mark;
-    let last = body.last;
     Body {
         end: value_end(s, from, ITEM_DEPTH),
         mark,
@@ -296,37 +312,38 @@ fn more_body(s: &[u8], body: Body, key: usize, from: usize) -> Body
 }
 
 // The value at `at`, as that of a member `data`.
-fn m_data(s: &[u8], at: usize) -> Data
-    ensures { λ r. ⌜ r ≡ dataOf (now (s .entry)) (record { from = at; to = endOf (value itemDepth (now (s .entry)) at) }) ⌝ }
+fn m_data(s: &[u8], at: usize, before: Tally, buffer: &mut [u64; BUFFER_WORDS]) -> Data
+    requires { ⌜ (count before ≤ at) × (length (now buffer) ≡ bufferWords) ⌝ }
+    ensures { λ r. ⌜ DataRead (now (s .entry)) before (record { from = at; to = endOf (value itemDepth (now (s .entry)) at) }) (now (buffer .entry)) (now (buffer .exit)) r ⌝ }
 {
     if byte_at(s, at) != OPEN_OBJECT {
-        return no_data(value_end(s, at, ITEM_DEPTH));
+        return no_data(value_end(s, at, ITEM_DEPTH), before);
     }
     let none = object_close_end(s, at + 1);
     if 0 < none {
-        return no_data(none);
+        return no_data(none, before);
     }
     let mut i = skip_blanks(s, at + 1);
-    let mut met = no_data(0);
+    let mut met = no_data(0, before);
     loop {
         let name_to = string_end(s, i);
         if name_to == 0 {
-            return no_data(0);
+            return no_data(0, before);
         }
         let from = colon_end(s, name_to);
         if from == 0 {
-            return no_data(0);
+            return no_data(0, before);
         }
-        let next = more_data(s, met, i, name_to, from);
+        let next = more_data(s, met, i, name_to, from, buffer);
         let to = next.end;
         if to == 0 {
-            return no_data(0);
+            return no_data(0, before);
         }
         let j = comma_end(s, to);
         if j == 0 {
             let end = object_close_end(s, to);
             if end == 0 {
-                return no_data(0);
+                return no_data(0, before);
             }
             return data_end(next, end);
         }
@@ -336,51 +353,54 @@ fn m_data(s: &[u8], at: usize) -> Data
 }
 
 // One member more of `data`.
-fn more_data(s: &[u8], met: Data, first: usize, past: usize, from: usize) -> Data
-    ensures { λ r. ⌜ r ≡ moreData (now (s .entry)) met (memberAt sideDepth (now (s .entry)) first past from) ⌝ }
+fn more_data(
+    s: &[u8],
+    met: Data,
+    first: usize,
+    past: usize,
+    from: usize,
+    buffer: &mut [u64; BUFFER_WORDS],
+) -> Data
+    requires { ⌜ (count (met .tally) ≤ from) × (length (now buffer) ≡ bufferWords) ⌝ }
+    ensures { λ r. ⌜ MoreData (now (s .entry)) met (memberAt sideDepth (now (s .entry)) first past from) (now (buffer .entry)) (now (buffer .exit)) r ⌝ }
 {
-    let bids = met.bids;
-    let asks = met.asks;
+    let mut next = met;
     if is_name(s, first, past, b"bids") {
-        let entries = entries_at(s, from, SIDE_DEPTH, Form::Pair);
-        return Data {
-            end: entries.end,
-            bids: with_entry_array(bids, entry_array_at(from, entries)),
-            asks,
-        };
+        let read = entries_at(s, from, SIDE_DEPTH, Form::Pair, Side::Bids, met.tally, buffer);
+        next.end = read.end;
+        next.bids = few_more(met.bids);
+        next.tally = read.tally;
+        return next;
     }
     if is_name(s, first, past, b"asks") {
-        let entries = entries_at(s, from, SIDE_DEPTH, Form::Pair);
-        return Data {
-            end: entries.end,
-            bids,
-            asks: with_entry_array(asks, entry_array_at(from, entries)),
-        };
+        let read = entries_at(s, from, SIDE_DEPTH, Form::Pair, Side::Asks, met.tally, buffer);
+        next.end = read.end;
+        next.asks = few_more(met.asks);
+        next.tally = read.tally;
+        return next;
     }
-    Data {
-        end: value_end(s, from, SIDE_DEPTH),
-        bids,
-        asks,
-    }
+    next.end = value_end(s, from, SIDE_DEPTH);
+    next
 }
 
 // An object that ends at `end`, with the sides that were met in it.
 fn data_end(met: Data, end: usize) -> Data
     ensures { λ r. ⌜ r ≡ dataEnd end met ⌝ }
 {
-    let bids = met.bids;
-    let asks = met.asks;
-    Data { end, bids, asks }
+    let mut next = met;
+    next.end = end;
+    next
 }
 
-// A value that ends at `end` and has no sides.
-fn no_data(end: usize) -> Data
-    ensures { λ r. ⌜ r ≡ noData end ⌝ }
+// A value that ends at `end` and has no sides; `before` was told before it.
+fn no_data(end: usize, before: Tally) -> Data
+    ensures { λ r. ⌜ r ≡ noData end before ⌝ }
 {
     Data {
         end,
-        bids: no_entry_member(),
-        asks: no_entry_member(),
+        bids: 0,
+        asks: 0,
+        tally: before,
     }
 }
 
@@ -434,37 +454,29 @@ fn body_outline(s: &[u8], kind: Kind, met: Members) -> Outline
     if body.mark.times != 1 {
         return no_outline();
     }
-    let bids = once_listed(data.bids);
-    let asks = once_listed(data.asks);
-    numbers_outline(s, kind, bids, asks, met.checksum, met.gsn)
-}
-
-// The entries of a side that was met once.
-fn once_listed(slot: EntryMember) -> EntryArray
-    ensures { λ r. ⌜ r ≡ onceListed slot ⌝ }
-{
-    if slot.times == 1 {
-        return slot.listing;
+    if data.bids != 1 {
+        return no_outline();
     }
-    let none = no_entry_member();
-    none.listing
+    if data.asks != 1 {
+        return no_outline();
+    }
+    numbers_outline(s, kind, data.tally, met.checksum, met.gsn)
 }
 
 // The layout from the checksum on.
 fn numbers_outline(
     s: &[u8],
     kind: Kind,
-    bids: EntryArray,
-    asks: EntryArray,
+    tally: Tally,
     checksum: MemberSpan,
     gsn: MemberSpan,
 ) -> Outline
     requires { ⌜ Placed (now s) checksum × Placed (now s) gsn ⌝ }
-    ensures { λ r. ⌜ r ≡ numbersIn (now (s .entry)) kind bids asks checksum gsn ⌝ }
+    ensures { λ r. ⌜ r ≡ numbersIn (now (s .entry)) kind tally checksum gsn ⌝ }
 {
     match checksum_of(s, checksum) {
         ParsedChecksum::Number(sum) => match gsn_of(s, gsn) {
-            ParsedWhole::Number(number) => { outline_of(kind, bids, asks, true, sum, number) }
+            ParsedWhole::Number(number) => { outline_of(kind, tally, true, sum, number) }
             ParsedWhole::Refused => no_outline(),
         },
         ParsedChecksum::Refused => no_outline(),

@@ -20,7 +20,7 @@ use Rattle.json.proofs.Bounds.{value-in}
 use Rattle.json.proofs.Walk.{Walk, walk, walk-ends, walk-wrong, walk-is, walk-item}
 use Rattle.entries.specs.Places.{andThen, isString, contents, arrayAt}
 use Rattle.entries.specs.Rows.{Row, rowK, rowM, rowOf, entryOf}
-use Rattle.entries.specs.Summary.{entryPlaceOf, priceSpan, sizeSpan, entryPlaceAt}
+use Rattle.entries.specs.Found.{entryPlaceOf, priceSpan, sizeSpan, entryPlaceAt}
 use Rattle.entries.specs.Front.{Two, Front, RestEnd, endIn, EntryEnd, EndedAt}
 use Rattle.entries.specs.declared.Form.{Form}
 use Rattle.entries.specs.declared.Form.the-variants.{Triple, Pair}
@@ -45,26 +45,26 @@ last-false false b h = refl
 third-false : (a b c : Bool) → c ≡ false → (a && (b && c)) ≡ false
 third-false a b c h = last-false a (b && c) (last-false b c h)
 
-wants : (form : Form) (s : List ℕ) → Wants s (rowOf form s)
+wants : (form : Form) (s : List ℕ) (a : Span) → Wants s (rowOf form s a)
 unfolding rowK rowM
-wants Triple s = record { none = refl; single = λ p. refl; first = first; second = second }
+wants Triple s a = record { none = refl; single = λ p. refl; first = first; second = second }
   where
-    first : (p : Span) (l : List Span) → isString s p ≡ false → rowK s (p ∷ l) ≡ refused
+    first : (p : Span) (l : List Span) → isString s p ≡ false → rowK s a (p ∷ l) ≡ refused
     first p [] h = refl
     first p (z ∷ []) h = refl
     first p (z ∷ (t ∷ l)) h = rw h
 
-    second : (p z : Span) (l : List Span) → isString s z ≡ false → rowK s (p ∷ (z ∷ l)) ≡ refused
+    second : (p z : Span) (l : List Span) → isString s z ≡ false → rowK s a (p ∷ (z ∷ l)) ≡ refused
     second p z [] h = refl
     second p z (t ∷ l) h = rw (second-false (isString s p) (isString s z) (isString s t) h)
-wants Pair s = record { none = refl; single = λ p. refl; first = first; second = second }
+wants Pair s a = record { none = refl; single = λ p. refl; first = first; second = second }
   where
-    first : (p : Span) (l : List Span) → isString s p ≡ false → rowM s (p ∷ l) ≡ refused
+    first : (p : Span) (l : List Span) → isString s p ≡ false → rowM s a (p ∷ l) ≡ refused
     first p [] h = refl
     first p (z ∷ []) h = rw h
     first p (z ∷ (t ∷ l)) h = refl
 
-    second : (p z : Span) (l : List Span) → isString s z ≡ false → rowM s (p ∷ (z ∷ l)) ≡ refused
+    second : (p z : Span) (l : List Span) → isString s z ≡ false → rowM s a (p ∷ (z ∷ l)) ≡ refused
     second p z [] h = rw (last-false (isString s p) (isString s z) h)
     second p z (t ∷ l) h = refl
 
@@ -77,7 +77,7 @@ abbrev whole : ℕ → List ℕ → ℕ → Items Span
 whole d s at = elements (value d s) s (at + 1)
 
 module _ (form : Form) (d : ℕ) (s : List ℕ) (at : ℕ) where
-  read-array : (to : ℕ) → byteAt s at ≡ 91 → entryOf form (suc d) s (record { from = at; to = to }) ≡ rowIn (rowOf form s) (whole d s at)
+  read-array : (to : ℕ) → byteAt s at ≡ 91 → entryOf form (suc d) s (record { from = at; to = to }) ≡ rowIn (rowOf form s (record { from = at; to = to })) (whole d s at)
   unfolding entryOf arrayAt
   read-array to h = rw (eq-eqb (byteAt s at) 91 h)
 
@@ -86,19 +86,19 @@ module _ (form : Form) (d : ℕ) (s : List ℕ) (at : ℕ) where
   read-other to h = rw (ne-eqb (byteAt s at) 91 h)
 
 -- what is told of what an array holds
-foundIn : (List Span → Reading Row) → Items Span → EntryPlace
-foundIn row (items l e) = entryPlaceOf e (row l)
-foundIn row noItems = entryPlaceOf 0 refused
+foundIn : (Span → List Span → Reading Row) → ℕ → Items Span → EntryPlace
+foundIn row at (items l e) = entryPlaceOf e (row (record { from = at; to = e }) l)
+foundIn row at noItems = entryPlaceOf 0 refused
 
-found-array : (form : Form) (d : ℕ) (s : List ℕ) (at : ℕ) → byteAt s at ≡ 91 → entryPlaceAt form (suc d) s at ≡ foundIn (rowOf form s) (whole d s at)
+found-array : (form : Form) (d : ℕ) (s : List ℕ) (at : ℕ) → byteAt s at ≡ 91 → entryPlaceAt form (suc d) s at ≡ foundIn (rowOf form s) at (whole d s at)
 unfolding entryPlaceAt itemsEnd foundIn andThen contents
 found-array form d s at h =
     ap (λ (y : End). elim y [ At e ↦ entryPlaceOf e (entryOf form (suc d) s (record { from = at; to = e })) | Broken ↦ entryPlaceOf 0 refused ]) (value-array s at d h)
     ∙ go (whole d s at) refl
   where
     go : (x : Items Span) → whole d s at ≡ x
-        → elim (itemsEnd x) [ At e ↦ entryPlaceOf e (entryOf form (suc d) s (record { from = at; to = e })) | Broken ↦ entryPlaceOf 0 refused ] ≡ foundIn (rowOf form s) x
-    go (items l e) q = ap (entryPlaceOf e) (read-array form d s at e h ∙ ap (rowIn (rowOf form s)) q)
+        → elim (itemsEnd x) [ At e ↦ entryPlaceOf e (entryOf form (suc d) s (record { from = at; to = e })) | Broken ↦ entryPlaceOf 0 refused ] ≡ foundIn (rowOf form s) at x
+    go (items l e) q = ap (entryPlaceOf e) (read-array form d s at e h ∙ ap (rowIn (rowOf form s (record { from = at; to = e }))) q)
     go noItems q = refl
 
 -- a value that is no entry
@@ -126,7 +126,7 @@ module _ (s : List ℕ) (at : ℕ) where
 
   module _ (opens : byteAt s at ≡ 91) where
     both : ((d : ℕ) (row : List Span → Reading Row) → Wants s row → rowIn row (whole d s at) ≡ refused) → Neither s at
-    both h = deep-enough (λ form d to. read-array form d s at to opens ∙ h d (rowOf form s) (wants form s))
+    both h = deep-enough (λ form d to. read-array form d s at to opens ∙ h d (rowOf form s (record { from = at; to = to })) (wants form s (record { from = at; to = to })))
 
     pub neither-first : string s (blanks s (at + 1)) ≡ Broken → Neither s at
     unfolding elements contents andThen
@@ -180,7 +180,7 @@ module _ (d : ℕ) (s : List ℕ) (at : ℕ) (f : EntryPlace) (t : Two s at f) w
   unfolding foundIn entryPlaceOf rowM prepended
   pair-is e c =
       rw (price-is, size-is) refl
-      ∙ walk-ends (one d s) 93 s _ (past-two (foundIn (rowM s))) e (later-ends (one d s) 93 s (f .end) e (close-no-comma s (f .end) e c) c)
+      ∙ walk-ends (one d s) 93 s _ (past-two (foundIn (rowM s) at)) e (later-ends (one d s) 93 s (f .end) e (close-no-comma s (f .end) e c) c)
       ∙ sym (found-array Pair d s at (t .opens))
 
   -- any other element, or no bracket at all
@@ -189,7 +189,7 @@ module _ (d : ℕ) (s : List ℕ) (at : ℕ) (f : EntryPlace) (t : Two s at f) w
   pair-none c to = read-array Pair d s at to (t .opens) ∙ go (separator 44 s (f .end)) refl
     where
       answer : Items Span → Reading Row
-      answer y = rowIn (rowM s) (prepended price (prepended size y))
+      answer y = rowIn (rowM s (record { from = at; to = to })) (prepended price (prepended size y))
 
       three : (a : Span) (y : Items Span) → answer (prepended a y) ≡ refused
       three a (items l e) = refl
@@ -198,30 +198,30 @@ module _ (d : ℕ) (s : List ℕ) (at : ℕ) (f : EntryPlace) (t : Two s at f) w
       none : answer noItems ≡ refused
       none = refl
 
-      w : Walk (one d s) 93 s answer (f .end) (next (one d s) 93 s false (f .end)) (rowIn (rowM s) (whole d s at))
-      w = past-two (rowIn (rowM s))
+      w : Walk (one d s) 93 s answer (f .end) (next (one d s) 93 s false (f .end)) (rowIn (rowM s (record { from = at; to = to })) (whole d s at))
+      w = past-two (rowIn (rowM s (record { from = at; to = to })))
 
-      third : (j : ℕ) → separator 44 s (f .end) ≡ At j → (x : End) → value d s j ≡ x → rowIn (rowM s) (whole d s at) ≡ refused
+      third : (j : ℕ) → separator 44 s (f .end) ≡ At j → (x : End) → value d s j ≡ x → rowIn (rowM s (record { from = at; to = to })) (whole d s at) ≡ refused
       third j q (At e) v =
           let a : Span = record { from = j; to = e } in
           let u = walk-is (one d s) 93 s answer w (item a e) (f .end) (omega arith) (later-item (one d s) 93 s (f .end) j q ∙ element-is (value d s) j e v) in
           sym (u .makes) ∙ three a (list (one d s) 93 s (u .left) false e)
       third j q Broken v = sym (walk-wrong (one d s) 93 s answer w (later-item (one d s) 93 s (f .end) j q ∙ element-wrong (value d s) j v)) ∙ none
 
-      go : (x : End) → separator 44 s (f .end) ≡ x → rowIn (rowM s) (whole d s at) ≡ refused
+      go : (x : End) → separator 44 s (f .end) ≡ x → rowIn (rowM s (record { from = at; to = to })) (whole d s at) ≡ refused
       go (At j) q = third j q (value d s j) refl
       go Broken q = sym (walk-wrong (one d s) 93 s answer w (later-wrong (one d s) 93 s (f .end) q c)) ∙ none
 
   -- ---- a triple: a third string, and the rest of the array
-  triple-halts : Halts s (λ (y : Items Span). rowIn (rowK s) (prepended price (prepended size y)))
+  triple-halts : (a : Span) → Halts s (λ (y : Items Span). rowIn (rowK s a) (prepended price (prepended size y)))
   unfolding prepended contents andThen rowK
-  triple-halts = record { broken = refl; ended = λ e. refl; other = λ a l e h. rw (third-false (isString s price) (isString s size) (isString s a) h) }
+  triple-halts a = record { broken = refl; ended = λ e. refl; other = λ b l e h. rw (third-false (isString s price) (isString s size) (isString s b) h) }
 
   pub triple-no-comma : separator 44 s (f .end) ≡ Broken → (to : ℕ) → entryOf Triple (suc d) s (record { from = at; to = to }) ≡ refused
-  triple-no-comma q to = read-array Triple d s at to (t .opens) ∙ halt d triple-halts (past-two (rowIn (rowK s))) (stops-comma d s (f .end) q)
+  triple-no-comma q to = read-array Triple d s at to (t .opens) ∙ halt d (triple-halts (record { from = at; to = to })) (past-two (rowIn (rowK s (record { from = at; to = to })))) (stops-comma d s (f .end) q)
 
   pub triple-no-third : (j : ℕ) → separator 44 s (f .end) ≡ At j → string s j ≡ Broken → (to : ℕ) → entryOf Triple (suc d) s (record { from = at; to = to }) ≡ refused
-  triple-no-third j q h to = read-array Triple d s at to (t .opens) ∙ halt d triple-halts (past-two (rowIn (rowK s))) (stops-string d s (f .end) j q h)
+  triple-no-third j q h to = read-array Triple d s at to (t .opens) ∙ halt d (triple-halts (record { from = at; to = to })) (past-two (rowIn (rowK s (record { from = at; to = to })))) (stops-string d s (f .end) j q h)
 
   module _ (j e : ℕ) (q : separator 44 s (f .end) ≡ At j) (h : string s j ≡ At e) (r : ℕ) (rest : RestEnd d s e r) where
     abbrev time : Span
@@ -234,20 +234,20 @@ module _ (d : ℕ) (s : List ℕ) (at : ℕ) (f : EntryPlace) (t : Two s at f) w
     pub triple-is : (r ≡ 0 → ⊥) → told r ≡ entryPlaceAt Triple (suc d) s at
     unfolding list itemsEnd prepended foundIn entryPlaceOf rowK
     triple-is n =
-        let w = past-three (foundIn (rowK s)) in
+        let w = past-three (foundIn (rowK s) at) in
         go (list (one d s) 93 s (suc (w .left)) false e) (rest (w .left) (w .enough) ∙ end-in r n) ∙ w .makes ∙ sym (found-array Triple d s at (t .opens))
       where
-        go : (x : Items Span) → itemsEnd x ≡ At r → told r ≡ foundIn (rowK s) (prepended price (prepended size (prepended time x)))
+        go : (x : Items Span) → itemsEnd x ≡ At r → told r ≡ foundIn (rowK s) at (prepended price (prepended size (prepended time x)))
         go (items l k) g = let z : r ≡ k = cc in rw (price-is, size-is, string-is s j e h, z)
         go noItems g = broken-at refl g
 
     pub triple-none : r ≡ 0 → (to : ℕ) → entryOf Triple (suc d) s (record { from = at; to = to }) ≡ refused
     unfolding list endIn itemsEnd prepended contents andThen
     triple-none z to =
-        let w = past-three (rowIn (rowK s)) in
+        let w = past-three (rowIn (rowK s (record { from = at; to = to }))) in
         read-array Triple d s at to (t .opens) ∙ sym (w .makes) ∙ go (list (one d s) 93 s (suc (w .left)) false e) (rest (w .left) (w .enough) ∙ ap endIn z)
       where
-        go : (x : Items Span) → itemsEnd x ≡ Broken → rowIn (rowK s) (prepended price (prepended size (prepended time x))) ≡ refused
+        go : (x : Items Span) → itemsEnd x ≡ Broken → rowIn (rowK s (record { from = at; to = to })) (prepended price (prepended size (prepended time x))) ≡ refused
         go (items l k) g = broken-at g refl
         go noItems g = refl
 

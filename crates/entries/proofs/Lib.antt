@@ -2,10 +2,6 @@
 pub mod Stops
 pub mod Entry
 pub mod Strings
-pub mod Counting
-pub mod Summary
-pub mod Claims
-pub mod Decimals
-pub mod Rows
-pub mod Shift
+pub mod Found
 pub mod Numbers
+pub mod Tallies

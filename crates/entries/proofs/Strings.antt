@@ -1,6 +1,6 @@
 -- The price and the size of an entry are strings: each begins with a quote, has room for two, and lies within the text.
 -- Assumes nothing.
-use mathlib.Core.Path.{_≡_, refl, sym, _∙_}
+use mathlib.Core.Path.{_≡_, refl, sym, ap, _∙_}
 use mathlib.Core.List.{List, [], _∷_}
 use mathlib.Core.Bool.{Bool, true, false, _&&_, cond, and-eq-true-iff}
 use Prim.Native.Nat.{ℕ, zero, suc, _+_, _≤_}
@@ -90,61 +90,70 @@ pub same-row : {A : Type 0} {x y : A} → _≡_ {A = Reading A} (reads x) (reads
 same-row h = cc
 
 -- the row r is made of the first two elements, which are strings
-record Begins (s : List ℕ) (l : List Span) (r : Row) : Type 0 where
+record Begins (s : List ℕ) (a : Span) (l : List Span) (r : Row) : Type 0 where
   first : Span
   second : Span
   others : List Span
   all-of : l ≡ first ∷ (second ∷ others)
   first-is : isString s first ≡ true
   second-is : isString s second ≡ true
-  row-is : r ≡ record { price = first; size = second }
+  row-is : r ≡ record { whole = a; price = first; size = second }
 
-rows-begin : (form : Form) (s : List ℕ) (l : List Span) (r : Row) → rowOf form s l ≡ reads r → Begins s l r
+rows-begin : (form : Form) (s : List ℕ) (a : Span) (l : List Span) (r : Row) → rowOf form s a l ≡ reads r → Begins s a l r
 unfolding rowK rowM
-rows-begin Triple s [] r g = no-row g
-rows-begin Triple s (p ∷ []) r g = no-row g
-rows-begin Triple s (p ∷ (z ∷ [])) r g = no-row g
-rows-begin Triple s (p ∷ (z ∷ (t ∷ k))) r g = strings (isString s p && (isString s z && isString s t)) refl g
+rows-begin Triple s a [] r g = no-row g
+rows-begin Triple s a (p ∷ []) r g = no-row g
+rows-begin Triple s a (p ∷ (z ∷ [])) r g = no-row g
+rows-begin Triple s a (p ∷ (z ∷ (t ∷ k))) r g = strings (isString s p && (isString s z && isString s t)) refl g
   where
-    strings : (b : Bool) → (isString s p && (isString s z && isString s t)) ≡ b → cond b (reads (record { price = p; size = z })) refused ≡ reads r
-        → Begins s (p ∷ (z ∷ (t ∷ k))) r
+    strings : (b : Bool) → (isString s p && (isString s z && isString s t)) ≡ b → cond b (reads (record { whole = a; price = p; size = z })) refused ≡ reads r
+        → Begins s a (p ∷ (z ∷ (t ∷ k))) r
     strings true q g =
         let c = and-eq-true-iff (isString s p) (isString s z && isString s t) .0 q in
         let d = and-eq-true-iff (isString s z) (isString s t) .0 (c .1) in
         record { first = p; second = z; others = t ∷ k; all-of = refl; first-is = c .0; second-is = d .0; row-is = same-row g }
     strings false q g = no-row g
-rows-begin Pair s [] r g = no-row g
-rows-begin Pair s (p ∷ []) r g = no-row g
-rows-begin Pair s (p ∷ (z ∷ [])) r g = strings (isString s p && isString s z) refl g
+rows-begin Pair s a [] r g = no-row g
+rows-begin Pair s a (p ∷ []) r g = no-row g
+rows-begin Pair s a (p ∷ (z ∷ [])) r g = strings (isString s p && isString s z) refl g
   where
-    strings : (b : Bool) → (isString s p && isString s z) ≡ b → cond b (reads (record { price = p; size = z })) refused ≡ reads r → Begins s (p ∷ (z ∷ [])) r
+    strings : (b : Bool) → (isString s p && isString s z) ≡ b → cond b (reads (record { whole = a; price = p; size = z })) refused ≡ reads r → Begins s a (p ∷ (z ∷ [])) r
     strings true q g =
         let c = and-eq-true-iff (isString s p) (isString s z) .0 q in
         record { first = p; second = z; others = []; all-of = refl; first-is = c .0; second-is = c .1; row-is = same-row g }
     strings false q g = no-row g
-rows-begin Pair s (p ∷ (z ∷ (x ∷ k))) r g = no-row g
+rows-begin Pair s a (p ∷ (z ∷ (x ∷ k))) r g = no-row g
 
 -- ---- an entry's price and size are strings
 module _ (form : Form) (d : ℕ) (s : List ℕ) where
   in-order : (hi lo : ℕ) (p z : Span) (k : List Span) → In-order (Is-element d s) hi lo (p ∷ (z ∷ k)) → (value d s (p .from) ≡ At (p .to)) × (value d s (z .from) ≡ At (z .to))
   in-order hi lo p z k (then lo1 from1 to1 p1 l1 a b c (then lo2 from2 to2 z1 k1 d e f o)) = (c .a-value, f .a-value)
 
-  sound-items : (i : ℕ) (x : Items Span) → elements (value d s) s i ≡ x → (r : Row) → andThen (contents x) (rowOf form s) ≡ reads r → StringAt s (r .price) × StringAt s (r .size)
+  sound-items : (i : ℕ) (a : Span) (x : Items Span) → elements (value d s) s i ≡ x → (r : Row) → andThen (contents x) (rowOf form s a) ≡ reads r → StringAt s (r .price) × StringAt s (r .size)
   unfolding contents andThen
-  sound-items i (items l e) q r h =
-      let g = rows-begin form s l r h in
+  sound-items i a (items l e) q r h =
+      let g = rows-begin form s a l r h in
       let p = g .first in
       let z = g .second in
       let o : In-order (Is-element d s) e i (p ∷ (z ∷ g .others)) = rw (g .all-of) at (elements-in-order d s i l e q .0) in
       let v = in-order e i p z (g .others) o in
       rw (g .row-is) (string-at d s p (v .0) (g .first-is), string-at d s z (v .1) (g .second-is))
-  sound-items i noItems q r h = no-row h
+  sound-items i a noItems q r h = no-row h
 
 pub sound : (form : Form) (d : ℕ) (s : List ℕ) (a : Span) (r : Row) → entryOf form d s a ≡ reads r → StringAt s (r .price) × StringAt s (r .size)
 unfolding entryOf arrayAt andThen
 sound form zero s a r h = no-row h
 sound form (suc d) s a r h = go (eqb (byteAt s (a .from)) 91) h
   where
-    go : (b : Bool) → andThen (cond b (contents (elements (value d s) s (a .from + 1))) refused) (rowOf form s) ≡ reads r → StringAt s (r .price) × StringAt s (r .size)
-    go true g = sound-items form d s (a .from + 1) (elements (value d s) s (a .from + 1)) refl r g
+    go : (b : Bool) → andThen (cond b (contents (elements (value d s) s (a .from + 1))) refused) (rowOf form s a) ≡ reads r → StringAt s (r .price) × StringAt s (r .size)
+    go true g = sound-items form d s (a .from + 1) a (elements (value d s) s (a .from + 1)) refl r g
     go false g = no-row g
+
+-- an entry lies where the value is
+pub entry-whole : (form : Form) (d : ℕ) (s : List ℕ) (a : Span) (r : Row) → entryOf form d s a ≡ reads r → r .whole ≡ a
+unfolding entryOf andThen
+entry-whole form d s a r h = go (arrayAt d s a) h
+  where
+    go : (x : Reading (List Span)) → andThen x (rowOf form s a) ≡ reads r → r .whole ≡ a
+    go (reads l) g = ap (λ (x : Row). x .whole) (rows-begin form s a l r g .row-is)
+    go refused g = no-row g

@@ -2,7 +2,7 @@
 -- Assumes nothing.
 use borrow.Author.Needs.{needs}
 use mathlib.Core.Path.{refl}
-use Rattle.entries.specs.Summary.{entryPlaceOf}
+use Rattle.entries.specs.Found.{entryPlaceOf}
 use Rattle.entries.proofs.ended_at.Statement.{statement}
 use Rattle.entries.proofs.ended_at.Tie as tie
 

@@ -1,7 +1,7 @@
 -- `entries::no_entry` meets its contract: it is the definition.
 -- Assumes nothing.
 use mathlib.Core.Path.{refl}
-use Rattle.entries.specs.Summary.{entryPlaceOf}
+use Rattle.entries.specs.Found.{entryPlaceOf}
 use Rattle.entries.proofs.no_entry.Statement.{statement}
 use Rattle.entries.proofs.no_entry.Tie as tie
 

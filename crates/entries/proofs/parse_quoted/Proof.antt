@@ -2,7 +2,7 @@
 -- Assumes nothing.
 use mathlib.Core.Path.{_∙_, ap}
 use Rattle.decimal.specs.Decimal.{read}
-use Rattle.entries.proofs.Counting.{inner-part}
+use Rattle.entries.proofs.Found.{inner-part}
 use borrow.Author.Needs.{needs}
 use Rattle.entries.proofs.parse_quoted.Statement.{statement}
 use Rattle.entries.proofs.parse_quoted.Tie as tie

@@ -3,7 +3,7 @@
 use borrow.Author.Needs.{needs}
 use mathlib.Core.Path.{_∙_, ap}
 use Rattle.decimal.specs.Digits.{refused}
-use Rattle.entries.specs.Summary.{entryPlaceOf}
+use Rattle.entries.specs.Found.{entryPlaceOf}
 use Rattle.entries.proofs.passed_over.Statement.{statement}
 use Rattle.entries.proofs.passed_over.Tie as tie
 

@@ -7,7 +7,7 @@ use native.Mathlib.Omega.{arith}
 use Rattle.json_tokens.proofs.Bounds.{end-broken, separator-in, string-in}
 use Rattle.json_tokens.proofs.Laws.{end-at}
 use Rattle.json_tokens.specs.Tokens.{separator, string}
-use Rattle.entries.specs.Summary.{entryPlaceOf}
+use Rattle.entries.specs.Found.{entryPlaceOf}
 use Rattle.entries.proofs.Entry.{triple-is, triple-no-comma, triple-no-third, triple-none}
 use Rattle.entries.proofs.triple_end.Statement.{statement}
 use Rattle.entries.proofs.triple_end.Tie as tie

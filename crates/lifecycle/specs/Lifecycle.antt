@@ -15,10 +15,13 @@ use Rattle.settings.specs.Kept.{configOf}
 use Rattle.settings.specs.declared.Settings.{Settings}
 use Rattle.settings.specs.declared.Dialect.{Dialect}
 use Rattle.settings.specs.declared.Dialect.the-variants.{K, M, Unknown}
-use Rattle.layout.specs.Layout.{isSnapshot}
+use Rattle.decimal.specs.Digits.{reads}
+use Rattle.edit.specs.Buffer.{bufferWords}
+use Rattle.entries.specs.Tally.{Kept}
+use Rattle.layout.specs.Layout.{isSnapshot, Layout}
 use Rattle.layout.specs.declared.Kind.{Kind}
 use Rattle.layout.specs.declared.Outline.{Outline}
-use Rattle.message.specs.Meaning.{checked}
+use Rattle.message.specs.Meaning.{passes, checked}
 use Rattle.message.specs.Verdict.{verdictOf}
 use Rattle.message.specs.declared.Verdict.{Verdict}
 use Rattle.message.specs.declared.Verdict.the-variants.{Fails, Passes}
@@ -90,3 +93,9 @@ unfoldable pub judged : Settings → Lifecycle → ℕ → List ℕ → Verdict
 judged settings now number s =
     cond (isShut (statusOf (now .state))) (Fails answer·.Shut)
     (afterText (now .state) (rulesOf (settings .dialect) .numbered) number (verdictOf s (checked (configOf settings) s)))
+
+-- What `judge` promises: the verdict, and that the buffer has the entries of a message that passes.
+pub record JudgedAs (settings : Settings) (now : Lifecycle) (number : ℕ) (s buffer : List ℕ) (r : Verdict) : Type 0 where
+  pub told : r ≡ judged settings now number s
+  pub room : length buffer ≡ bufferWords
+  pub kept : isShut (statusOf (now .state)) ≡ false → (l : Layout) → checked (configOf settings) s ≡ passes l → Kept s (reads (l .entries)) buffer

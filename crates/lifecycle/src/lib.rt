@@ -1,6 +1,7 @@
 // How a book stands from message to message: shut, waiting or live, which messages and questions that refuses, and the count of
 // updates.
 use answer::Answer;
+use edit::BUFFER_WORDS;
 use answer::leaves_state;
 use layout::Kind;
 use layout::Outline;
@@ -16,7 +17,9 @@ ghost use mathlib.Core.Bool.{_&&_, _||_, not, cond};
 ghost use lib.Dec.{leb};
 ghost use Rattle.layout.specs.Layout.{isSnapshot};
 ghost use Rattle.reference.specs.Reference.{isShut, oneMore};
-ghost use Rattle.lifecycle.specs.Lifecycle.{statusOf, firstState, answers, refusalOf, countsOf, liveLifecycle, refusedLifecycle, judgedUpdate, Ruled, judged};
+ghost use Rattle.lifecycle.specs.Lifecycle.{statusOf, firstState, answers, refusalOf, countsOf, liveLifecycle, refusedLifecycle, judgedUpdate, Ruled, JudgedAs};
+ghost use lib.ListN.{length};
+ghost use Rattle.edit.specs.Buffer.{bufferWords};
 
 const MAX_UPDATES: u64 = 4294967295;
 

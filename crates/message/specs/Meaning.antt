@@ -2,16 +2,18 @@
 -- 01's table, in its order, each over the whole message before the next one begins. Assumes nothing: these are definitions.
 use Prim.Native.Nat.{ℕ}
 use mathlib.Core.Bool.{Bool, _||_, cond}
-use mathlib.Core.List.{List, [], _∷_, _++_, map}
+use mathlib.Core.List.{List, [], _∷_, map}
 use lib.Dec.{ltb}
 use lib.ListN.{length}
 use Rattle.decimal.specs.Digits.{Reading, reads, refused}
-use Rattle.decimal.specs.Decimal.{Number}
+use Rattle.edit.specs.Edit.{PriceLevel, Edit, Numbers, editOf, forSide}
+use Rattle.edit.specs.declared.Side.{Side}
+use Rattle.edit.specs.declared.Side.the-variants.{Bids, Asks}
 use Rattle.json.specs.Json.{Span, text}
 use Rattle.settings.specs.Settings.{Config, good}
 use Rattle.settings.specs.Rules.{rulesOf}
 use Rattle.entries.specs.Places.{top}
-use Rattle.entries.specs.Rows.{Row, badTexts, firstOf, numberAt}
+use Rattle.entries.specs.Rows.{Entry, badTexts, firstOf, numbersAt}
 use Rattle.layout.specs.Layout.{isSnapshot, Printed, Layout, Envelope}
 use Rattle.layout.specs.declared.Kind.{Kind}
 use Rattle.message_k.specs.LayoutK.{envelopeK}
@@ -28,8 +30,11 @@ pub data Checked : Type 0 where
 
 -- ---- check 7: too many entries on one side
 
+abbrev pub entriesFor : Side → Layout → List Entry
+entriesFor side l = forSide (λ (e : Entry). e .side) side (l .entries)
+
 unfoldable pub tooMany : ℕ → Layout → Bool
-tooMany most l = ltb most (length (l .bids .rows)) || ltb most (length (l .asks .rows))
+tooMany most l = ltb most (length (entriesFor Bids l)) || ltb most (length (entriesFor Asks l))
 
 unfoldable pub counted : ℕ → Layout → Checked
 counted most l = cond (tooMany most l) (fails TooManyEntries) (passes l)
@@ -59,9 +64,9 @@ framed t s =
 
 -- ---- check 8: a decimal rule broken, price zero, or size zero in a snapshot
 
--- The texts that break it, of each side in written order, the bids' before the asks'.
+-- The texts that break it, in written order.
 unfoldable pub bad : List ℕ → Layout → List Span
-bad s l = badTexts (isSnapshot (l .kind)) s (l .bids .rows) ++ badTexts (isSnapshot (l .kind)) s (l .asks .rows)
+bad s l = badTexts (isSnapshot (l .kind)) s (l .entries)
 
 unfoldable pub decimals : List ℕ → Layout → Checked
 decimals s l = elim (bad s l) [ [] ↦ passes l | a ∷ rest ↦ fails BadDecimal ]
@@ -77,15 +82,15 @@ checked t s = alsoDecimals s (framed t s)
 
 -- ---- what a message says that fails none of them
 
--- An entry's price and size; a size of zero removes the level at the price.
-pub record LevelChange : Type 0 where
-  pub price : Number
-  pub size : Number
+-- What an entry does to which side.
+pub record SidedEdit : Type 0 where
+  pub side : Side
+  pub edit : Edit PriceLevel
 
+-- Its edits are in the order in which they stand in it.
 pub record Message : Type 0 where
   pub kind : Kind
-  pub bids : List LevelChange
-  pub asks : List LevelChange
+  pub edits : List SidedEdit
   pub checksum : Printed
   pub number : ℕ
 
@@ -93,11 +98,11 @@ pub data Decoded : Type 0 where
   refuses : Answer → Decoded
   decodes : Message → Decoded
 
-unfoldable pub levelChangeAt : List ℕ → Row → LevelChange
-levelChangeAt s r = record { price = numberAt s (r .price); size = numberAt s (r .size) }
+unfoldable pub sidedEdit : Numbers → SidedEdit
+sidedEdit e = record { side = e .side; edit = editOf e }
 
 unfoldable pub messageOf : List ℕ → Layout → Message
-messageOf s l = record { kind = l .kind; bids = map (levelChangeAt s) (l .bids .rows); asks = map (levelChangeAt s) (l .asks .rows); checksum = l .checksum; number = l .number }
+messageOf s l = record { kind = l .kind; edits = map sidedEdit (map (numbersAt s) (l .entries)); checksum = l .checksum; number = l .number }
 
 unfoldable pub decodedOf : List ℕ → Checked → Decoded
 decodedOf s (fails a) = refuses a
@@ -108,14 +113,8 @@ decode t s = decodedOf s (checked t s)
 
 -- ---- the question for the first bad decimal
 
--- Of the first texts of two lists, the one that is written first.
-unfoldable pub earlier : List Span → List Span → Span
-earlier [] l = firstOf l
-earlier (a ∷ k) [] = a
-earlier (a ∷ k) (b ∷ l) = cond (ltb (b .from) (a .from)) b a
-
 unfoldable pub firstBad : List ℕ → Layout → Span
-firstBad s l = earlier (badTexts (isSnapshot (l .kind)) s (l .bids .rows)) (badTexts (isSnapshot (l .kind)) s (l .asks .rows))
+firstBad s l = firstOf (bad s l)
 
 unfoldable pub firstBadOf : List ℕ → Checked → Span
 firstBadOf s (fails a) = record { from = 0; to = 0 }

@@ -1,9 +1,14 @@
 -- What the reader of a message answers. Assumes nothing: these are definitions.
+use mathlib.Core.Path.{_≡_}
 use mathlib.Core.Bool.{cond}
 use mathlib.Core.List.{List}
 use Prim.Native.Nat.{ℕ}
+use lib.ListN.{length}
 use Rattle.decimal.specs.Digits.{reads}
 use Rattle.settings.specs.Settings.{Config, good}
+use Rattle.edit.specs.Buffer.{bufferWords}
+use Rattle.entries.specs.Tally.{Kept}
+use Rattle.layout.specs.Layout.{Layout}
 use Rattle.layout.specs.Scan.{outlineOf}
 use Rattle.answer.specs.declared.Answer.the-variants.{Shut}
 use Rattle.message.specs.Meaning.{Checked, fails, passes, checked}
@@ -17,3 +22,9 @@ judged t s = cond (good t) (checked t s) (fails Shut)
 unfoldable pub verdictOf : List ℕ → Checked → Verdict
 verdictOf s (fails a) = Fails a
 verdictOf s (passes l) = Passes (outlineOf s (reads l))
+
+-- What its reader promises: the verdict, and that the buffer has the entries of a message that passes.
+pub record Judged (s : List ℕ) (c : Checked) (buffer : List ℕ) (r : Verdict) : Type 0 where
+  pub told : r ≡ verdictOf s c
+  pub room : length buffer ≡ bufferWords
+  pub kept : (l : Layout) → c ≡ passes l → Kept s (reads (l .entries)) buffer

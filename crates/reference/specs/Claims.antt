@@ -8,6 +8,7 @@ use lib.ListN.{length}
 use Rattle.settings.specs.Settings.{Config, good, kept}
 use Rattle.settings.specs.declared.Dialect.{Dialect}
 use Rattle.settings.specs.declared.Dialect.the-variants.{K}
+use Rattle.edit.specs.declared.Side.the-variants.{Bids, Asks}
 use Rattle.level.specs.Side.{namesTwice}
 use Rattle.layout.specs.Layout.{isSnapshot, Printed, printed, unprinted}
 use Rattle.layout.specs.declared.Kind.{Kind}
@@ -16,7 +17,7 @@ use Rattle.answer.specs.Answers.{answerNumber as numberOf, oneOf, toMessages, t
 use Rattle.message.specs.Meaning.{Message, Decoded, refuses, decodes, decode}
 use Rattle.answer.specs.declared.Answer.{Answer}
 use Rattle.answer.specs.declared.Answer.the-variants.{Taken, Shut, NoSnapshot}
-use Rattle.reference.specs.Reference.{waiting, live, withStatus, Reference, rules, isShut, isLive, opened, sidesAfter, pricesOf, checksumOf, taken, receive, Question, write, zeros, respond, Reply, Ask, message, question, does, Call, repliesTo, final, snapshotText}
+use Rattle.reference.specs.Reference.{waiting, live, withStatus, Reference, rules, isShut, isLive, opened, editsFor, sidesAfter, pricesOf, checksumOf, taken, receive, Question, write, zeros, respond, Reply, Ask, message, question, does, Call, repliesTo, final, snapshotText}
 use Rattle.reference.specs.declared.Scope.{Scope}
 use Rattle.reference.specs.declared.Scope.the-variants.{Current, LastGood}
 
@@ -67,7 +68,7 @@ pub data Agrees (c : Printed) (sum : ℕ) : Type 0 where
 pub record Acceptable (p : Reference) (m : Message) : Type 0 where
   pub ready : Ready p m
   -- A snapshot names no price twice on a side.
-  pub once : m .kind ≡ Snapshot → (namesTwice (pricesOf (m .bids)) ≡ false) × (namesTwice (pricesOf (m .asks)) ≡ false)
+  pub once : m .kind ≡ Snapshot → (namesTwice (pricesOf (editsFor Bids m)) ≡ false) × (namesTwice (pricesOf (editsFor Asks m)) ≡ false)
   -- Where messages are numbered, an update's number is greater than the book's.
   pub newer : rules p .numbered ≡ true → m .kind ≡ Update → p .last .number < m .number
   -- No more levels stand on a side afterwards than may.

@@ -5,7 +5,7 @@ use mathlib.Core.Bool.{Bool, true, false, _&&_, _||_, not, cond}
 use mathlib.Core.List.{List, [], _∷_, map}
 use lib.Dec.{leb, ltb, eqb}
 use lib.ListN.{length, take, getD}
-use Rattle.decimal.specs.Decimal.{Number, isZero}
+use Rattle.decimal.specs.Decimal.{Number}
 use Rattle.decimal.specs.Buffer.{overlaid}
 use Rattle.settings.specs.Settings.{Config, good, kept}
 use Rattle.settings.specs.Rules.{rulesOf}
@@ -14,16 +14,16 @@ use Rattle.settings.specs.declared.Dialect.the-variants.{K, M, Unknown}
 use Rattle.settings.specs.declared.Rules.{Rules}
 use Rattle.settings.specs.declared.SumText.{SumText}
 use Rattle.settings.specs.declared.SumText.the-variants.{Stripped, Interleaved}
-use Rattle.edit.specs.Edit.{PriceLevel, shownPrice}
-use Rattle.edit.specs.Edit.{Edit, sets, removes}
+use Rattle.edit.specs.Edit.{PriceLevel, shownPrice, Edit, forSide}
 use Rattle.level.specs.Side.{namesTwice, applyAll, ranked}
+use Rattle.level.specs.Ranked.{named}
 use Rattle.edit.specs.declared.Side.{Side}
 use Rattle.edit.specs.declared.Side.the-variants.{Bids, Asks}
 use Rattle.crc32_spec.specs.Crc.{crc}
 use Rattle.checksum.specs.Text.{kChecksumText, mChecksumText}
 use Rattle.layout.specs.Layout.{isSnapshot, Printed, printed, unprinted}
 use Rattle.answer.specs.Answers.{isTaken, leavesStatus}
-use Rattle.message.specs.Meaning.{LevelChange, Message, Decoded, refuses, decodes, decode}
+use Rattle.message.specs.Meaning.{SidedEdit, Message, Decoded, refuses, decodes, decode}
 use Rattle.answer.specs.declared.Answer.{Answer}
 use Rattle.answer.specs.declared.Answer.the-variants.{Taken, Shut, TooLong, NotJson, Escaped, NotOurs, BadLayout, TooManyEntries, BadDecimal, PriceTwice, NoSnapshot, OldNumber, TooManyLevels, WrongChecksum, NoLevel, NoRoom}
 use Rattle.writer.specs.Snapshot.{kSnapshot, mSnapshot}
@@ -76,26 +76,27 @@ opened t = record { config = kept t; status = cond (good t) waiting shut; last =
 
 -- ---- what a message would make of the sides: entry by entry the level at a price is set or removed; then a side is ranked, and cut where the dialect cuts
 
-unfoldable pub editOf : LevelChange → Edit PriceLevel
-editOf q = cond (isZero (q .size)) (removes (q .price)) (sets (record { price = q .price; size = q .size }))
+-- The edits of a message for one side, in their order.
+unfoldable pub editsFor : Side → Message → List (Edit PriceLevel)
+editsFor side m = map (λ (e : SidedEdit). e .edit) (forSide (λ (e : SidedEdit). e .side) side (m .edits))
 
-unfoldable pub afterChanges : Config → Side → List LevelChange → List PriceLevel → List PriceLevel
-afterChanges t side qs s =
-    let levels : List PriceLevel = ranked shownPrice side (applyAll shownPrice (map editOf qs) s) in
+unfoldable pub afterEdits : Config → Side → List (Edit PriceLevel) → List PriceLevel → List PriceLevel
+afterEdits t side es s =
+    let levels : List PriceLevel = ranked shownPrice side (applyAll shownPrice es s) in
     cond (rulesOf (t .dialect) .cut) (take (t .depth) levels) levels
 
 -- A snapshot replaces the book.
 unfoldable pub sidesAfter : Reference → Message → Sides
 sidesAfter p m =
     record {
-      bids = afterChanges (p .config) Bids (m .bids) (cond (isSnapshot (m .kind)) [] (p .last .sides .bids));
-      asks = afterChanges (p .config) Asks (m .asks) (cond (isSnapshot (m .kind)) [] (p .last .sides .asks));
+      bids = afterEdits (p .config) Bids (editsFor Bids m) (cond (isSnapshot (m .kind)) [] (p .last .sides .bids));
+      asks = afterEdits (p .config) Asks (editsFor Asks m) (cond (isSnapshot (m .kind)) [] (p .last .sides .asks));
     }
 
 -- ---- checks 9 to 13
 
-abbrev pub pricesOf : List LevelChange → List Number
-pricesOf qs = map (λ (q : LevelChange). q .price) qs
+abbrev pub pricesOf : List (Edit PriceLevel) → List Number
+pricesOf es = map (named shownPrice) es
 
 unfoldable pub checksumText : SumText → ℕ → List PriceLevel → List PriceLevel → List ℕ
 checksumText Stripped = kChecksumText
@@ -106,7 +107,7 @@ checksumOf r s = crc (checksumText (r .text) (r .summed) (s .bids) (s .asks))
 
 -- 9: a snapshot names one price twice on a side
 unfoldable pub namesPriceTwice : Message → Bool
-namesPriceTwice m = isSnapshot (m .kind) && (namesTwice (pricesOf (m .bids)) || namesTwice (pricesOf (m .asks)))
+namesPriceTwice m = isSnapshot (m .kind) && (namesTwice (pricesOf (editsFor Bids m)) || namesTwice (pricesOf (editsFor Asks m)))
 
 -- 10: an update while waiting
 unfoldable pub lacksSnapshot : Reference → Message → Bool

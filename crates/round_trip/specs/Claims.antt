@@ -2,21 +2,23 @@
 use Prim.Native.Nat.{ℕ, _≤_, _<_, _^_}
 use mathlib.Core.Path.{_≡_}
 use mathlib.Core.Bool.{true, false}
-use mathlib.Core.List.{List, [], _∷_, map}
+use mathlib.Core.List.{List, [], _∷_, _++_, map}
 use lib.ListN.{length}
 use Rattle.decimal.specs.Decimal.{Number, isZero}
 use Rattle.decimal.specs.Limits.{Within}
-use Rattle.edit.specs.Edit.{PriceLevel}
+use Rattle.edit.specs.Edit.{PriceLevel, sets}
+use Rattle.edit.specs.declared.Side.{Side}
+use Rattle.edit.specs.declared.Side.the-variants.{Bids, Asks}
 use Rattle.settings.specs.Settings.{good}
 use Rattle.settings.specs.declared.Dialect.the-variants.{K, M}
 use Rattle.layout.specs.Layout.{printed, unprinted}
 use Rattle.layout.specs.declared.Kind.the-variants.{Snapshot}
-use Rattle.message.specs.Meaning.{LevelChange, decode, decodes}
+use Rattle.message.specs.Meaning.{SidedEdit, decode, decodes}
 use Rattle.writer.specs.Snapshot.{kSnapshot, mSnapshot}
 
--- A level as an entry that says its price and its size.
-unfoldable pub levelChangeOf : PriceLevel → LevelChange
-levelChangeOf l = record { price = l .price; size = l .size }
+-- An entry that sets a level.
+abbrev pub setting : Side → PriceLevel → SidedEdit
+setting side l = record { side = side; edit = sets l }
 
 -- A price or a size that a book can hold.
 pub record Positive (n : Number) : Type 0 where
@@ -42,10 +44,10 @@ pub record Valid (levels : List PriceLevel) : Type 0 where
 abbrev pub K-round-trip : Type 0
 K-round-trip = (depth : ℕ) (name : List ℕ) (bids asks : List PriceLevel) → good (record { dialect = K; depth = depth; name = name }) ≡ true → Valid bids → Valid asks
     → decode (record { dialect = K; depth = depth; name = name }) (kSnapshot depth name bids asks)
-    ≡ decodes (record { kind = Snapshot; bids = map levelChangeOf bids; asks = map levelChangeOf asks; checksum = unprinted; number = 0 })
+    ≡ decodes (record { kind = Snapshot; edits = map (setting Asks) asks ++ map (setting Bids) bids; checksum = unprinted; number = 0 })
 
 abbrev pub M-round-trip : Type 0
 M-round-trip = (name : List ℕ) (bids asks : List PriceLevel) (checksum number : ℕ) → good (record { dialect = M; depth = 100; name = name }) ≡ true → Valid bids → Valid asks
     → checksum ≤ 4294967295 → number < 10 ^ 19
     → decode (record { dialect = M; depth = 100; name = name }) (mSnapshot name bids asks checksum number)
-    ≡ decodes (record { kind = Snapshot; bids = map levelChangeOf bids; asks = map levelChangeOf asks; checksum = printed checksum; number = number })
+    ≡ decodes (record { kind = Snapshot; edits = map (setting Bids) bids ++ map (setting Asks) asks; checksum = printed checksum; number = number })

@@ -1,2 +1,0 @@
--- In reading order: the search for the first bad text.
-pub mod Seeking

@@ -1,4 +1,4 @@
--- Marks and slots hold what the values of a name are, as far as it is asked.
+-- Marks hold what the values of a name are, as far as it is asked.
 -- Assumes nothing.
 use mathlib.Core.Path.{_≡_, refl, sym, ap, _∙_}
 use mathlib.Core.List.{List, [], _∷_}
@@ -11,10 +11,8 @@ use Rattle.json.specs.Json.{Span, Pair}
 use Rattle.json.specs.Names.{means}
 use Rattle.entries.specs.Places.{valuesOf, only}
 use Rattle.json.specs.Fold.{foldFrom}
-use Rattle.layout.specs.MemberSpans.{few, fewMore, noMemberSpan, withMemberSpan, memberSpanOf, noEntryMember, withEntryArray, entryMemberOf}
-use Rattle.layout.specs.declared.EntryArray.{EntryArray}
+use Rattle.layout.specs.MemberSpans.{few, fewMore, noMemberSpan, withMemberSpan, memberSpanOf}
 use Rattle.layout.specs.declared.MemberSpan.{MemberSpan}
-use Rattle.layout.specs.declared.EntryMember.{EntryMember}
 
 -- ---- counting up to two
 
@@ -42,18 +40,19 @@ module _ {S A : Type 0} (step : S → A → S) (count : S → ℕ) (counts : (st
       let k : suc n + length l ≡ n + suc (length l) = omega arith in
       count-from (step st a) (suc n) (counts st a ∙ ap fewMore h ∙ few-suc n) l ∙ ap few k
 
--- the times of a mark and of a slot are how many there are, up to two
+-- the times of a mark are how many there are, up to two
 pub mark-times : (l : List Span) → memberSpanOf l .times ≡ few (length l)
 unfolding withMemberSpan few
 mark-times l =
     let k : 0 + length l ≡ length l = omega arith in
     count-from withMemberSpan (λ m. m .times) (λ m a. refl) noMemberSpan 0 refl l ∙ ap few k
 
-pub slot-times : (listing : Span → EntryArray) (l : List Span) → entryMemberOf listing l .times ≡ few (length l)
-unfolding withEntryArray few
-slot-times listing l =
+-- a number that follows one name
+pub count-times : (l : List Span) → foldFrom (λ (n : ℕ) (a : Span). fewMore n) 0 l ≡ few (length l)
+unfolding few
+count-times l =
     let k : 0 + length l ≡ length l = omega arith in
-    count-from (withEntryArray listing) (λ t. t .times) (λ t a. refl) noEntryMember 0 refl l ∙ ap few k
+    count-from (λ (n : ℕ) (a : Span). fewMore n) (λ n. n) (λ n a. refl) 0 0 refl l ∙ ap few k
 
 -- ---- tests on such counts
 
@@ -97,22 +96,6 @@ unfolding only foldFrom withMemberSpan fewMore
 only-other [] h = refl
 only-other (a ∷ []) h = absurd (h refl)
 only-other (a ∷ (b ∷ l)) h = refl
-
--- the same of a slot
-module _ (listing : Span → EntryArray) where
-  pub slot-once : (l : List Span) → entryMemberOf listing l .times ≡ 1 → (a : Span) × (l ≡ a ∷ []) × (entryMemberOf listing l .listing ≡ listing a)
-  unfolding foldFrom withEntryArray fewMore
-  slot-once [] h = absurd (omega arith)
-  slot-once (a ∷ []) h = (a, refl, refl)
-  slot-once (a ∷ (b ∷ l)) h =
-      let n = few-once (suc (suc (length l))) (sym (slot-times listing (a ∷ (b ∷ l))) ∙ h) in
-      absurd (omega arith)
-
-  pub slot-none : (l : List Span) → entryMemberOf listing l .times ≡ 0 → l ≡ []
-  slot-none [] h = refl
-  slot-none (a ∷ l) h =
-      let n = few-none (suc (length l)) (sym (slot-times listing (a ∷ l)) ∙ h) in
-      absurd (omega arith)
 
 -- ---- a component of a fold over members that follows one name
 module _ {S A : Type 0} (s name : List ℕ) (step : S → Pair → S) (get : S → A) (add : A → Span → A) where

@@ -1,8 +1,8 @@
 -- Check 6 by what is told of the objects is check 6 of the objects.
 -- Assumes nothing.
-use mathlib.Core.Path.{_≡_, refl, sym, ap, _∙_}
+use mathlib.Core.Path.{_≡_, refl, sym, ap, _∙_, subst}
 use mathlib.Core.List.{List, [], _∷_, _++_, append-nil}
-use mathlib.Core.Bool.{Bool, true, false, _&&_, _||_, cond, and-eq-true-iff}
+use mathlib.Core.Bool.{Bool, true, false, true≢false, _&&_, _||_, cond, and-eq-true-iff}
 use Prim.Native.Nat.{ℕ, _+_, _≤_}
 use native.Mathlib.Omega.{arith}
 use lib.Dec.{leb, ltb, eqb}
@@ -10,21 +10,28 @@ use lib.ListN.{length, length-append}
 use borrow.Author.Tests.{eqb-true, leb-true}
 use Rattle.text.specs.Text.{ascii}
 use Rattle.decimal.specs.Digits.{Reading, reads, refused}
+use Rattle.edit.specs.declared.Side.the-variants.{Bids, Asks}
 use Rattle.json.specs.Json.{Span, Pair}
-use Rattle.entries.specs.Places.{andThen, valuesOf, only, quotedChecksumAt}
-use Rattle.entries.specs.Summary.{anyBroken, anyZero}
-use Rattle.layout.specs.Layout.{printed, unprinted, laid}
-use Rattle.layout.specs.declared.Kind.the-variants.{Snapshot, Update}
-use Rattle.layout.specs.Scan.{entryArrayOf, isPrinted, sumOf, noOutline, outlineOf, outlineFrom}
+use Rattle.json.specs.Names.{means}
 use Rattle.json.specs.Fold.{foldFrom}
-use Rattle.layout.specs.MemberSpans.{few, fewMore, withEntryArray, entryMemberOf}
-use Rattle.layout.specs.declared.EntryMember.{EntryMember}
-use Rattle.layout.proofs.Laws.{outline-of}
-use Rattle.message_k.specs.LayoutK.{times, together, isSnapshot, eachHasOne, lastOf, isUpdate, listedOf, listedIn, objectsLayout}
-use Rattle.message_k.specs.MembersK.{isRead, orZero, entryArrayK, moreSummed, noMembers, hasMore, snapshotBy, updateBy, sideOf, outlineBy}
+use Rattle.entries.specs.Places.{andThen, andAlso, valuesOf, only, quotedChecksumAt}
+use Rattle.entries.specs.Rows.{Entry, sidedAt}
+use Rattle.entries.specs.Tally as tallies·
+use Rattle.entries.specs.declared.Form.the-variants.{Triple}
+use Rattle.entries.proofs.Tallies.{none-also, also-none, also-assoc}
+use Rattle.layout.specs.Layout.{printed, unprinted, Layout, memberEntries, entriesIn, laid}
+use Rattle.layout.specs.declared.Kind.the-variants.{Snapshot, Update}
+use Rattle.layout.specs.Scan.{isPrinted, sumOf, noOutline, outlineOf, outlineFrom}
+use Rattle.layout.specs.MemberSpans.{few}
+use Rattle.layout.proofs.Laws.{outline-of, laid-entries}
+use Rattle.message_k.specs.LayoutK.{times, together, isSnapshot, eachHasOne, lastOf, isUpdate, entriesK, objectsLayout}
+use Rattle.message_k.specs.MembersK.{isRead, orZero, isBids, isAsks, withHeld, heldIn, moreSummed, noMembers, hasMore, snapshotBy, updateBy, outlineBy}
 use Rattle.message_k.specs.declared.Members.{Members}
 use Rattle.message_k.proofs.Counts.{few-zero, few-one, few-most, few-some, few-rises, some-or, none-and, once-last, and-on}
 use Rattle.message_k.proofs.Tells.{sumsOf, Tells, values-append, snapshot-asks-count, snapshot-bids-count, asks-count, bids-count, checksum-count}
+
+no-layout : {A : Type 0} {l : Layout} → _≡_ {A = Reading Layout} refused (reads l) → A
+no-layout h = absurd (true≢false (sym (ap (λ (y : Reading Layout). elim y [ reads k ↦ true | refused ↦ false ]) h)))
 
 pub both-true : (a b : Bool) → (a && b) ≡ true → (a ≡ true) × (b ≡ true)
 both-true a b h = and-eq-true-iff a b .0 h
@@ -33,73 +40,144 @@ and-true : (b : Bool) → b ≡ (b && true)
 and-true true = refl
 and-true false = refl
 
--- ---- the entries of a side, of which there is one array at the most
-side-is : (s : List ℕ) (l : List Span) → length l ≤ 1 → sideOf (entryMemberOf (entryArrayK s) l) ≡ entryArrayOf s (listedOf s l)
-unfolding foldFrom withEntryArray fewMore sideOf entryArrayK listedOf entryArrayOf anyBroken anyZero
-side-is s [] h = refl
-side-is s (a ∷ []) h = refl
-side-is s (a ∷ (b ∷ l)) h = absurd (omega arith)
+or-false : (b : Bool) → (b || false) ≡ b
+or-false true = refl
+or-false false = refl
+
+-- ---- the entries that all members hold are those of two names, where the other two are not met
+module _ (s other-bids other-asks bids asks : List ℕ)
+    (is-bids : (a : Span) → means s a other-bids ≡ false → isBids s a ≡ means s a bids)
+    (is-asks : (a : Span) → means s a other-asks ≡ false → isAsks s a ≡ means s a asks) where
+  absent : (name : List ℕ) (m : Pair) (ms : List Pair) → times s name (m ∷ ms) ≡ 0 → (means s (m .name) name ≡ false) × (times s name ms ≡ 0)
+  unfolding times valuesOf
+  absent name m ms h = go (means s (m .name) name) h
+    where
+      go : (b : Bool) → length (cond b (m .value ∷ valuesOf s name ms) (valuesOf s name ms)) ≡ 0 → (b ≡ false) × (length (valuesOf s name ms) ≡ 0)
+      go true g = absurd (omega arith)
+      go false g = (refl, g)
+
+  one-held : (x : Reading (List Entry)) (m : Pair) → means s (m .name) other-bids ≡ false → means s (m .name) other-asks ≡ false
+      → withHeld s x m ≡ andAlso x (memberEntries Triple 14 s bids asks m)
+  unfolding withHeld memberEntries
+  one-held x m h g = rw (is-bids (m .name) h, is-asks (m .name) g) (go (means s (m .name) bids) (means s (m .name) asks))
+    where
+      go : (b a : Bool) → cond b (andAlso x (sidedAt Bids Triple 14 s (m .value))) (cond a (andAlso x (sidedAt Asks Triple 14 s (m .value))) x)
+          ≡ andAlso x (cond b (sidedAt Bids Triple 14 s (m .value)) (cond a (sidedAt Asks Triple 14 s (m .value)) (reads [])))
+      go true a = refl
+      go false true = refl
+      go false false = sym (also-none x)
+
+  pub held-are : (x : Reading (List Entry)) (ms : List Pair) → times s other-bids ms ≡ 0 → times s other-asks ms ≡ 0
+      → heldIn s x ms ≡ andAlso x (entriesIn Triple 14 s bids asks ms)
+  unfolding foldFrom entriesIn
+  held-are x [] h g = sym (also-none x)
+  held-are x (m ∷ ms) h g =
+      let p = absent other-bids m ms h in
+      let q = absent other-asks m ms g in
+      held-are (withHeld s x m) ms (p .1) (q .1)
+      ∙ ap (λ (y : Reading (List Entry)). andAlso y (entriesIn Triple 14 s bids asks ms)) (one-held x m (p .0) (q .0))
+      ∙ also-assoc x (memberEntries Triple 14 s bids asks m) (entriesIn Triple 14 s bids asks ms)
+
+module _ (s : List ℕ) (ms : List Pair) where
+  pub snapshot-held : times s (ascii "b") ms ≡ 0 → times s (ascii "a") ms ≡ 0 → heldIn s (reads []) ms ≡ entriesIn Triple 14 s (ascii "bs") (ascii "as") ms
+  unfolding isBids isAsks
+  snapshot-held h g =
+      held-are s (ascii "b") (ascii "a") (ascii "bs") (ascii "as") (λ a k. rw k) (λ a k. rw k) (reads []) ms h g ∙ none-also (entriesIn Triple 14 s (ascii "bs") (ascii "as") ms)
+
+  pub update-held : times s (ascii "bs") ms ≡ 0 → times s (ascii "as") ms ≡ 0 → heldIn s (reads []) ms ≡ entriesIn Triple 14 s (ascii "b") (ascii "a") ms
+  unfolding isBids isAsks
+  update-held h g =
+      held-are s (ascii "bs") (ascii "as") (ascii "b") (ascii "a") (λ a k. rw k (or-false (means s a (ascii "b")))) (λ a k. rw k (or-false (means s a (ascii "a")))) (reads []) ms h g
+      ∙ none-also (entriesIn Triple 14 s (ascii "b") (ascii "a") ms)
 
 -- ---- the layout
 module _ (s : List ℕ) (objects : List (List Pair)) where
   abbrev often : List ℕ → ℕ
   often name = times s name (together objects)
 
-  snapshot-once : isSnapshot s objects ≡ true → (often (ascii "as") ≡ 1) × (often (ascii "bs") ≡ 1)
+  snapshot-none : isSnapshot s objects ≡ true → (often (ascii "b") ≡ 0) × (often (ascii "a") ≡ 0)
   unfolding isSnapshot
-  snapshot-once g =
+  snapshot-none g =
       let a = both-true (eqb (length objects) 1) _ g in
       let b = both-true (eqb (often (ascii "as")) 1) _ (a .1) in
       let c = both-true (eqb (often (ascii "bs")) 1) _ (b .1) in
-      (eqb-true _ 1 (b .0), eqb-true _ 1 (c .0))
+      let z : often (ascii "a") + (often (ascii "b") + often (ascii "c")) ≡ 0 = eqb-true _ 0 (c .1) in
+      (omega arith, omega arith)
 
-  update-once : isUpdate s objects ≡ true → (often (ascii "a") ≤ 1) × (often (ascii "b") ≤ 1) × (often (ascii "c") ≡ 1)
+  update-none : isUpdate s objects ≡ true → (often (ascii "bs") ≡ 0) × (often (ascii "as") ≡ 0) × (often (ascii "c") ≡ 1)
   unfolding isUpdate
-  update-once g =
+  update-none g =
       let a = both-true (leb (often (ascii "a")) 1) _ g in
       let b = both-true (leb (often (ascii "b")) 1) _ (a .1) in
       let e = both-true (eachHasOne s objects) _ (b .1) in
       let c = both-true (eqb (often (ascii "c")) 1) _ (e .1) in
-      (leb-true _ 1 (a .0), leb-true _ 1 (b .0), eqb-true _ 1 (c .0))
+      let l = both-true (eqb (times s (ascii "c") (lastOf objects)) 1) _ (c .1) in
+      let z : often (ascii "as") + often (ascii "bs") ≡ 0 = eqb-true _ 0 (l .1) in
+      (omega arith, omega arith, eqb-true _ 1 (c .0))
+
+  -- the entries of its layout are all that the members hold
+  abbrev all-held : Reading (List Entry)
+  all-held = heldIn s (reads []) (together objects)
+
+  snapshot-entries : isSnapshot s objects ≡ true → all-held ≡ entriesK s (ascii "bs") (ascii "as") objects
+  unfolding entriesK
+  snapshot-entries g = let n = snapshot-none g in snapshot-held s (together objects) (n .0) (n .1)
+
+  update-entries : isUpdate s objects ≡ true → all-held ≡ entriesK s (ascii "b") (ascii "a") objects
+  unfolding entriesK
+  update-entries g = let n = update-none g in update-held s (together objects) (n .0) (n .1)
+
+  pub layout-held : (l : Layout) → objectsLayout s objects ≡ reads l → all-held ≡ reads (l .entries)
+  unfolding objectsLayout andThen
+  layout-held l h = go (isSnapshot s objects) refl (isUpdate s objects) refl h
+    where
+      as-update : (x : Reading Span) → andThen x (λ c. andThen (quotedChecksumAt s c) (λ sum. laid Update (printed sum) 0 (entriesK s (ascii "b") (ascii "a") objects))) ≡ reads l
+          → entriesK s (ascii "b") (ascii "a") objects ≡ reads (l .entries)
+      as-update refused g = no-layout g
+      as-update (reads c) g = at (quotedChecksumAt s c) g
+        where
+          at : (y : Reading ℕ) → andThen y (λ sum. laid Update (printed sum) 0 (entriesK s (ascii "b") (ascii "a") objects)) ≡ reads l → entriesK s (ascii "b") (ascii "a") objects ≡ reads (l .entries)
+          at (reads sum) k = laid-entries Update (printed sum) 0 (entriesK s (ascii "b") (ascii "a") objects) l k
+          at refused k = no-layout k
+
+      go : (x : Bool) → isSnapshot s objects ≡ x → (y : Bool) → isUpdate s objects ≡ y
+          → cond x (laid Snapshot unprinted 0 (entriesK s (ascii "bs") (ascii "as") objects))
+          (cond y (andThen (only (valuesOf s (ascii "c") (together objects))) (λ c. andThen (quotedChecksumAt s c) (λ sum. laid Update (printed sum) 0 (entriesK s (ascii "b") (ascii "a") objects)))) refused)
+          ≡ reads l → all-held ≡ reads (l .entries)
+      go true p y q g = snapshot-entries p ∙ laid-entries Snapshot unprinted 0 (entriesK s (ascii "bs") (ascii "as") objects) l g
+      go false p true q g = update-entries q ∙ as-update (only (valuesOf s (ascii "c") (together objects))) g
+      go false p false q g = no-layout g
 
   module _ (t : Members) (h : Tells s t (together objects)) where
-    side : (name : List ℕ) (slot : EntryMember) → slot ≡ entryMemberOf (entryArrayK s) (valuesOf s name (together objects)) → often name ≤ 1
-        → sideOf slot ≡ entryArrayOf s (listedIn s name objects)
-    unfolding listedIn times
-    side name slot g n = ap sideOf g ∙ side-is s (valuesOf s name (together objects)) n
-
     snapshot-laid : isSnapshot s objects ≡ true → (update : Bool) → outlineBy true update t ≡ outlineOf s (objectsLayout s objects)
     unfolding outlineBy objectsLayout isPrinted sumOf
     snapshot-laid g update =
-        let n = snapshot-once g in
-        let x : often (ascii "as") ≤ 1 = omega arith in
-        let y : often (ascii "bs") ≤ 1 = omega arith in
-        rw (side (ascii "as") (t .«snapshot_asks») (h .snapshot-asks) x, side (ascii "bs") (t .«snapshot_bids») (h .snapshot-bids) y, g)
-        (outline-of s Snapshot unprinted 0 (listedIn s (ascii "bs") objects) (listedIn s (ascii "as") objects))
+        rw g
+        (outline-of s Snapshot unprinted 0 (entriesK s (ascii "bs") (ascii "as") objects) (t .tally)
+        (subst (λ (x : Reading (List Entry)). tallies·.Tells s x (t .tally)) (snapshot-entries g) (h .entries)))
 
     -- the one `c`
-    sum-laid : (x : Reading ℕ)
-        → cond (isRead x) (outlineFrom Update (entryArrayOf s (listedIn s (ascii "b") objects)) (entryArrayOf s (listedIn s (ascii "a") objects)) true (orZero x) 0) noOutline
-        ≡ outlineOf s (andThen x (λ sum. laid Update (printed sum) 0 (listedIn s (ascii "b") objects) (listedIn s (ascii "a") objects)))
+    sum-laid : isUpdate s objects ≡ true → (x : Reading ℕ)
+        → cond (isRead x) (outlineFrom Update (t .tally) true (orZero x) 0) noOutline
+        ≡ outlineOf s (andThen x (λ sum. laid Update (printed sum) 0 (entriesK s (ascii "b") (ascii "a") objects)))
     unfolding isRead orZero andThen isPrinted sumOf outlineOf
-    sum-laid (reads n) = outline-of s Update (printed n) 0 (listedIn s (ascii "b") objects) (listedIn s (ascii "a") objects)
-    sum-laid refused = refl
+    sum-laid g (reads n) =
+        outline-of s Update (printed n) 0 (entriesK s (ascii "b") (ascii "a") objects) (t .tally)
+        (subst (λ (x : Reading (List Entry)). tallies·.Tells s x (t .tally)) (update-entries g) (h .entries))
+    sum-laid g refused = refl
 
-    one-sum : (l : List Span) → length l ≡ 1 → t .checksum ≡ sumsOf s l → often (ascii "a") ≤ 1 → often (ascii "b") ≤ 1
+    one-sum : isUpdate s objects ≡ true → (l : List Span) → length l ≡ 1 → t .checksum ≡ sumsOf s l
         → outlineBy false true t
         ≡ outlineOf s (andThen (only l) (λ c. andThen (quotedChecksumAt s c) (λ sum.
-        laid Update (printed sum) 0 (listedIn s (ascii "b") objects) (listedIn s (ascii "a") objects))))
+        laid Update (printed sum) 0 (entriesK s (ascii "b") (ascii "a") objects))))
     unfolding outlineBy foldFrom moreSummed only andThen
-    one-sum [] n g a b = absurd (omega arith)
-    one-sum (c ∷ []) n g a b =
-        rw (side (ascii "a") (t .asks) (h .asks) a, side (ascii "b") (t .bids) (h .bids) b, g) (sum-laid (quotedChecksumAt s c))
-    one-sum (c ∷ (d ∷ l)) n g a b = absurd (omega arith)
+    one-sum u [] n g = absurd (omega arith)
+    one-sum u (c ∷ []) n g = rw g (sum-laid u (quotedChecksumAt s c))
+    one-sum u (c ∷ (d ∷ l)) n g = absurd (omega arith)
 
     update-laid : isSnapshot s objects ≡ false → isUpdate s objects ≡ true → outlineBy false true t ≡ outlineOf s (objectsLayout s objects)
     unfolding objectsLayout times
-    update-laid q g =
-        let n = update-once g in
-        rw (q, g) (one-sum (valuesOf s (ascii "c") (together objects)) (n .2) (h .checksum) (n .0) (n .1))
+    update-laid q g = rw (q, g) (one-sum g (valuesOf s (ascii "c") (together objects)) (update-none g .2) (h .checksum))
 
     neither-laid : isSnapshot s objects ≡ false → isUpdate s objects ≡ false → outlineBy false false t ≡ outlineOf s (objectsLayout s objects)
     unfolding objectsLayout outlineBy outlineOf

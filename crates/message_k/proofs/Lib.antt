@@ -4,6 +4,7 @@ pub mod Numbers
 pub mod Channel
 pub mod OneMember
 pub mod Objects
+pub mod Holding
 pub mod OnePart
 pub mod Outlines
 pub mod Counts

@@ -20,7 +20,7 @@ use Rattle.json.proofs.Bounds.{value-in}
 use Rattle.entries.specs.Places.{isString, wholeAt, quotedChecksumAt}
 use Rattle.entries.proofs.Stops.{broken-at}
 use Rattle.entries.proofs.Strings.{string-two}
-use Rattle.entries.proofs.Counting.{inner-part}
+use Rattle.entries.proofs.Found.{inner-part}
 use Rattle.layout.specs.MemberSpans.{withMemberSpan}
 use Rattle.layout.specs.declared.MemberSpan.{MemberSpan}
 use Rattle.message_k.specs.MembersK.{isRead, orZero, moreSummed, withSum, SumRead}

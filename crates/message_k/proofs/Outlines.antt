@@ -4,8 +4,7 @@ use mathlib.Core.Path.{_≡_, sym}
 use mathlib.Core.Bool.{Bool, true, false, _&&_, _||_}
 use Rattle.layout.specs.Scan.{outlineFrom, noOutline}
 use Rattle.layout.specs.declared.Kind.the-variants.{Snapshot, Update}
-use Rattle.layout.specs.declared.EntryArray.{EntryArray}
-use Rattle.message_k.specs.MembersK.{noMembers, hasMore, snapshotBy, updateBy, sideOf, outlineBy}
+use Rattle.message_k.specs.MembersK.{noMembers, hasMore, snapshotBy, updateBy, outlineBy}
 use Rattle.message_k.specs.PartsK.{oneObject, twoObjects}
 use Rattle.message_k.specs.declared.Members.{Members}
 
@@ -16,16 +15,13 @@ pub or-no : (x y : Bool) → x ≡ false → y ≡ (x || y)
 or-no x y h = sym (rw h)
 
 module _ (t : Members) (update : Bool) {snapshot : Bool} where
-  module _ {b a : EntryArray} where
-    pub outline-snapshot : snapshot ≡ true → b ≡ sideOf (t .«snapshot_bids») → a ≡ sideOf (t .«snapshot_asks»)
-        → outlineFrom Snapshot b a false 0 0 ≡ outlineBy snapshot update t
-    unfolding outlineBy
-    outline-snapshot h p q = sym (rw (h, outlineBy, p, q))
+  pub outline-snapshot : snapshot ≡ true → outlineFrom Snapshot (t .tally) false 0 0 ≡ outlineBy snapshot update t
+  unfolding outlineBy
+  outline-snapshot h = sym (rw (h, outlineBy))
 
-    pub outline-update : snapshot ≡ false → (update && t .checksum .«well_formed») ≡ true → b ≡ sideOf (t .bids) → a ≡ sideOf (t .asks)
-        → outlineFrom Update b a true (t .checksum .sum) 0 ≡ outlineBy snapshot update t
-    unfolding outlineBy
-    outline-update h g p q = sym (rw (h, g, outlineBy, p, q))
+  pub outline-update : snapshot ≡ false → (update && t .checksum .«well_formed») ≡ true → outlineFrom Update (t .tally) true (t .checksum .sum) 0 ≡ outlineBy snapshot update t
+  unfolding outlineBy
+  outline-update h g = sym (rw (h, g, outlineBy))
 
   pub outline-neither : snapshot ≡ false → (update && t .checksum .«well_formed») ≡ false → noOutline ≡ outlineBy snapshot update t
   unfolding outlineBy

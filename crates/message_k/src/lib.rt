@@ -321,10 +321,18 @@ fn with_entries(
     ensures { λ r. ⌜ EntriesRead (now (s .entry)) members from side (now (buffer .entry)) (now (buffer .exit)) r ⌝ }
 {
     let read = entries_at(s, from, SIDE_DEPTH, Form::Triple, side, members.tally, buffer);
-    let mut next = members;
-    next.end = read.end;
-    next.tally = read.tally;
-    next
+    let checksum = members.checksum;
+    let tally = read.tally;
+    Members {
+        end: read.end,
+        snapshot_asks: members.snapshot_asks,
+        snapshot_bids: members.snapshot_bids,
+        asks: members.asks,
+        bids: members.bids,
+        checksum,
+        tally,
+        is_object: members.is_object,
+    }
 }
 
 // What was told of the members, and one more `c`, whose value begins at `from`.

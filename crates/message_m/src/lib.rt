@@ -364,21 +364,27 @@ fn more_data(
     requires { ⌜ (count (met .tally) ≤ from) × (length (now buffer) ≡ bufferWords) ⌝ }
     ensures { λ r. ⌜ MoreData (now (s .entry)) met (memberAt sideDepth (now (s .entry)) first past from) (now (buffer .entry)) (now (buffer .exit)) r ⌝ }
 {
-    let mut next = met;
     if is_name(s, first, past, b"bids") {
         let read = entries_at(s, from, SIDE_DEPTH, Form::Pair, Side::Bids, met.tally, buffer);
-        next.end = read.end;
-        next.bids = few_more(met.bids);
-        next.tally = read.tally;
-        return next;
+        let tally = read.tally;
+        return Data {
+            end: read.end,
+            bids: few_more(met.bids),
+            asks: met.asks,
+            tally,
+        };
     }
     if is_name(s, first, past, b"asks") {
         let read = entries_at(s, from, SIDE_DEPTH, Form::Pair, Side::Asks, met.tally, buffer);
-        next.end = read.end;
-        next.asks = few_more(met.asks);
-        next.tally = read.tally;
-        return next;
+        let tally = read.tally;
+        return Data {
+            end: read.end,
+            bids: met.bids,
+            asks: few_more(met.asks),
+            tally,
+        };
     }
+    let mut next = met;
     next.end = value_end(s, from, SIDE_DEPTH);
     next
 }

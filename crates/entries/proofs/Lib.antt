@@ -7,3 +7,4 @@ pub mod Numbers
 pub mod Decimals
 pub mod Counting
 pub mod Tallies
+pub mod Arrays

@@ -1,12 +1,12 @@
 -- An array of entries, entry by entry: what was met of the elements that were passed, what is left of them, and the buffer that has their numbers. At the
 -- end all of them were met. Assumes nothing.
-use Prim.Native.Nat.{ℕ, suc, _+_, _-_, _≤_, _<_}
+use Prim.Native.Nat.{ℕ, zero, suc, _+_, _-_, _≤_, _<_}
 use mathlib.Core.Path.{_≡_, refl, sym, ap, ap₂, _∙_, subst}
 use mathlib.Core.Bool.{Bool, true, false}
 use mathlib.Core.List.{List, [], _∷_, _++_, map, append-nil, append-assoc}
 use native.Mathlib.Omega.{arith}
 use native.Mathlib.Numerals.{add-one}
-use borrow.Author.Tests.{eq-eqb, ltb-true, ltb-false}
+use borrow.Author.Tests.{eq-eqb, ne-eqb, ltb-true, ltb-false}
 use lib.Dec.{eqb, ltb}
 use lib.ListN.{length, take, set, length-append, length-map, length-take}
 use lib.Seq.{take-all, take-append-le, take-suc-set, set-out, append-snoc}
@@ -322,3 +322,26 @@ module _ (base : ℕ) (s : List ℕ) (d : ℕ) (form : Form) (side : Side) (t : 
     pub going-wrong : (depth : ℕ) → suc d ≡ depth → byteAt s 0 ≡ 91 → m .end ≡ 0 → Met base s depth form side t 0 before after (toldNot 0)
     going-wrong depth deep opens z =
         met-none depth deep opens after (fold-wrong (passing d s) (g .passed) (g .left) (no-element d s i (m .end) ends z)) (c .room)
+
+-- ---- a value that is no array
+module _ (base : ℕ) (s : List ℕ) (depth : ℕ) (form : Form) (side : Side) (t : Tally) (at : ℕ) (before : List ℕ) (h : byteAt s at ≡ 91 → ⊥) where
+  no-array : (e : ℕ) → arrayAt depth s (record { from = at; to = e }) ≡ refused
+  unfolding arrayAt
+  no-array e = go depth
+    where
+      go : (k : ℕ) → arrayAt k s (record { from = at; to = e }) ≡ refused
+      go zero = refl
+      go (suc k) = rw (ne-eqb (byteAt s at) 91 h)
+
+  pub met-other : length before ≡ bufferWords → Met base s depth form side t at before before (toldNot (endOf (value depth s at)))
+  unfolding endOf arrayTally spansTally sidedAt entriesAt andThen
+  met-other room = record { told = go (value depth s at) refl; few = λ n. omega arith; room = room; kept = λ e v es g. no-row (sym (no-entries depth e (no-array e)) ∙ g) }
+    where
+      go : (x : End) → value depth s at ≡ x → toldNot (endOf x) ≡ toldAt base s depth form side t at
+      go (At e) v =
+          ap (λ (y : Tally). record { end = e; tally = y }) (sym (ap (spansTally base s (depth - 1) form side t) (no-array e))) ∙ sym (told-is base s form side depth t at e v)
+      go Broken v = sym (told-broken base s form side depth t at v)
+
+      no-entries : (k e : ℕ) → arrayAt k s (record { from = at; to = e }) ≡ refused → sidedAt side form k s (record { from = at; to = e }) ≡ refused
+      no-entries zero e q = refl
+      no-entries (suc k) e q = rw q

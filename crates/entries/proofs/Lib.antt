@@ -8,3 +8,4 @@ pub mod Decimals
 pub mod Counting
 pub mod Tallies
 pub mod Arrays
+pub mod Shift

@@ -36,10 +36,11 @@ module _ (c : tie.After-number-of2) where
 
 put-requires : tie.Need-put-requires
 put-requires c κs =
-    let a = c .before .before .before .before .before .before .before .before .args in
-    (c .before .before .before .before .before .before .before .before .pre .2,
-    subst Within (sym (price-number c)) (number-within (a .s .now) (priceSpan (a .found))),
-    subst Within (sym (size-number c)) (number-within (a .s .now) (sizeSpan (a .found))))
+    let a = c .before .before .before .before .before .before .before .before .args in (
+      c .before .before .before .before .before .before .before .before .pre .2,
+      subst Within (sym (price-number c)) (number-within (a .s .now) (priceSpan (a .found))),
+      subst Within (sym (size-number c)) (number-within (a .s .now) (sizeSpan (a .found))),
+    )
 
 returns : tie.Need-returns
 returns c =

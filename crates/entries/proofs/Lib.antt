@@ -4,4 +4,8 @@ pub mod Entry
 pub mod Strings
 pub mod Found
 pub mod Numbers
+pub mod Decimals
+pub mod Counting
 pub mod Tallies
+pub mod Arrays
+pub mod Shift

@@ -11,12 +11,13 @@ use Rattle.edit.specs.Edit.{Numbers, isSame, forSide}
 use Rattle.edit.specs.Buffer.{maxBuffered, bufferWords, entriesIn}
 use Rattle.edit.specs.declared.Side.{Side}
 use Rattle.edit.specs.declared.Side.the-variants.{Bids, Asks}
-use Rattle.json_tokens.specs.Tokens.{At}
+use Rattle.json_tokens.specs.Tokens.{End, At, Broken}
+use Rattle.json_tokens.specs.Ends.{endOf}
 use Rattle.json.specs.Json.{Span, value}
 use Rattle.json.specs.Fold.{foldFrom}
 use Rattle.entries.specs.Places.{andThen, all, andAlso, arrayAt}
 use Rattle.entries.specs.Rows.{Row, Entry, sided, entryOf, entriesAt, sidedAt, numbersAt}
-use Rattle.entries.specs.Tally.{noneYet, oneBid, oneAsk, withEntry, oneMore, tallyOf, Tells, Kept, orNot, oneSpan, spansTally, arrayTally, met, Met}
+use Rattle.entries.specs.Tally.{noneYet, toldNot, oneBid, oneAsk, withEntry, oneMore, tallyOf, Tells, Kept, orNot, oneSpan, spansTally, arrayTally, toldAt, met, Met}
 use Rattle.entries.specs.declared.Form.{Form}
 use Rattle.entries.specs.declared.Tally.{Tally}
 use Rattle.entries.specs.declared.Entries.{Entries}
@@ -81,7 +82,7 @@ unfolding foldFrom
 fold-append f st [] m = refl
 fold-append f st (a ∷ l) m = fold-append f (f st a) l m
 
-map-append : {A B : Type 0} (f : A → B) (l m : List A) → map f (l ++ m) ≡ map f l ++ map f m
+pub map-append : {A B : Type 0} (f : A → B) (l m : List A) → map f (l ++ m) ≡ map f l ++ map f m
 map-append f [] m = refl
 map-append f (a ∷ l) m = ap (λ t. f a ∷ t) (map-append f l m)
 
@@ -91,7 +92,7 @@ abbrev pub sideOf : Entry → Side
 sideOf e = e .side
 
 module _ (base : ℕ) (s : List ℕ) where
-  one-met : (t : Tally) (e : Entry) → met (oneMore base s t e) ≡ suc (met t)
+  pub one-met : (t : Tally) (e : Entry) → met (oneMore base s t e) ≡ suc (met t)
   unfolding oneMore withEntry
   one-met t e = go (e .side)
     where
@@ -226,6 +227,26 @@ module _ (base : ℕ) (s : List ℕ) (form : Form) (side : Side) where
       go : (x : Reading (List Span)) → spansTally base s (depth - 1) form side t x .«well_formed» ≡ false
       go (reads l) = spans-unformed (depth - 1) t l h
       go refused = refl
+
+  -- the value at a position, as an array of entries
+  module _ (depth : ℕ) (t : Tally) (at : ℕ) where
+    pub told-is : (e : ℕ) → value depth s at ≡ At e
+        → toldAt base s depth form side t at ≡ record { end = e; tally = arrayTally base s depth form side t (record { from = at; to = e }) }
+    unfolding toldAt
+    told-is e v = rw (v, toldAt)
+
+    pub told-broken : value depth s at ≡ Broken → toldAt base s depth form side t at ≡ toldNot 0
+    unfolding toldAt
+    told-broken v = rw (v, toldAt)
+
+    -- the end is the value's, whatever it is
+    pub told-end : toldAt base s depth form side t at .end ≡ endOf (value depth s at)
+    unfolding endOf
+    told-end = go (value depth s at) refl
+      where
+        go : (x : End) → value depth s at ≡ x → toldAt base s depth form side t at .end ≡ endOf x
+        go (At e) v = ap (λ (r : Entries). r .end) (told-is e v)
+        go Broken v = ap (λ (r : Entries). r .end) (told-broken v)
 
 -- ---- the tally and the buffer, array by array
 

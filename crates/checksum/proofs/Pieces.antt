@@ -8,58 +8,64 @@ use native.Mathlib.Numerals.{add-one}
 use lib.Bits.{bitXor, xor-comm}
 use lib.ListN.{length, getD, take, drop, length-map, length-append, drop-of-length-le}
 use lib.Seq.{take-nil, take-take, drop-cons, getD-take, length-take-le}
-use Rattle.decimal.specs.Decimal.{Number, number, text, stripped}
+use Rattle.decimal.specs.Decimal.{Number, text, stripped}
 use Rattle.decimal.specs.Limits.{Within}
-use Rattle.decimal.specs.declared.Decimal.{Decimal}
 use Rattle.decimal.proofs.Text.{length-text, length-stripped}
 use Rattle.crc32_spec.specs.Crc.{bits, step, run, start, finish, crc, bit}
 use Rattle.crc32_spec.specs.Laws.{xor-assoc, bits-xor, bits-add}
 use Rattle.crc32_spec.specs.Text.{run-append, run-from}
-use Rattle.piece.specs.Piece.{kPiece, mPiece, SumsTo}
-use Rattle.piece.specs.declared.Piece.{Piece}
+use Rattle.piece.specs.Piece.{kPiece, mPiece}
+use Rattle.settings.specs.declared.SumText.{SumText}
+use Rattle.settings.specs.declared.SumText.the-variants.{Stripped, Interleaved}
 use Rattle.edit.specs.Edit.{PriceLevel}
-use Rattle.level.specs.Words.{levelPrice, levelSize, levelSum, levelLength, maxLength, MadeOf, shown}
+use Rattle.level.specs.Words.{levelPrice, levelSize, levelSum, levelLength, maxLength, shown}
 use Rattle.level.specs.Ranked.{All}
 use Rattle.level.specs.Words.{levelsIn, noLevel}
 use Rattle.level.specs.Kept.{maxLevels, maxWords}
+use Rattle.level.proofs.Changes.{made-price, made-size, made-sum, made-length, made-shown}
 use Rattle.level.proofs.Stored.{length-levels}
 use Rattle.level.specs.declared.Level.{Level}
 use Rattle.text.specs.Text.{joined, colon}
 use Rattle.checksum.specs.Text.{kLevel, kChecksumText, mLevel, interleaved, colonJoined, mChecksumText}
 use Rattle.checksum.specs.Sums.{kLevels, kChecksum, mLevels, mChecksum}
-use Rattle.checksum.specs.Carried.{Carries, Made, summed}
+use Rattle.checksum.specs.Carried.{pieceOf, levelFor, Carries, summed}
 
 -- ---- a level that was made carries its piece
 
-pub made-carries : (piece : Number → Number → List ℕ) (price size : Decimal) {p : Piece} {level : Level} →
-    SumsTo (piece (number price) (number size)) p → MadeOf (number price) (number size) (p .sum) (p .length) level → Made piece price size level
-unfolding shown
-made-carries piece price size {p} {level} h m = record {
-  shows = ap₂ (λ (x y : Number). record { price = x; size = y }) (m .price-is) (m .size-is);
-  carries = record {
-    sum = m .sum-is ∙ h .sum ∙ ap (run 0) same;
-    long = m .length-is ∙ h .long ∙ ap length same;
-  };
-}
-  where
-    same : piece (number price) (number size) ≡ piece (levelPrice level) (levelSize level)
-    same = sym (ap₂ piece (m .price-is) (m .size-is))
+module _ (sumText : SumText) (price size : Number) where
+  pub level-price : levelPrice (levelFor sumText price size) ≡ price
+  unfolding levelFor
+  level-price = made-price price size _ _
+
+  pub level-size : levelSize (levelFor sumText price size) ≡ size
+  unfolding levelFor
+  level-size = made-size price size _ _
+
+  pub level-shown : shown (levelFor sumText price size) ≡ record { price = price; size = size }
+  unfolding levelFor
+  level-shown = made-shown price size _ _
+
+  pub level-carries : Carries (pieceOf sumText) (levelFor sumText price size)
+  unfolding levelFor
+  level-carries =
+      let same : pieceOf sumText price size ≡ pieceOf sumText (levelPrice (levelFor sumText price size)) (levelSize (levelFor sumText price size)) = sym (ap₂ (pieceOf sumText) level-price level-size) in
+      record { sum = made-sum price size _ _ ∙ ap (run 0) same; long = made-length price size _ _ ∙ ap length same }
 
 -- ---- the state after the pieces of levels
 
 module _ (piece : Number → Number → List ℕ) where
   -- the piece of a level as it is shown
-  abbrev pub pieceOf : PriceLevel → List ℕ
-  pieceOf l = piece (l .price) (l .size)
+  abbrev pub shownPiece : PriceLevel → List ℕ
+  shownPiece l = piece (l .price) (l .size)
 
-  pub summed-run : (levels : List Level) (s : ℕ) → All (Carries piece) levels → summed s levels ≡ run s (joined (map pieceOf (map shown levels)))
+  pub summed-run : (levels : List Level) (s : ℕ) → All (Carries piece) levels → summed s levels ≡ run s (joined (map shownPiece (map shown levels)))
   unfolding summed joined run All shown
   summed-run [] s h = refl
   summed-run (l ∷ levels) s h =
       summed-run levels (bitXor (bits (8 * levelLength l) s) (levelSum l)) (h .1)
-      ∙ ap (λ (x : ℕ). run x (joined (map pieceOf (map shown levels))))
+      ∙ ap (λ (x : ℕ). run x (joined (map shownPiece (map shown levels))))
       (ap₂ (λ (n x : ℕ). bitXor (bits (8 * n) s) x) (h .0 .long) (h .0 .sum) ∙ sym (run-from (piece (levelPrice l) (levelSize l)) s))
-      ∙ sym (run-append (piece (levelPrice l) (levelSize l)) (joined (map pieceOf (map shown levels))) s)
+      ∙ sym (run-append (piece (levelPrice l) (levelSize l)) (joined (map shownPiece (map shown levels))) s)
 
 pub summed-append : (xs ys : List Level) (s : ℕ) → summed s (xs ++ ys) ≡ summed (summed s xs) ys
 unfolding summed
@@ -200,7 +206,7 @@ some-right n (x ∷ xs) (y ∷ ys) h = zero-lt-suc (suc (length (interleaved n x
 
 -- ---- the length of a piece
 
-pub k-short : (price size : Number) → Within price → Within size → length (kPiece price size) ≤ maxLength
+k-short : (price size : Number) → Within price → Within size → length (kPiece price size) ≤ maxLength
 unfolding kPiece
 k-short price size p s =
     let a = length-stripped price p in
@@ -208,13 +214,17 @@ k-short price size p s =
     let e : length (stripped price ++ stripped size) ≡ length (stripped price) + length (stripped size) = length-append (stripped price) (stripped size) in
     omega arith
 
-pub m-short : (price size : Number) → Within price → Within size → length (mPiece price size) ≤ maxLength
+m-short : (price size : Number) → Within price → Within size → length (mPiece price size) ≤ maxLength
 unfolding mPiece
 m-short price size p s =
     let a = length-text price p in
     let b = length-text size s in
     let e : length (text price ++ (colon ∷ text size)) ≡ length (text price) + suc (length (text size)) = length-append (text price) (colon ∷ text size) in
     omega arith
+
+pub piece-short : (sumText : SumText) (price size : Number) → Within price → Within size → length (pieceOf sumText price size) ≤ maxLength
+piece-short Stripped = k-short
+piece-short Interleaved = m-short
 
 -- ---- a list mapped, and what holds of each of its elements
 
@@ -295,13 +305,13 @@ k-summed bids asks hb ha =
     (sym (summed-append (take kLevels asks) (take kLevels bids) start)
     ∙ summed-run kPiece (take kLevels asks ++ take kLevels bids) start
     (all-both (Carries kPiece) (take kLevels asks) (take kLevels bids) (all-take (Carries kPiece) kLevels asks ha) (all-take (Carries kPiece) kLevels bids hb))
-    ∙ ap (λ (l : List PriceLevel). run start (joined (map (pieceOf kPiece) l)))
+    ∙ ap (λ (l : List PriceLevel). run start (joined (map (shownPiece kPiece) l)))
     (map-both shown (take kLevels asks) (take kLevels bids) ∙ ap₂ (λ (a b : List PriceLevel). a ++ b) (map-take shown kLevels asks) (map-take shown kLevels bids)))
 
 -- ---- M
 
 -- a colon in front of each piece, and none in front of the text
-colons : (l : PriceLevel) (ls : List PriceLevel) → joined (map (pieceOf mPiece) (l ∷ ls)) ≡ colon ∷ colonJoined (map mLevel (l ∷ ls))
+colons : (l : PriceLevel) (ls : List PriceLevel) → joined (map (shownPiece mPiece) (l ∷ ls)) ≡ colon ∷ colonJoined (map mLevel (l ∷ ls))
 unfolding joined mPiece mLevel colonJoined
 colons l [] = ap (λ (t : List ℕ). colon ∷ t) (append-nil (text (l .price) ++ (colon ∷ text (l .size))))
 colons l (k ∷ ls) = ap (λ (t : List ℕ). colon ∷ ((text (l .price) ++ (colon ∷ text (l .size))) ++ t)) (colons k ls)
@@ -314,7 +324,7 @@ to-start : step beforeColon colon ≡ start
 unfolding step bits bit
 to-start = refl
 
-m-run : (ls : List PriceLevel) → 0 < length ls → run beforeColon (joined (map (pieceOf mPiece) ls)) ≡ run start (colonJoined (map mLevel ls))
+m-run : (ls : List PriceLevel) → 0 < length ls → run beforeColon (joined (map (shownPiece mPiece) ls)) ≡ run start (colonJoined (map mLevel ls))
 unfolding run
 m-run [] h = absurd (not-suc-le-zero h)
 m-run (l ∷ ls) h = ap (run beforeColon) (colons l ls) ∙ ap (λ (s : ℕ). run s (colonJoined (map mLevel (l ∷ ls)))) to-start

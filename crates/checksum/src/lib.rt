@@ -1,11 +1,11 @@
 // The checksum of a book, from the sums that its levels carry.
 //
 // A level carries the CRC and the length of its own piece of checksum text, made once, when the level is made
-// (`k_level`, `m_level`). The book's checksum is put together from them, so an update costs no digit of a level that it
+// (`level_of`). The book's checksum is put together from them, so an update costs no digit of a level that it
 // does not touch. A side is lent as its words and the number of its levels, and is not copied. The table is one that
 // `crc32::fill_table` filled; one of no entries will do, and is slower.
 //
-//     let level = checksum::k_level(price, size);
+//     let level = checksum::level_of(SumText::Stripped, price, size);
 //     checksum::k_checksum(&bids.words, bids.count, &asks.words, asks.count, table)  // of the ten best asks, then the ten best bids
 ghost use mathlib.Core.Path.{_≡_};
 ghost use mathlib.Core.List.{map};
@@ -14,7 +14,7 @@ ghost use lib.ListN.{length, take, drop};
 ghost use Rattle.decimal.specs.Decimal.{number};
 ghost use Rattle.decimal.specs.Limits.{Within};
 ghost use Rattle.crc32.specs.Table.{ShiftTable};
-ghost use Rattle.piece.specs.Piece.{kPiece, mPiece};
+ghost use Rattle.piece.specs.Piece.{kPiece, mPiece, SumsTo};
 ghost use Rattle.edit.specs.declared.Side.the-variants.{Bids, Asks};
 ghost use Rattle.level.specs.Words.{shown};
 ghost use Rattle.level.specs.Ranked.{All};
@@ -22,10 +22,12 @@ ghost use Rattle.level.specs.Words.{levelsIn};
 ghost use Rattle.level.specs.Kept.{keptIn, maxLevels, maxWords, held, Good};
 ghost use Rattle.checksum.specs.Text.{interleaved};
 ghost use Rattle.checksum.specs.Sums.{kChecksum, mChecksum};
-ghost use Rattle.checksum.specs.Carried.{Carries, Made, summed};
+ghost use Rattle.checksum.specs.Carried.{pieceOf, levelFor, Carries, summed};
 use decimal::Decimal;
 use level::Level;
 use level::MAX_WORDS;
+use piece::Piece;
+use settings::SumText;
 
 // How many levels a side K sums.
 const K_LEVELS: usize = 10;
@@ -33,22 +35,23 @@ const K_LEVELS: usize = 10;
 // The state that a colon turns into the start: every piece of M begins with a colon, and the text does not.
 const M_START: u32 = 4036333539;
 
-// A level of a K book.
-pub fn k_level(price: Decimal, size: Decimal) -> Level
+// The level of a price and a size, with the sum and the length of its piece of that text.
+pub fn level_of(text: SumText, price: Decimal, size: Decimal) -> Level
     requires { ⌜ Within (number price) × Within (number size) ⌝ }
-    ensures { λ r. ⌜ Made kPiece price size r ⌝ }
+    ensures { λ r. ⌜ r ≡ levelFor text (number price) (number size) ⌝ }
 {
-    let piece = piece::k_piece(price, size);
+    let piece = piece_of(text, price, size);
     level::make(price, size, piece.sum, piece.length)
 }
 
-// A level of an M book.
-pub fn m_level(price: Decimal, size: Decimal) -> Level
+fn piece_of(text: SumText, price: Decimal, size: Decimal) -> Piece
     requires { ⌜ Within (number price) × Within (number size) ⌝ }
-    ensures { λ r. ⌜ Made mPiece price size r ⌝ }
+    ensures { λ r. ⌜ SumsTo (pieceOf text (number price) (number size)) r ⌝ }
 {
-    let piece = piece::m_piece(price, size);
-    level::make(price, size, piece.sum, piece.length)
+    match text {
+        SumText::Stripped => piece::k_piece(price, size),
+        SumText::Interleaved => piece::m_piece(price, size),
+    }
 }
 
 // The checksum of a K book.

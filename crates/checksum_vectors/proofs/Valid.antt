@@ -1,114 +1,77 @@
--- Levels that were read, entries that were stored, and sides that entries were applied to. Assumes nothing.
+-- Entries that were put into a buffer, and sides that entries were applied to. Assumes nothing.
 use Prim.Native.Nat.{ℕ, suc, _+_, _≤_, _<_}
-use mathlib.Core.Path.{_≡_, refl, sym, ap, _∙_, subst}
-use mathlib.Core.Bool.{Bool, true, false}
+use mathlib.Core.Path.{_≡_, sym, ap, _∙_, subst}
+use mathlib.Core.Bool.{Bool, true, false, cond}
 use mathlib.Core.List.{List, [], _∷_, _++_}
 use native.Mathlib.Omega.{arith}
 use native.Mathlib.Numerals.{add-one}
-use lib.ListN.{length, take, set, length-append, length-set}
+use lib.ListN.{length, take, set}
 use lib.Seq.{take-suc-set, length-take-le}
-use Rattle.decimal.specs.Decimal.{Number, number, isZero}
-use Rattle.decimal.specs.Limits.{Within}
-use Rattle.decimal.specs.declared.Decimal.{Decimal}
-use Rattle.edit.specs.Edit.{PriceLevel}
-use Rattle.level.specs.Words.{levelPrice, levelSize, shown}
-use Rattle.edit.specs.Edit.{Edit, sets, removes}
-use Rattle.level.specs.Ranked.{All, IfSet, named}
-use Rattle.level.specs.Words.{Holds, editOf, entriesOf}
-use Rattle.level.specs.Kept.{keptIn, Good, held}
-use Rattle.side.specs.Applying.{Given, AfterEntries}
+use Rattle.edit.specs.Edit.{Numbers, isSame, forSide, sideOf}
+use Rattle.edit.specs.Buffer.{entryOf, entriesIn, Put}
 use Rattle.edit.specs.declared.Side.{Side}
-use Rattle.level.specs.declared.Level.{Level}
+use Rattle.edit.proofs.Threes.{threes-length}
+use Rattle.settings.specs.declared.SumText.{SumText}
+use Rattle.level.specs.Words.{levelPrice}
+use Rattle.level.specs.Ranked.{All}
+use Rattle.level.specs.Kept.{keptIn, held}
 use Rattle.level.specs.declared.Levels.{Levels}
-use Rattle.level.specs.declared.words.LevelWords.{LevelWords}
-use Rattle.side.specs.declared.Applied.{Applied}
 use Rattle.level.proofs.All.{all-append}
 use Rattle.level.proofs.Ranking.{all-afterMessage}
-use Rattle.level.proofs.Packing.{edit-held, edit-set, edit-removal, entries-snoc}
-use Rattle.checksum.specs.Carried.{Carries, Made}
-use Rattle.checksum_vectors.specs.Book.{pieceFor, ValidSide, ValidLevel, Stored}
+use Rattle.checksum.specs.Carried.{pieceOf, Carries}
+use Rattle.side.specs.Applying.{EntryWithin, Given, changesFor, AfterEntries}
+use Rattle.side.specs.declared.Applied.{Applied}
+use Rattle.side.proofs.Changes.{changes-carried}
+use Rattle.checksum_vectors.specs.Book.{ValidSide, Filled}
 
-pub made-fine : (m : Bool) (price size : Decimal) {level : Level} → Within (number price) → Made (pieceFor m) price size level → ValidLevel m level
-unfolding shown
-made-fine m price size w h = record { within = subst Within (sym (ap (λ (l : PriceLevel). l .price) (h .shows))) w; carried = h .carries }
-
-pub none-carried : (m : Bool) (levels : Levels) → held levels ≡ [] → All (Carries (pieceFor m)) (held levels)
+pub none-carried : (text : SumText) (levels : Levels) → held levels ≡ [] → All (Carries (pieceOf text)) (held levels)
 unfolding All
-none-carried m levels e = subst (All (Carries (pieceFor m))) (sym e) tt
+none-carried text levels e = subst (All (Carries (pieceOf text))) (sym e) tt
 
 -- a side that entries were applied to is as fine as it was
-pub applied-fine : (m : Bool) (side : Side) (depth : ℕ) (entries : List (Edit Level)) (levels : Levels) {words : List ℕ} {applied : Applied} →
-    ValidSide m side levels → All (IfSet (Carries (pieceFor m))) entries → AfterEntries side depth entries levels words applied → ValidSide m side (keptIn words (applied .left))
-applied-fine m side depth entries levels f c a = record {
+pub applied-fine : (text : SumText) (side : Side) (depth : ℕ) (es : List Numbers) (levels : Levels) {words : List ℕ} {applied : Applied} →
+    ValidSide text side levels → AfterEntries side depth (changesFor text side es) levels words applied → ValidSide text side (keptIn words (applied .left))
+applied-fine text side depth es levels f a = record {
   good = a .good;
-  carried = subst (All (Carries (pieceFor m))) (sym (a .levels)) (all-afterMessage levelPrice (Carries (pieceFor m)) side depth entries (held levels) c (f .carried));
+  carried =
+      subst (All (Carries (pieceOf text))) (sym (a .levels))
+      (all-afterMessage levelPrice (Carries (pieceOf text)) side depth (changesFor text side es) (held levels) (changes-carried text side es) (f .carried));
 }
 
--- ---- one entry more
+-- ---- entries in a buffer
 
--- what holds of the entry that a level's words hold
-Both : Bool → Edit Level → Type 0
-Both m e = Within (named levelPrice e) × IfSet (Carries (pieceFor m)) e
+pub filled-none : (buffer : List ℕ) → length buffer ≡ 600 → Filled buffer 0
+unfolding All
+filled-none buffer h = record { room = h; few = omega arith; within = tt }
 
-level-entry : (m : Bool) (level : Level) (words : LevelWords) → Holds words level → ValidLevel m level → Both m (editOf (words .price) (words .size) (words .rest))
-unfolding Both named IfSet
-level-entry m level words p f = at (isZero (levelSize level)) refl
-  where
-    at : (b : Bool) → isZero (levelSize level) ≡ b → Both m (editOf (words .price) (words .size) (words .rest))
-    at true e = subst (Both m) (sym (edit-held p ∙ edit-removal level e)) (f .within, tt)
-    at false e = subst (Both m) (sym (edit-held p ∙ edit-set level e)) (f .within, f .carried)
+-- one entry more
+pub filled-more : {buffer after : List ℕ} {k : ℕ} {e : Numbers} → k < 100 → Filled buffer k → Put buffer k e after → EntryWithin e → Filled after (k + 1)
+unfolding All entriesIn
+filled-more {buffer} {after} {k} {e} h f p w = record {
+  room = p .room;
+  few = omega arith;
+  within =
+      rw (p .entries, add-one k, take-suc-set (entriesIn buffer) k e (omega (arith, threes-length entryOf 200 buffer (f .room))))
+      (all-append EntryWithin (take k (entriesIn buffer)) (e ∷ []) (f .within) (w, tt));
+}
 
-pub stored-none : (m : Bool) (prices sizes packs : List ℕ) → length prices ≡ 100 → length sizes ≡ 100 → length packs ≡ 100 → Stored m prices sizes packs 0
-unfolding All entriesOf
-stored-none m prices sizes packs p z r = record { prices-long = p; sizes-long = z; packs-long = r; few = omega arith; given = record { few = omega arith; sizes-long = refl; packs-long = refl; within = tt }; carried = tt }
+-- no more are for one side than there are
+cond-fewer : {A : Type 0} (b : Bool) (e : A) (r l : List A) → length r ≤ length l → length (cond b (e ∷ r) r) ≤ suc (length l)
+cond-fewer true e r l h = omega arith
+cond-fewer false e r l h = omega arith
 
-module _ (m : Bool) (prices sizes packs : List ℕ) (k : ℕ) (level : Level) (words : LevelWords) (below : k < 100)
-    (p : Holds words level) (f : ValidLevel m level) (h : Stored m prices sizes packs k) where
-  lp : length prices ≡ 100
-  lp = h .prices-long
+own-fewer : (side : Side) (es : List Numbers) → length (forSide sideOf side es) ≤ length es
+unfolding forSide
+own-fewer side [] = omega arith
+own-fewer side (e ∷ es) = cond-fewer (isSame (e .side) side) e (forSide sideOf side es) es (own-fewer side es)
 
-  lz : length sizes ≡ 100
-  lz = h .sizes-long
-
-  lr : length packs ≡ 100
-  lr = h .packs-long
-
-  front : (xs : List ℕ) (x : ℕ) → length xs ≡ 100 → take (k + 1) (set xs k x) ≡ take k xs ++ (x ∷ [])
-  front xs x l = ap (λ (n : ℕ). take n (set xs k x)) (add-one k) ∙ take-suc-set xs k x (omega arith)
-
-  long : (xs : List ℕ) → length xs ≡ 100 → length (take k xs) ≡ k
-  long xs l = length-take-le k xs (omega arith)
-
-  more : entriesOf (take (k + 1) (set prices k (words .price))) (take (k + 1) (set sizes k (words .size))) (take (k + 1) (set packs k (words .rest)))
-      ≡ entriesOf (take k prices) (take k sizes) (take k packs) ++ (editOf (words .price) (words .size) (words .rest) ∷ [])
-  more =
-      ap (λ (x : List ℕ). entriesOf x (take (k + 1) (set sizes k (words .size))) (take (k + 1) (set packs k (words .rest)))) (front prices (words .price) lp)
-      ∙ ap (λ (x : List ℕ). entriesOf (take k prices ++ (words .price ∷ [])) x (take (k + 1) (set packs k (words .rest)))) (front sizes (words .size) lz)
-      ∙ ap (entriesOf (take k prices ++ (words .price ∷ [])) (take k sizes ++ (words .size ∷ []))) (front packs (words .rest) lr)
-      ∙ entries-snoc (take k prices) (take k sizes) (take k packs) (words .price) (words .size) (words .rest) (long sizes lz ∙ sym (long prices lp)) (long packs lr ∙ sym (long prices lp))
-
-  each : (P : Edit Level → Type 0) → P (editOf (words .price) (words .size) (words .rest)) → All P (entriesOf (take k prices) (take k sizes) (take k packs)) →
-      All P (entriesOf (take (k + 1) (set prices k (words .price))) (take (k + 1) (set sizes k (words .size))) (take (k + 1) (set packs k (words .rest))))
-  unfolding All
-  each P a l = subst (All P) (sym more) (all-append P (entriesOf (take k prices) (take k sizes) (take k packs)) (editOf (words .price) (words .size) (words .rest) ∷ []) l (a, tt))
-
-  grown : (xs : List ℕ) (x : ℕ) → length xs ≡ 100 → length (take (k + 1) (set xs k x)) ≡ k + 1
-  grown xs x l = let e : length (set xs k x) ≡ length xs = length-set xs k x in length-take-le (k + 1) (set xs k x) (omega arith)
-
-  pub stored-more : Stored m (set prices k (words .price)) (set sizes k (words .size)) (set packs k (words .rest)) (k + 1)
-  unfolding Both
-  stored-more =
-      let b : Both m (editOf (words .price) (words .size) (words .rest)) = level-entry m level words p f in
-      record {
-        prices-long = length-set prices k (words .price) ∙ lp;
-        sizes-long = length-set sizes k (words .size) ∙ lz;
-        packs-long = length-set packs k (words .rest) ∙ lr;
-        few = omega arith;
-        given = record {
-          few = let e = grown prices (words .price) lp in omega arith;
-          sizes-long = grown sizes (words .size) lz ∙ sym (grown prices (words .price) lp);
-          packs-long = grown packs (words .rest) lr ∙ sym (grown prices (words .price) lp);
-          within = each (λ e. Within (named levelPrice e)) (b .0) (h .given .within);
-        };
-        carried = each (IfSet (Carries (pieceFor m))) (b .1) (h .carried);
-      }
+pub filled-given : (side : Side) {buffer : List ℕ} {k : ℕ} → Filled buffer k → Given side buffer k
+unfolding entriesIn
+filled-given side {buffer} {k} f = record {
+  room = f .room;
+  few = omega (arith, f .few);
+  within = f .within;
+  own =
+      let n = threes-length entryOf 200 buffer (f .room) in
+      omega (arith, f .few, own-fewer side (take k (entriesIn buffer)), length-take-le k (entriesIn buffer) (omega (arith, f .few)));
+}

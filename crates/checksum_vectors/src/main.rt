@@ -9,32 +9,43 @@ ghost use Prim.Native.Nat.{_≤_};
 ghost use lib.ListN.{length};
 ghost use Rattle.decimal.specs.Decimal.{number};
 ghost use Rattle.decimal.specs.Limits.{Within};
+ghost use Rattle.edit.specs.Buffer.{bufferWords};
 ghost use Rattle.level.specs.Kept.{maxLevels, maxWords};
-ghost use Rattle.checksum.specs.Carried.{Made};
-ghost use Rattle.checksum_vectors.specs.Book.{pieceFor, Valid, ValidSide, Readable, Stored};
+ghost use Rattle.side.specs.Applying.{Given};
+ghost use Rattle.checksum_vectors.specs.Book.{Valid, ValidSide, Readable};
 use decimal::Decimal;
 use decimal::Parsed;
 use decimal::ParsedWhole;
+use edit::BUFFER_WORDS;
 use edit::Side;
 use level::Level;
 use level::Levels;
-use level::MaybeLevel;
 use libc::STDIN_FILENO;
 use libc::STDOUT_FILENO;
 use lines::LINE_END;
 use lines::find;
+use settings::SumText;
 
 const BLANK: u8 = 32;
 
 // A table of twenty rows: some pieces are summed by way of it, and longer ones without it.
 const TABLE: usize = 5120;
 
-// A book: its dialect, K or M, its depth, its sides.
+// The most entries of a line.
+const MAX_ENTRIES: usize = 100;
+
+// A book: the checksum text of its dialect, its depth, its sides.
 struct Book {
-    m: bool,
+    text: SumText,
     depth: usize,
     bids: Levels,
     asks: Levels,
+}
+
+// The numbers of an entry, if they can be read.
+enum MaybeNumbers {
+    Numbers(Decimal, Decimal),
+    Nothing,
 }
 
 fn main() {
@@ -44,7 +55,7 @@ fn main() {
 }
 
 fn run_lines(s: &[u8]) {
-    let mut book = new_book(false, 10);
+    let mut book = new_book(SumText::Stripped, 10);
     let mut at = 0;
     while at < s.len() {
         let end = find(s, at, LINE_END);
@@ -53,13 +64,13 @@ fn run_lines(s: &[u8]) {
     }
 }
 
-fn new_book(m: bool, depth: usize) -> Book
+fn new_book(text: SumText, depth: usize) -> Book
     requires { ⌜ depth ≤ 100 ⌝ }
     ensures { λ r. ⌜ Valid r ⌝ }
 {
     Book {
-        m: m,
-        depth: depth,
+        text,
+        depth,
         bids: level::empty(),
         asks: level::empty(),
     }
@@ -75,10 +86,10 @@ fn run_line(book: Book, s: &[u8]) -> Book
     }
     let kind = s[0];
     if kind == 75 {
-        return start(false, s);
+        return start(SumText::Stripped, s);
     }
     if kind == 77 {
-        return start(true, s);
+        return start(SumText::Interleaved, s);
     }
     if kind == 98 {
         return with_bids(book, s);
@@ -94,7 +105,8 @@ fn with_bids(book: Book, s: &[u8]) -> Book
     requires { ⌜ Valid book ⌝ }
     ensures { λ r. ⌜ Valid r ⌝ }
 {
-    let bids = run_side(book.bids, Side::Bids, book.m, book.depth, s);
+    let text = book.text;
+    let bids = run_side(book.bids, Side::Bids, text, book.depth, s);
     let mut after = book;
     after.bids = bids;
     after
@@ -104,25 +116,25 @@ fn with_asks(book: Book, s: &[u8]) -> Book
     requires { ⌜ Valid book ⌝ }
     ensures { λ r. ⌜ Valid r ⌝ }
 {
-    let asks = run_side(book.asks, Side::Asks, book.m, book.depth, s);
+    let text = book.text;
+    let asks = run_side(book.asks, Side::Asks, text, book.depth, s);
     let mut after = book;
     after.asks = asks;
     after
 }
 
 // A new book of the depth that a line gives, or 10 where it gives none up to 100.
-fn start(m: bool, s: &[u8]) -> Book
+fn start(text: SumText, s: &[u8]) -> Book
     ensures { λ r. ⌜ Valid r ⌝ }
 {
     let depth = read_depth(s);
-    if m {
-        say(b"M ");
-    } else {
-        say(b"K ");
+    match text {
+        SumText::Stripped => say(b"K "),
+        SumText::Interleaved => say(b"M "),
     }
     say_number(depth as u64);
     say(b"\n");
-    new_book(m, depth)
+    new_book(text, depth)
 }
 
 fn read_depth(s: &[u8]) -> usize
@@ -143,24 +155,14 @@ fn read_depth(s: &[u8]) -> usize
 }
 
 // A side after the entries of a line.
-fn run_side(levels: Levels, side: Side, m: bool, depth: usize, s: &[u8]) -> Levels
-    requires { ⌜ ValidSide m side levels × (depth ≤ 100) ⌝ }
-    ensures { λ r. ⌜ ValidSide m side r ⌝ }
+fn run_side(levels: Levels, side: Side, text: SumText, depth: usize, s: &[u8]) -> Levels
+    requires { ⌜ ValidSide text side levels × (depth ≤ 100) ⌝ }
+    ensures { λ r. ⌜ ValidSide text side r ⌝ }
 {
-    let mut prices = [0u64; 100];
-    let mut sizes = [0u64; 100];
-    let mut packs = [0u64; 100];
-    let n = read_entries(s, m, &mut prices, &mut sizes, &mut packs);
+    let mut buffer = [0u64; BUFFER_WORDS];
+    let n = read_entries(s, side, &mut buffer);
     let mut words = levels.words;
-    let applied = side::apply(
-        &mut words,
-        levels.count,
-        side,
-        depth,
-        &prices[..n],
-        &sizes[..n],
-        &packs[..n],
-    );
+    let applied = side::apply(&mut words, levels.count, side, depth, text, &buffer, n);
     say_number(applied.count as u64);
     if applied.replaced {
         say(b" 1\n");
@@ -173,20 +175,14 @@ fn run_side(levels: Levels, side: Side, m: bool, depth: usize, s: &[u8]) -> Leve
     }
 }
 
-// The entries of a line as words, as many as stand there and can be read.
-fn read_entries(
-    s: &[u8],
-    m: bool,
-    prices: &mut [u64; 100],
-    sizes: &mut [u64; 100],
-    packs: &mut [u64; 100],
-) -> usize
-    requires { ⌜ (length (now prices) ≡ 100) × (length (now sizes) ≡ 100) × (length (now packs) ≡ 100) ⌝ }
-    ensures { λ r. ⌜ Stored m (now (prices .exit)) (now (sizes .exit)) (now (packs .exit)) r ⌝ }
+// The entries of a line put into a buffer, as many as stand there and can be read.
+fn read_entries(s: &[u8], side: Side, buffer: &mut [u64; BUFFER_WORDS]) -> usize
+    requires { ⌜ length (now buffer) ≡ bufferWords ⌝ }
+    ensures { λ r. ⌜ Given side (now (buffer .exit)) r ⌝ }
 {
     let mut at = 1;
     let mut k = 0;
-    while k < 100 {
+    while k < MAX_ENTRIES {
         if s.len() <= at {
             return k;
         }
@@ -197,16 +193,13 @@ fn read_entries(
         }
         let size_from = price_end + 1;
         let size_end = find(s, size_from, BLANK);
-        match read_level(&s[price_from..price_end], &s[size_from..size_end], m) {
-            MaybeLevel::At(level) => {
-                let words = level::words_of(level);
-                prices[k] = words.price;
-                sizes[k] = words.size;
-                packs[k] = words.rest;
+        match read_numbers(&s[price_from..price_end], &s[size_from..size_end]) {
+            MaybeNumbers::Numbers(price, size) => {
+                edit::put(buffer, k, side, price, size);
                 k += 1;
                 at = size_end;
             }
-            MaybeLevel::Nothing => {
+            MaybeNumbers::Nothing => {
                 return k;
             }
         }
@@ -214,33 +207,23 @@ fn read_entries(
     k
 }
 
-fn read_level(price: &[u8], size: &[u8], m: bool) -> MaybeLevel
-    ensures { λ r. ⌜ Readable m r ⌝ }
+fn read_numbers(price: &[u8], size: &[u8]) -> MaybeNumbers
+    ensures { λ r. ⌜ Readable r ⌝ }
 {
     match decimal::parse(price) {
-        Parsed::Number(p) => read_size(p, size, m),
-        Parsed::Refused => MaybeLevel::Nothing,
+        Parsed::Number(p) => read_size(p, size),
+        Parsed::Refused => MaybeNumbers::Nothing,
     }
 }
 
-fn read_size(price: Decimal, size: &[u8], m: bool) -> MaybeLevel
+fn read_size(price: Decimal, size: &[u8]) -> MaybeNumbers
     requires { ⌜ Within (number price) ⌝ }
-    ensures { λ r. ⌜ Readable m r ⌝ }
+    ensures { λ r. ⌜ Readable r ⌝ }
 {
     match decimal::parse(size) {
-        Parsed::Number(z) => MaybeLevel::At(make(price, z, m)),
-        Parsed::Refused => MaybeLevel::Nothing,
+        Parsed::Number(z) => MaybeNumbers::Numbers(price, z),
+        Parsed::Refused => MaybeNumbers::Nothing,
     }
-}
-
-fn make(price: Decimal, size: Decimal, m: bool) -> Level
-    requires { ⌜ Within (number price) × Within (number size) ⌝ }
-    ensures { λ r. ⌜ Made (pieceFor m) price size r ⌝ }
-{
-    if m {
-        return checksum::m_level(price, size);
-    }
-    checksum::k_level(price, size)
 }
 
 fn show(book: Book)
@@ -262,10 +245,23 @@ fn sum_of(book: Book) -> u32
     let asks = book.asks;
     let mut table = [0; TABLE];
     crc32::fill_table(&mut table);
-    if book.m {
-        return checksum::m_checksum(&bids.words, bids.count, &asks.words, asks.count, &table);
+    let text = book.text;
+    match text {
+        SumText::Stripped => checksum::k_checksum(
+            &bids.words,
+            bids.count,
+            &asks.words,
+            asks.count,
+            &table,
+        ),
+        SumText::Interleaved => checksum::m_checksum(
+            &bids.words,
+            bids.count,
+            &asks.words,
+            asks.count,
+            &table,
+        ),
     }
-    checksum::k_checksum(&bids.words, bids.count, &asks.words, asks.count, &table)
 }
 
 fn show_levels(levels: Levels)

@@ -1,10 +1,11 @@
--- Laws of the definitions: the order of prices; what holds of all; ranking and applying; levels seen in another way; prices met; the words.
+-- Laws of the definitions: the order of prices; what holds of all; ranking and applying; levels seen in another way; prices met; what an entry does; the words.
 pub mod Order
 pub mod All
 pub mod Ranking
 pub mod Lengths
 pub mod Mapping
 pub mod Meeting
+pub mod Changes
 pub mod Packing
 pub mod Stored
 pub mod Held

@@ -1,21 +1,17 @@
--- The words that a side is kept in and that entries are handed over in: a word each for the price's digits, the size's digits and the rest. An
--- entry's size of zero removes. What is above this crate knows a level by its price, size, sum and length alone.
--- Assumes nothing: these are definitions.
+-- A level of the code, the words that it is kept in (one each for the price's digits, the size's digits and the rest), and an entry of the code. What is
+-- above this crate knows a level by its price, size, sum and length alone. Assumes nothing: these are definitions.
 use Prim.Native.Nat.{ℕ, _+_, _*_, _/_, _%_, _^_, _<_}
 use mathlib.Core.Path.{_≡_}
 use mathlib.Core.Bool.{Bool, true, false, cond}
 use mathlib.Core.List.{List, [], _∷_}
 use lib.ListN.{drop}
 use Rattle.decimal.specs.Decimal.{Number, number, isZero}
-use Rattle.edit.specs.declared.Side.{Side}
 use Rattle.edit.specs.Buffer.{byThrees}
 use Rattle.level.specs.declared.Level.{Level}
-use Rattle.level.specs.declared.words.LevelWords.{LevelWords}
 use Rattle.level.specs.declared.Change.{Change}
 use Rattle.level.specs.declared.Change.the-variants.{Set, Remove}
 use Rattle.level.specs.declared.Entry.{Entry}
-use Rattle.edit.specs.Edit.{PriceLevel}
-use Rattle.edit.specs.Edit.{Edit, sets, removes}
+use Rattle.edit.specs.Edit.{PriceLevel, Edit, sets, removes, Numbers}
 
 -- The price and the size that a level of the code has.
 unfoldable pub levelPrice : Level → Number
@@ -36,11 +32,19 @@ abbrev pub maxLength : ℕ
 maxLength = 255
 
 -- The level of a price and a size, and of the sum and the length of its piece.
-pub record MadeOf (price size : Number) (sum length : ℕ) (level : Level) : Type 0 where
-  pub price-is : levelPrice level ≡ price
-  pub size-is : levelSize level ≡ size
-  pub sum-is : levelSum level ≡ sum
-  pub length-is : levelLength level ≡ length
+unfoldable pub levelMade : Number → Number → ℕ → ℕ → Level
+levelMade price size sum length = record {
+  price = price .digits;
+  size = size .digits;
+  sum = sum;
+  length = length;
+  «price_decimals» = price .decimals;
+  «size_decimals» = size .decimals;
+}
+
+-- The level without a sum.
+abbrev pub levelPlain : Number → Number → Level
+levelPlain price size = levelMade price size 0 0
 
 -- What a level of the code shows. Its sum and length are those of its piece of checksum text, and are not shown.
 unfoldable pub shown : Level → PriceLevel
@@ -73,10 +77,6 @@ levelOf price size rest = record {
   «size_decimals» = rest / 2 ^ 56 % 2 ^ 8;
 }
 
--- Words that hold a level.
-pub record Holds (words : LevelWords) (level : Level) : Type 0 where
-  pub same : levelOf (words .price) (words .size) (words .rest) ≡ level
-
 -- How many words a level takes.
 abbrev pub levelWords : ℕ
 levelWords = 3
@@ -98,21 +98,11 @@ unfoldable pub edit : Change → Edit Level
 edit (Set level) = sets level
 edit (Remove price) = removes (number price)
 
--- What an entry of a level's price and size says: a size of zero removes the price.
-unfoldable pub editFor : Level → Edit Level
-editFor level = cond (isZero (levelSize level)) (removes (levelPrice level)) (sets level)
+-- What the numbers of an entry do to a side of levels that `level` makes of a price and a size: a size of zero removes the price, any other sets a level.
+unfoldable pub changeOf : {A : Type 0} → (Number → Number → A) → Numbers → Edit A
+changeOf level e = cond (isZero (e .size)) (removes (e .price)) (sets (level (e .price) (e .size)))
 
--- What three words say, and the code's entry that says it.
-unfoldable pub editOf : ℕ → ℕ → ℕ → Edit Level
-editOf price size rest = editFor (levelOf price size rest)
-
-pub record EntryOf (side : Side) (price size rest : ℕ) (entry : Entry) : Type 0 where
-  pub for-side : entry .side ≡ side
-  pub says : edit (entry .change) ≡ editOf price size rest
-
--- The entries that three lists of words hold, one at each place.
-unfoldable pub entriesOf : List ℕ → List ℕ → List ℕ → List (Edit Level)
-entriesOf (price ∷ prices) (size ∷ sizes) (rest ∷ packs) = editOf price size rest ∷ entriesOf prices sizes packs
-entriesOf [] sizes packs = []
-entriesOf (price ∷ prices) [] packs = []
-entriesOf (price ∷ prices) (size ∷ sizes) [] = []
+-- The code's entry of a side, a price and a size: its level has no sum yet.
+pub record EntryOf (e : Numbers) (entry : Entry) : Type 0 where
+  pub for-side : entry .side ≡ e .side
+  pub says : edit (entry .change) ≡ changeOf levelPlain e

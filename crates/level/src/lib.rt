@@ -9,20 +9,17 @@ mod words;
 
 ghost use mathlib.Core.Path.{_≡_};
 ghost use Prim.Native.Nat.{_≤_};
-ghost use Rattle.decimal.specs.Decimal.{number, isZero};
+ghost use Rattle.decimal.specs.Decimal.{number};
 ghost use Rattle.decimal.specs.Limits.{Within};
 ghost use Rattle.level.specs.Ranked.{named};
 ghost use Rattle.level.specs.Order.{aheadOf, equalOf};
-ghost use Rattle.level.specs.Words.{maxLength, levelPrice, levelSize, levelSum, levelLength, MadeOf, edit};
+ghost use Rattle.level.specs.Words.{maxLength, levelMade, levelPrice, levelSize, levelSum, levelLength, edit, EntryOf};
 ghost use Rattle.level.specs.Kept.{maxLevels, held, levelAt, Empty};
 use decimal::Decimal;
 use decimal::Order;
 use edit::Side;
-pub use words::LevelWords;
-pub use words::entry_at;
 pub use words::level_in;
 pub use words::put_level;
-pub use words::words_of;
 
 // How many levels a side keeps.
 pub const MAX_LEVELS: usize = 100;
@@ -101,7 +98,7 @@ pub fn level_at(kept: Levels, i: usize) -> MaybeLevel
 // The level of a price and a size, with the sum and the length of its piece of checksum text.
 pub fn make(price: Decimal, size: Decimal, sum: u32, length: u64) -> Level
     requires { ⌜ Within (number price) × Within (number size) × (length ≤ maxLength) ⌝ }
-    ensures { λ r. ⌜ MadeOf (number price) (number size) sum length r ⌝ }
+    ensures { λ r. ⌜ r ≡ levelMade (number price) (number size) sum length ⌝ }
 {
     Level {
         price: decimal::digits_of(price),
@@ -137,11 +134,21 @@ pub fn length_of(level: Level) -> u16
     level.length
 }
 
-// A size of zero removes.
-fn removes(level: Level) -> bool
-    ensures { λ r. ⌜ r ≡ isZero (levelSize level) ⌝ }
+// The entry of a side, a price and a size: a size of zero removes the price. A level that it sets has no sum yet.
+pub fn entry_of(side: Side, price: Decimal, size: Decimal) -> Entry
+    requires { ⌜ Within (number price) × Within (number size) ⌝ }
+    ensures { λ r. ⌜ EntryOf (record { side = side; price = number price; size = number size }) r ⌝ }
 {
-    level.size == 0
+    if decimal::is_zero(size) {
+        return Entry {
+            side,
+            change: Change::Remove(price),
+        };
+    }
+    Entry {
+        side,
+        change: Change::Set(make(price, size, 0, 0)),
+    }
 }
 
 // The price that a change names.

@@ -1,18 +1,12 @@
-// Levels and entries as words: the price's digits, the size's digits, and one word for the rest of a level. An entry's size of zero
-// removes.
+// Levels as words: the price's digits, the size's digits, and one word for the rest of a level.
 ghost use mathlib.Core.Path.{_≡_};
 ghost use Prim.Native.Nat.{_<_};
 ghost use lib.ListN.{length, getD};
-ghost use Rattle.level.specs.Words.{Packed, Holds, levelOf, levelsIn, noLevel, EntryOf};
+ghost use Rattle.level.specs.Words.{Packed, levelOf, levelsIn, noLevel};
 ghost use Rattle.level.specs.Kept.{maxLevels, maxWords, PutAt};
-use crate::Change;
-use crate::Entry;
 use crate::LEVEL_WORDS;
 use crate::Level;
 use crate::MAX_WORDS;
-use crate::price_of;
-use crate::removes;
-use edit::Side;
 
 // Where a level's length, price decimals and size decimals begin in the word; its sum begins at 1.
 const LENGTH: u64 = 4_294_967_296;
@@ -20,24 +14,6 @@ const LENGTH: u64 = 4_294_967_296;
 const PRICE_DECIMALS: u64 = 281_474_976_710_656;
 
 const SIZE_DECIMALS: u64 = 72_057_594_037_927_936;
-
-// The words of a level.
-pub struct LevelWords {
-    pub price: u64,
-    pub size: u64,
-    pub rest: u64,
-}
-
-// The words that hold a level.
-pub fn words_of(level: Level) -> LevelWords
-    ensures { λ r. ⌜ Holds r level ⌝ }
-{
-    LevelWords {
-        price: level.price,
-        size: level.size,
-        rest: pack(level),
-    }
-}
 
 // The rest of a level, in one word.
 fn pack(level: Level) -> u64
@@ -82,21 +58,4 @@ pub fn put_level(words: &mut [u64; MAX_WORDS], i: usize, level: Level)
     words[LEVEL_WORDS * i] = level.price;
     words[LEVEL_WORDS * i + 1] = level.size;
     words[LEVEL_WORDS * i + 2] = rest;
-}
-
-// The entry that three words hold.
-pub fn entry_at(side: Side, price: u64, size: u64, rest: u64) -> Entry
-    ensures { λ r. ⌜ EntryOf side price size rest r ⌝ }
-{
-    let level = level_of(price, size, rest);
-    if removes(level) {
-        return Entry {
-            side: side,
-            change: Change::Remove(price_of(level)),
-        };
-    }
-    Entry {
-        side: side,
-        change: Change::Set(level),
-    }
 }

@@ -1,13 +1,14 @@
--- A message's entries on one side: what the loop over them keeps, and what it has shown at the end. Assumes nothing.
+-- A message's entries on one side: what the loop over them keeps, and what it has shown at the end. An entry for the other side changes nothing.
+-- Assumes nothing.
 use Prim.Native.Nat.{ℕ, zero, suc, _+_, _-_, _≤_, _<_}
-use mathlib.Core.Path.{_≡_, refl, sym, ap, _∙_, subst}
+use mathlib.Core.Path.{_≡_, refl, sym, ap, ap₂, _∙_, subst}
 use mathlib.Core.Bool.{Bool, true, false, _||_, or-assoc, or-false, or-true}
 use mathlib.Core.List.{List, [], _∷_, _++_}
 use native.Mathlib.Numerals.{add-one}
 use native.Mathlib.Omega.{arith}
 use borrow.Author.Tests.{eqb-true, eqb-false}
 use lib.Dec.{eqb}
-use lib.ListN.{length, getD, set, take, drop, drop-of-length-le}
+use lib.ListN.{length, getD, set, take, drop, drop-of-length-le, length-map}
 use lib.Seq.{drop-cons, take-suc, take-suc-set, take-take, take-all, length-take-le, getD-take}
 use Rattle.decimal.specs.Decimal.{Number, number, value}
 use Rattle.decimal.specs.Limits.{order, Within}
@@ -16,12 +17,18 @@ use Rattle.decimal.specs.declared.Order.{Order}
 use Rattle.edit.specs.declared.Side.{Side}
 use Rattle.level.specs.declared.Level.{Level}
 use Rattle.level.specs.Words.{levelPrice}
-use Rattle.edit.specs.Edit.{Edit, sets, removes}
+use Rattle.edit.specs.Edit.{Edit, sets, removes, Numbers, isSame, forSide, sideOf}
+use Rattle.edit.specs.Buffer.{entryOf, entriesIn, noNumbers}
+use Rattle.settings.specs.declared.SumText.{SumText}
 use Rattle.level.specs.Side.{nearer, without, applyAll, ranked}
-use Rattle.level.specs.Ranked.{All, standing, afterMessage, named, replaces, replaced, Sorted, IfSet}
+use Rattle.level.specs.Ranked.{All, standing, afterMessage, named, replaces, replaced, Sorted, mapEdit, IfSet}
 use Rattle.level.specs.Order.{aheadOf, equalOf}
-use Rattle.level.specs.Words.{noLevel, editOf, entriesOf}
-use Rattle.side.specs.Applying.{Given}
+use Rattle.level.specs.Words.{noLevel, levelPlain, changeOf}
+use Rattle.checksum.specs.Carried.{levelFor}
+use Rattle.checksum.proofs.Pieces.{level-price}
+use Rattle.side.specs.Applying.{EntryWithin, LevelWithin, withSum, Given, changesFor}
+use Rattle.level.proofs.Changes.{made-price, made-size, change-named, change-holds, change-map}
+use Rattle.edit.proofs.Threes.{threes-length}
 use Rattle.level.proofs.Order.{ahead-is, equal-is}
 use Rattle.level.proofs.All.{all-at}
 use Rattle.level.proofs.Ranking.{all-without, all-place, applyRanked, allRanked, commute-all, sorted-ranked, sorted-entry}
@@ -41,108 +48,154 @@ sound-entry side (sets level) s p a =
     all-place levelPrice Sound side level (without levelPrice (value (levelPrice level)) s) p (all-without levelPrice Sound (value (levelPrice level)) s a)
 sound-entry side (removes p) s t a = all-without levelPrice Sound (value p) s a
 
--- the k-th entry
-abbrev pub theEdit : List ℕ → List ℕ → List ℕ → ℕ → Edit Level
-theEdit prices sizes packs k = editOf (getD prices k 0) (getD sizes k 0) (getD packs k 0)
+-- ---- the entries of a buffer
+
+pub given-length : {side : Side} {buffer : List ℕ} {count : ℕ} → Given side buffer count → length (take count (entriesIn buffer)) ≡ count
+unfolding entriesIn
+given-length {side} {buffer} {count} g = length-take-le count (entriesIn buffer) (omega (arith, g .few, threes-length entryOf 200 buffer (g .room)))
+
+-- ---- what entries do to a side, one after the other
+
+-- what an entry does
+abbrev pub does : SumText → Numbers → Edit Level
+does text e = changeOf (levelFor text) e
+
+pub does-named : (text : SumText) (e : Numbers) → named levelPrice (does text e) ≡ e .price
+does-named text e = change-named (levelFor text) e levelPrice (level-price text (e .price) (e .size))
+
+-- the code's entry does so, once its level has its sum
+pub summed-does : (text : SumText) (e : Numbers) → mapEdit (withSum text) (changeOf levelPlain e) ≡ does text e
+summed-does text e =
+    change-map levelPlain (withSum text) (levelFor text) e
+    (ap₂ (levelFor text) (made-price (e .price) (e .size) 0 0) (made-size (e .price) (e .size) 0 0))
+
+pub plain-within : (e : Numbers) → EntryWithin e → IfSet LevelWithin (changeOf levelPlain e)
+plain-within e w =
+    change-holds levelPlain e LevelWithin
+    (subst Within (sym (made-price (e .price) (e .size) 0 0)) (w .0), subst Within (sym (made-size (e .price) (e .size) 0 0)) (w .1))
+
+module _ (text : SumText) (side : Side) where
+  changes-none : changesFor text side [] ≡ []
+  unfolding changesFor forSide
+  changes-none = refl
+
+  changes-own : (e : Numbers) (es : List Numbers) → isSame (e .side) side ≡ true → changesFor text side (e ∷ es) ≡ does text e ∷ changesFor text side es
+  unfolding changesFor forSide
+  changes-own e es h = rw h
+
+  changes-other : (e : Numbers) (es : List Numbers) → isSame (e .side) side ≡ false → changesFor text side (e ∷ es) ≡ changesFor text side es
+  unfolding changesFor forSide
+  changes-other e es h = rw h
+
+  length-changes : (es : List Numbers) → length (changesFor text side es) ≡ length (forSide sideOf side es)
+  unfolding changesFor
+  length-changes es = length-map (forSide sideOf side es) (does text)
 
 -- the side s, of n₀ levels, has had k entries, and is now the n levels at the front of a; `seen`: one of them met a level
-pub record Turn (side : Side) (prices sizes packs : List ℕ) (s : List Level) (n₀ : ℕ) (a : List Level) (n : ℕ) (seen : Bool) (k : ℕ) : Type 0 where
+pub record Turn (text : SumText) (side : Side) (es : List Numbers) (s : List Level) (n₀ : ℕ) (a : List Level) (n : ℕ) (seen : Bool) (k : ℕ) : Type 0 where
   pub long : length a ≡ 200
-  pub within : k ≤ length prices
-  pub few : n ≤ n₀ + k
+  pub fits : n ≤ 200
+  pub within : k ≤ length es
+  pub few : n + length (changesFor text side (drop k es)) ≤ n₀ + length (changesFor text side es)
   pub sorted : Sorted levelPrice side (take n a)
   pub sound : All Sound (take n a)
-  pub entries : All SoundEdit (entriesOf (drop k prices) (drop k sizes) (drop k packs))
-  pub rest : allRanked levelPrice side (entriesOf (drop k prices) (drop k sizes) (drop k packs)) (take n a) ≡ allRanked levelPrice side (entriesOf prices sizes packs) s
-  pub meeting : (seen || metRanked levelPrice side (entriesOf (drop k prices) (drop k sizes) (drop k packs)) (take n a)) ≡ metRanked levelPrice side (entriesOf prices sizes packs) s
+  pub rest : allRanked levelPrice side (changesFor text side (drop k es)) (take n a) ≡ allRanked levelPrice side (changesFor text side es) s
+  pub meeting : (seen || metRanked levelPrice side (changesFor text side (drop k es)) (take n a)) ≡ metRanked levelPrice side (changesFor text side es) s
 
-module _ (side : Side) (prices sizes packs : List ℕ) (g : Given prices sizes packs) (s : List Level) (n₀ : ℕ) where
-  pub turn-start : (a : List Level) → length a ≡ 200 → take n₀ a ≡ s → Sorted levelPrice side s → All Sound s → Turn side prices sizes packs s n₀ a n₀ false 0
+module _ (text : SumText) (side : Side) (es : List Numbers) (s : List Level) (n₀ : ℕ) (stood : n₀ ≤ 100) (come : length (forSide sideOf side es) ≤ 100) where
+  pub turn-start : (a : List Level) → length a ≡ 200 → take n₀ a ≡ s → Sorted levelPrice side s → All Sound s → Turn text side es s n₀ a n₀ false 0
   turn-start a l e o t = record {
     long = l;
+    fits = omega arith;
     within = omega arith;
     few = omega arith;
     sorted = rw e o;
     sound = rw e t;
-    entries = g .within;
     rest = rw e;
     meeting = rw e;
   }
 
-  next-entries : (k : ℕ) → k < length prices → entriesOf (drop k prices) (drop k sizes) (drop k packs)
-      ≡ theEdit prices sizes packs k ∷ entriesOf (drop (suc k) prices) (drop (suc k) sizes) (drop (suc k) packs)
-  unfolding entriesOf
-  next-entries k h =
-      rw (drop-cons prices k 0 h, drop-cons sizes k 0 (omega (arith, g .sizes-long)), drop-cons packs k 0 (omega (arith, g .packs-long)))
+  module _ (a : List Level) (n k : ℕ) (seen : Bool) (t : Turn text side es s n₀ a n seen k) (h : k < length es) where
+    -- the k-th entry
+    abbrev pub entry : Numbers
+    entry = getD es k noNumbers
 
-  pub sound-next : (a : List Level) (n k : ℕ) (seen : Bool) → Turn side prices sizes packs s n₀ a n seen k → k < length prices → SoundEdit (theEdit prices sizes packs k)
-  unfolding All
-  sound-next a n k seen t h = (rw (next-entries k h) at (t .entries)) .0
+    next : drop k es ≡ entry ∷ drop (suc k) es
+    next = drop-cons es k noNumbers h
 
-  pub turn-step : (a : List Level) (n k : ℕ) (seen : Bool) → Turn side prices sizes packs s n₀ a n seen k → k < length prices
-      → (c : List Level) (m : ℕ) (now : Bool) → length c ≡ 200 → m ≤ n + 1
-      → take m c ≡ applyRanked levelPrice side (theEdit prices sizes packs k) (take n a)
-      → now ≡ (seen || replaces levelPrice (theEdit prices sizes packs k) (take n a))
-      → Turn side prices sizes packs s n₀ c m now (k + 1)
-  unfolding allRanked metRanked All
-  turn-step a n k seen t h c m now l q e f = record {
-    long = l;
-    within = omega arith;
-    few = omega (arith, t .few);
-    sorted = rw e (sorted-entry levelPrice side (theEdit prices sizes packs k) (take n a) (t .sorted));
-    sound = rw e (sound-entry side (theEdit prices sizes packs k) (take n a) (sound-next a n k seen t h) (t .sound));
-    entries = rw add-one ((rw (next-entries k h) at (t .entries)) .1);
-    rest = rw (add-one, e) (rw (next-entries k h) at (t .rest));
-    meeting = rw (add-one, e, f) (or-assoc seen (replaces levelPrice (theEdit prices sizes packs k) (take n a)) _ ∙ (rw (next-entries k h) at (t .meeting)));
-  }
+    -- ---- it is for the other side
+    pub turn-pass : isSame (entry .side) side ≡ false → Turn text side es s n₀ a n seen (k + 1)
+    turn-pass other =
+        let same : changesFor text side (drop k es) ≡ changesFor text side (drop (suc k) es)
+        = ap (changesFor text side) next ∙ changes-other text side entry (drop (suc k) es) other in
+        record {
+          long = t .long;
+          fits = t .fits;
+          within = omega arith;
+          few = rw (add-one, ← same) (t .few);
+          sorted = t .sorted;
+          sound = t .sound;
+          rest = rw (add-one, ← same) (t .rest);
+          meeting = rw (add-one, ← same) (t .meeting);
+        }
 
-  module _ (a : List Level) (n k : ℕ) (seen : Bool) (t : Turn side prices sizes packs s n₀ a n seen k) (h : length prices ≤ k) (o : Sorted levelPrice side s) where
-    whole : ranked levelPrice side (applyAll levelPrice (entriesOf prices sizes packs) s) ≡ allRanked levelPrice side (entriesOf prices sizes packs) s
-    whole =
-        commute-all levelPrice side (entriesOf prices sizes packs) s
-        ∙ ap (allRanked levelPrice side (entriesOf prices sizes packs)) (sorted-ranked levelPrice side s o)
+    -- ---- it is for this side
+    module _ (own : isSame (entry .side) side ≡ true) where
+      next-own : changesFor text side (drop k es) ≡ does text entry ∷ changesFor text side (drop (suc k) es)
+      next-own = ap (changesFor text side) next ∙ changes-own text side entry (drop (suc k) es) own
 
-    turn-done : take n a ≡ allRanked levelPrice side (entriesOf prices sizes packs) s
-    unfolding allRanked entriesOf
-    turn-done = rw (drop-of-length-le prices h) at (t .rest)
+      -- there is room for one level more
+      pub turn-room : n < 200
+      turn-room = let l = rw next-own at (t .few) in omega (arith, length-changes text side es)
 
-    pub turn-levels : (depth : ℕ) → take depth (take n a) ≡ afterMessage levelPrice side depth (entriesOf prices sizes packs) s
-    unfolding afterMessage
-    turn-levels depth = ap (take depth) (turn-done ∙ sym whole)
+      pub turn-step : Within (entry .price) → (c : List Level) (m : ℕ) (now : Bool) → length c ≡ 200 → m ≤ n + 1
+          → take m c ≡ applyRanked levelPrice side (does text entry) (take n a)
+          → now ≡ (seen || replaces levelPrice (does text entry) (take n a))
+          → Turn text side es s n₀ c m now (k + 1)
+      unfolding allRanked metRanked
+      turn-step w c m now l q e f = record {
+        long = l;
+        fits = omega (arith, turn-room);
+        within = omega arith;
+        few = rw add-one (let f = rw next-own at (t .few) in omega arith);
+        sorted = rw e (sorted-entry levelPrice side (does text entry) (take n a) (t .sorted));
+        sound = rw e (sound-entry side (does text entry) (take n a) (subst Within (sym (does-named text entry)) w) (t .sound));
+        rest = rw (add-one, e) (rw next-own at (t .rest));
+        meeting = rw (add-one, e, f) (or-assoc seen (replaces levelPrice (does text entry) (take n a)) _ ∙ (rw next-own at (t .meeting)));
+      }
 
-    pub turn-count : n ≤ length a → n ≡ length (applyAll levelPrice (entriesOf prices sizes packs) s)
-    turn-count l =
-        sym (length-take-le n a l) ∙ ap length (turn-done ∙ sym whole)
-        ∙ length-ranked levelPrice side (applyAll levelPrice (entriesOf prices sizes packs) s)
+-- after the last entry
+module _ (text : SumText) (side : Side) (es : List Numbers) (s : List Level) (n₀ : ℕ) (a : List Level) (n k : ℕ) (seen : Bool)
+    (t : Turn text side es s n₀ a n seen k) (h : length es ≤ k) (o : Sorted levelPrice side s) where
+  abbrev all : List (Edit Level)
+  all = changesFor text side es
 
-    pub turn-met : seen ≡ replaced levelPrice (entriesOf prices sizes packs) s
-    unfolding metRanked entriesOf
-    turn-met =
-        sym (or-false seen) ∙ (rw (drop-of-length-le prices h) at (t .meeting))
-        ∙ sym (met-ranked levelPrice side (entriesOf prices sizes packs) s ∙ ap (metRanked levelPrice side (entriesOf prices sizes packs)) (sorted-ranked levelPrice side s o))
+  none-left : changesFor text side (drop k es) ≡ []
+  none-left = ap (changesFor text side) (drop-of-length-le es h) ∙ changes-none text side
 
--- ---- no entry at all
+  whole : ranked levelPrice side (applyAll levelPrice all s) ≡ allRanked levelPrice side all s
+  whole =
+      commute-all levelPrice side all s
+      ∙ ap (allRanked levelPrice side all) (sorted-ranked levelPrice side s o)
 
-module _ (side : Side) (prices sizes packs : List ℕ) (s : List Level) (none : length prices ≡ 0) where
-  no-entries : entriesOf prices sizes packs ≡ []
-  unfolding entriesOf
-  no-entries = at prices none
-    where
-      at : (l : List ℕ) → length l ≡ 0 → entriesOf l sizes packs ≡ []
-      at [] e = refl
-      at (x ∷ l) e = absurd (omega arith)
+  turn-done : take n a ≡ allRanked levelPrice side all s
+  unfolding allRanked
+  turn-done = rw none-left at (t .rest)
 
-  pub nothing-levels : (depth : ℕ) → length s ≤ depth → Sorted levelPrice side s → s ≡ afterMessage levelPrice side depth (entriesOf prices sizes packs) s
-  unfolding afterMessage applyAll
-  nothing-levels depth h o = rw no-entries (sym (ap (take depth) (sorted-ranked levelPrice side s o) ∙ take-all depth s h))
+  pub turn-levels : (depth : ℕ) → take depth (take n a) ≡ afterMessage levelPrice side depth all s
+  unfolding afterMessage
+  turn-levels depth = ap (take depth) (turn-done ∙ sym whole)
 
-  pub nothing-count : length s ≡ length (applyAll levelPrice (entriesOf prices sizes packs) s)
-  unfolding applyAll
-  nothing-count = rw no-entries
+  pub turn-count : n ≤ length a → n ≡ length (applyAll levelPrice all s)
+  turn-count l =
+      sym (length-take-le n a l) ∙ ap length (turn-done ∙ sym whole)
+      ∙ length-ranked levelPrice side (applyAll levelPrice all s)
 
-  pub nothing-met : false ≡ replaced levelPrice (entriesOf prices sizes packs) s
-  unfolding replaced
-  nothing-met = rw no-entries
+  pub turn-met : seen ≡ replaced levelPrice all s
+  unfolding metRanked
+  turn-met =
+      sym (or-false seen) ∙ (rw none-left at (t .meeting))
+      ∙ sym (met-ranked levelPrice side all s ∙ ap (metRanked levelPrice side all) (sorted-ranked levelPrice side s o))
 
 -- ---- what a read of the array and the calls on it say of the side
 

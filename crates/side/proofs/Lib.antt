@@ -1,6 +1,7 @@
--- What the loops keep: shifts, the search, and a message's entries. Then what the levels shown are.
+-- What the loops keep: shifts, the search, and a message's entries. Then what entries set, and what the levels shown are.
 pub mod Shift
 pub mod Find
 pub mod Entries
+pub mod Changes
 pub mod Mapped
 pub mod Outcome

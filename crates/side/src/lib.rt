@@ -1,23 +1,31 @@
 // A message's entries applied to one side of an order book, in their written order; then, and never between entries, the side is cut
-// to its best `depth` levels.
+// to its best `depth` levels. The entries lie in a buffer with those for the other side; an entry says which side it is for.
 //
-//     let applied = side::apply(&mut bids, count, Side::Bids, 10, prices, sizes, packs); // each entry a place of the three slices
-//     level::level_at(Levels { words: bids, count: applied.left }, 0)                    // the best bid now
-ghost use Prim.Native.Nat.{_≤_};
-ghost use Rattle.level.specs.Words.{entriesOf};
+//     let applied = side::apply(&mut bids, count, Side::Bids, 10, SumText::Stripped, &buffer, entries);
+//     level::level_at(Levels { words: bids, count: applied.left }, 0)        // the best bid now
+ghost use mathlib.Core.Path.{_≡_};
+ghost use Prim.Native.Nat.{_≤_, _<_};
+ghost use lib.ListN.{length, take, getD};
+ghost use Rattle.edit.specs.Buffer.{maxBuffered, bufferWords, entriesIn, noNumbers};
+ghost use Rattle.level.specs.Ranked.{mapEdit, IfSet};
+ghost use Rattle.level.specs.Words.{edit, EntryOf};
 ghost use Rattle.level.specs.Kept.{maxLevels, keptIn, Good};
-ghost use Rattle.side.specs.Applying.{Given, AfterEntries};
+ghost use Rattle.side.specs.Applying.{EntryWithin, LevelWithin, withSum, Given, changesFor, AfterEntries};
+use edit::BUFFER_WORDS;
 use edit::Side;
+use edit::is_same;
 use level::Change;
 use level::EMPTY;
+use level::Entry;
 use level::MAX_WORDS;
-use level::entry_at;
 use level::is_ahead;
 use level::is_equal;
 use level::level_in;
 use level::price_named;
 use level::price_of;
 use level::put_level;
+use level::size_of;
+use settings::SumText;
 
 // How many levels there is room for while one message is worked: 100 that stood, and 100 entries.
 const MAX_WORKING: usize = 200;
@@ -30,45 +38,21 @@ pub struct Applied {
     pub replaced: bool,
 }
 
-// A side after a message's entries for it: each a place of the three slices, which are as long as each other. The side is the
-// first `kept` levels of the words, and then the first `left` of what is answered; the words past these stay as they are.
+// A side after those of the first `entries` entries of a buffer that are for it. The side is the first `kept` levels of the words,
+// and then the first `left` of what is answered; the words past these stay as they are. All in one function, since it owns the
+// working side: an entry moves the levels that it shifts, and copies no side. The side is loaded; the price of each entry for it is
+// searched for, and its level set or removed there; then the best are kept.
 pub fn apply(
     words: &mut [u64; MAX_WORDS],
     kept: usize,
     side: Side,
     depth: usize,
-    prices: &[u64],
-    sizes: &[u64],
-    packs: &[u64],
+    text: SumText,
+    buffer: &[u64; BUFFER_WORDS],
+    entries: usize,
 ) -> Applied
-    requires { ⌜ Good side (keptIn (now words) kept) × Given (now prices) (now sizes) (now packs) × (depth ≤ maxLevels) ⌝ }
-    ensures { λ r. ⌜ AfterEntries side depth (entriesOf (now (prices .entry)) (now (sizes .entry)) (now (packs .entry))) (keptIn (now (words .entry)) kept) (now (words .exit)) r ⌝ }
-{
-    if prices.len() == 0 {
-        if kept <= depth {
-            return Applied {
-                left: kept,
-                count: kept,
-                replaced: false,
-            };
-        }
-    }
-    work(words, kept, side, depth, prices, sizes, packs)
-}
-
-// All in one function, since it owns the working side: an entry moves the levels that it shifts, and copies no side.
-// The side is loaded; each entry's price is searched for, and its level set or removed there; then the best are kept.
-fn work(
-    words: &mut [u64; MAX_WORDS],
-    kept: usize,
-    side: Side,
-    depth: usize,
-    prices: &[u64],
-    sizes: &[u64],
-    packs: &[u64],
-) -> Applied
-    requires { ⌜ Good side (keptIn (now words) kept) × Given (now prices) (now sizes) (now packs) × (depth ≤ maxLevels) ⌝ }
-    ensures { λ r. ⌜ AfterEntries side depth (entriesOf (now (prices .entry)) (now (sizes .entry)) (now (packs .entry))) (keptIn (now (words .entry)) kept) (now (words .exit)) r ⌝ }
+    requires { ⌜ Good side (keptIn (now words) kept) × Given side (now buffer) entries × (depth ≤ maxLevels) ⌝ }
+    ensures { λ r. ⌜ AfterEntries side depth (changesFor text side (take entries (entriesIn (now (buffer .entry))))) (keptIn (now (words .entry)) kept) (now (words .exit)) r ⌝ }
 {
     let mut levels = [EMPTY; MAX_WORKING];
     let mut count = kept;
@@ -79,10 +63,15 @@ fn work(
     }
     let mut replaced = false;
     let mut k = 0;
-    'entry: while k < prices.len() {
-        let entry = entry_at(side, prices[k], sizes[k], packs[k]);
+    'entry: while k < entries {
+        let entry = entry_at(buffer, k);
         k += 1;
-        let change = entry.change;
+        let own = entry.side;
+        if !is_same(own, side) {
+            continue;
+        }
+        let plain = entry.change;
+        let change = with_sum(text, plain);
         let price = price_named(change);
         // the levels before `low` stand nearer the top than the price, and those from `high` on do not
         let mut low = 0;
@@ -140,5 +129,30 @@ fn work(
         left: left,
         count: count,
         replaced: replaced,
+    }
+}
+
+// The entry at place k of a buffer.
+fn entry_at(buffer: &[u64; BUFFER_WORDS], k: usize) -> Entry
+    requires { ⌜ (k < maxBuffered) × (length (now buffer) ≡ bufferWords) × EntryWithin (getD (entriesIn (now buffer)) k noNumbers) ⌝ }
+    ensures { λ r. ⌜ EntryOf (getD (entriesIn (now (buffer .entry))) k noNumbers) r ⌝ }
+{
+    let numbers = edit::entry_in(buffer, k);
+    let side = numbers.side;
+    level::entry_of(side, numbers.price, numbers.size)
+}
+
+// The change with the sum of the level that it sets.
+fn with_sum(text: SumText, change: Change) -> Change
+    requires { ⌜ IfSet LevelWithin (edit change) ⌝ }
+    ensures { λ r. ⌜ edit r ≡ mapEdit (withSum text) (edit change) ⌝ }
+{
+    match change {
+        Change::Set(level) => Change::Set(checksum::level_of(
+            text,
+            price_of(level),
+            size_of(level),
+        )),
+        Change::Remove(price) => Change::Remove(price),
     }
 }

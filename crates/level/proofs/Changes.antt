@@ -1,0 +1,76 @@
+-- Laws of a level that was made, and of what an entry does: a size of zero removes, in whatever way levels are made. Assumes nothing.
+use Prim.Native.Nat.{ℕ}
+use mathlib.Core.Path.{_≡_, refl, sym, ap, _∙_, subst}
+use mathlib.Core.Bool.{Bool, true, false, cond}
+use Rattle.decimal.specs.Decimal.{Number, isZero}
+use Rattle.edit.specs.Edit.{PriceLevel, Edit, sets, removes, Numbers, editOf}
+use Rattle.level.specs.declared.Level.{Level}
+use Rattle.level.specs.Ranked.{named, mapEdit, IfSet}
+use Rattle.level.specs.Words.{levelMade, levelPrice, levelSize, levelSum, levelLength, shown, changeOf}
+
+-- ---- a level that was made
+
+module _ (price size : Number) (sum length : ℕ) where
+  pub made-price : levelPrice (levelMade price size sum length) ≡ price
+  unfolding levelPrice levelMade
+  made-price = refl
+
+  pub made-size : levelSize (levelMade price size sum length) ≡ size
+  unfolding levelSize levelMade
+  made-size = refl
+
+  pub made-sum : levelSum (levelMade price size sum length) ≡ sum
+  unfolding levelSum levelMade
+  made-sum = refl
+
+  pub made-length : levelLength (levelMade price size sum length) ≡ length
+  unfolding levelLength levelMade
+  made-length = refl
+
+  pub made-shown : shown (levelMade price size sum length) ≡ record { price = price; size = size }
+  unfolding shown levelPrice levelSize levelMade
+  made-shown = refl
+
+-- ---- what an entry does
+
+module _ {A : Type 0} (level : Number → Number → A) (e : Numbers) where
+  pub change-removal : isZero (e .size) ≡ true → changeOf level e ≡ removes (e .price)
+  unfolding changeOf
+  change-removal z = rw z
+
+  pub change-set : isZero (e .size) ≡ false → changeOf level e ≡ sets (level (e .price) (e .size))
+  unfolding changeOf
+  change-set z = rw z
+
+  -- what holds of the removal and of the level holds of the change
+  pub change-each : (P : Edit A → Type 0) → P (removes (e .price)) → P (sets (level (e .price) (e .size))) → P (changeOf level e)
+  unfolding changeOf
+  change-each P a b = at (isZero (e .size))
+    where
+      at : (z : Bool) → P (cond z (removes (e .price)) (sets (level (e .price) (e .size))))
+      at true = a
+      at false = b
+
+  pub change-named : (priceOf : A → Number) → priceOf (level (e .price) (e .size)) ≡ e .price → named priceOf (changeOf level e) ≡ e .price
+  unfolding named
+  change-named priceOf h = change-each (λ x. named priceOf x ≡ e .price) refl h
+
+  pub change-holds : (P : A → Type 0) → P (level (e .price) (e .size)) → IfSet P (changeOf level e)
+  unfolding IfSet
+  change-holds P h = change-each (IfSet P) tt h
+
+-- levels seen in another way
+pub change-map : {A B : Type 0} (level : Number → Number → A) (f : A → B) (other : Number → Number → B) (e : Numbers)
+    → f (level (e .price) (e .size)) ≡ other (e .price) (e .size) → mapEdit f (changeOf level e) ≡ changeOf other e
+unfolding changeOf mapEdit
+change-map {A} {B} level f other e h = at (isZero (e .size))
+  where
+    at : (z : Bool) → mapEdit f (cond z (removes (e .price)) (sets (level (e .price) (e .size)))) ≡ cond z (removes (e .price)) (sets (other (e .price) (e .size)))
+    at true = refl
+    at false = ap sets h
+
+-- as it is shown, an entry does what the definition says
+pub change-shown : (level : Number → Number → Level) (e : Numbers) → shown (level (e .price) (e .size)) ≡ record { price = e .price; size = e .size }
+    → mapEdit shown (changeOf level e) ≡ editOf e
+unfolding editOf changeOf
+change-shown level e h = change-map level shown (λ (price size : Number). record { price = price; size = size }) e h

@@ -1,2 +1,0 @@
--- What the loader makes of an array of entries.
-pub mod Loaded

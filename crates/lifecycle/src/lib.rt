@@ -1,8 +1,8 @@
 // How a book stands from message to message: shut, waiting or live, which messages and questions that refuses, and the count of
 // updates.
 use answer::Answer;
-use edit::BUFFER_WORDS;
 use answer::leaves_state;
+use edit::BUFFER_WORDS;
 use layout::Kind;
 use layout::Outline;
 use layout::is_snapshot;

@@ -6,6 +6,7 @@ pub mod OneMember
 pub mod Objects
 pub mod Holding
 pub mod OnePart
+pub mod Bearing
 pub mod Outlines
 pub mod Counts
 pub mod Tells

@@ -57,9 +57,10 @@ module _ (s : List ℕ) (t : Members) (from : ℕ) (side : Side) (before after :
         few = λ n. let k = h .few n in omega arith;
         added = record {
           room = h .room;
-          kept = λ e v x w k.
-              (subst (Tells s (andAlso x (sidedAt side Triple 14 s (record { from = from; to = e })))) (sym (told-end e v .1)) (tells-more s x (t .tally) side Triple 14 (record { from = from; to = e }) w),
-              kept-more s x (t .tally) side Triple 14 from before after g w k h e v);
+          kept = λ e v x w k. (
+            subst (Tells s (andAlso x (sidedAt side Triple 14 s (record { from = from; to = e })))) (sym (told-end e v .1)) (tells-more s x (t .tally) side Triple 14 (record { from = from; to = e }) w),
+            kept-more s x (t .tally) side Triple 14 from before after g w k h e v,
+          );
         };
       }
 

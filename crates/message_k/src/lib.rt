@@ -108,7 +108,13 @@ struct Parts {
 }
 
 // The message at `at`, to a K book of that depth and name. Its entries go into the buffer.
-pub fn k_message(s: &[u8], at: usize, depth: usize, name: &[u8], buffer: &mut [u64; BUFFER_WORDS]) -> Scan
+pub fn k_message(
+    s: &[u8],
+    at: usize,
+    depth: usize,
+    name: &[u8],
+    buffer: &mut [u64; BUFFER_WORDS],
+) -> Scan
     requires { ⌜ (10 ≤ depth) × (depth ≤ 100) × (length (now buffer) ≡ bufferWords) ⌝ }
     ensures { λ r. ⌜ Scanned (envelopeK depth (now (name .entry))) (now (s .entry)) at (now (buffer .exit)) r ⌝ }
 {
@@ -320,7 +326,15 @@ fn with_entries(
     requires { ⌜ (met (members .tally) ≤ from) × (length (now buffer) ≡ bufferWords) ⌝ }
     ensures { λ r. ⌜ EntriesRead (now (s .entry)) members from side (now (buffer .entry)) (now (buffer .exit)) r ⌝ }
 {
-    let read = entries_at(s, from, SIDE_DEPTH, Form::Triple, side, members.tally, buffer);
+    let read = entries_at(
+        s,
+        from,
+        SIDE_DEPTH,
+        Form::Triple,
+        side,
+        members.tally,
+        buffer,
+    );
     let checksum = members.checksum;
     let tally = read.tally;
     Members {
@@ -495,11 +509,7 @@ fn is_update(each: bool, before: Members, all: Members) -> bool
     if all.snapshot_asks != 0 {
         return false;
     }
-    if all.snapshot_bids == 0 {
-        true
-    } else {
-        false
-    }
+    if all.snapshot_bids == 0 { true } else { false }
 }
 
 // The layout of a message whose objects are a snapshot's, an update's or neither.

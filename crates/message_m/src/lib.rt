@@ -365,7 +365,15 @@ fn more_data(
     ensures { λ r. ⌜ MoreData (now (s .entry)) met (memberAt sideDepth (now (s .entry)) first past from) (now (buffer .entry)) (now (buffer .exit)) r ⌝ }
 {
     if is_name(s, first, past, b"bids") {
-        let read = entries_at(s, from, SIDE_DEPTH, Form::Pair, Side::Bids, met.tally, buffer);
+        let read = entries_at(
+            s,
+            from,
+            SIDE_DEPTH,
+            Form::Pair,
+            Side::Bids,
+            met.tally,
+            buffer,
+        );
         let tally = read.tally;
         return Data {
             end: read.end,
@@ -375,7 +383,15 @@ fn more_data(
         };
     }
     if is_name(s, first, past, b"asks") {
-        let read = entries_at(s, from, SIDE_DEPTH, Form::Pair, Side::Asks, met.tally, buffer);
+        let read = entries_at(
+            s,
+            from,
+            SIDE_DEPTH,
+            Form::Pair,
+            Side::Asks,
+            met.tally,
+            buffer,
+        );
         let tally = read.tally;
         return Data {
             end: read.end,

@@ -1,11 +1,11 @@
 -- Entries that were put into a buffer, and sides that entries were applied to. Assumes nothing.
 use Prim.Native.Nat.{ℕ, suc, _+_, _≤_, _<_}
-use mathlib.Core.Path.{_≡_, sym, ap, _∙_, subst}
+use mathlib.Core.Path.{_≡_, sym, subst}
 use mathlib.Core.Bool.{Bool, true, false, cond}
-use mathlib.Core.List.{List, [], _∷_, _++_}
+use mathlib.Core.List.{List, [], _∷_}
 use native.Mathlib.Omega.{arith}
 use native.Mathlib.Numerals.{add-one}
-use lib.ListN.{length, take, set}
+use lib.ListN.{length, take}
 use lib.Seq.{take-suc-set, length-take-le}
 use Rattle.edit.specs.Edit.{Numbers, isSame, forSide, sideOf}
 use Rattle.edit.specs.Buffer.{entryOf, entriesIn, Put}

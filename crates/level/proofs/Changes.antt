@@ -1,9 +1,9 @@
 -- Laws of a level that was made, and of what an entry does: a size of zero removes, in whatever way levels are made. Assumes nothing.
 use Prim.Native.Nat.{ℕ}
-use mathlib.Core.Path.{_≡_, refl, sym, ap, _∙_, subst}
+use mathlib.Core.Path.{_≡_, refl, ap}
 use mathlib.Core.Bool.{Bool, true, false, cond}
 use Rattle.decimal.specs.Decimal.{Number, isZero}
-use Rattle.edit.specs.Edit.{PriceLevel, Edit, sets, removes, Numbers, editOf}
+use Rattle.edit.specs.Edit.{Edit, sets, removes, Numbers, editOf}
 use Rattle.level.specs.declared.Level.{Level}
 use Rattle.level.specs.Ranked.{named, mapEdit, IfSet}
 use Rattle.level.specs.Words.{levelMade, levelPrice, levelSize, levelSum, levelLength, shown, changeOf}

@@ -2,8 +2,8 @@
 -- above this crate knows a level by its price, size, sum and length alone. Assumes nothing: these are definitions.
 use Prim.Native.Nat.{ℕ, _+_, _*_, _/_, _%_, _^_, _<_}
 use mathlib.Core.Path.{_≡_}
-use mathlib.Core.Bool.{Bool, true, false, cond}
-use mathlib.Core.List.{List, [], _∷_}
+use mathlib.Core.Bool.{cond}
+use mathlib.Core.List.{List}
 use lib.ListN.{drop}
 use Rattle.decimal.specs.Decimal.{Number, number, isZero}
 use Rattle.edit.specs.Buffer.{byThrees}

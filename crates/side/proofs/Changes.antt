@@ -3,7 +3,7 @@ use mathlib.Core.Path.{_≡_, refl, sym, subst}
 use mathlib.Core.List.{List, [], _∷_, map}
 use Rattle.decimal.specs.Limits.{Within}
 use Rattle.settings.specs.declared.SumText.{SumText}
-use Rattle.edit.specs.Edit.{Edit, Numbers, editOf, isSame, forSide, sideOf}
+use Rattle.edit.specs.Edit.{Numbers, editOf, isSame, forSide, sideOf}
 use Rattle.edit.specs.declared.Side.{Side}
 use Rattle.level.specs.Words.{levelSize, shown, changeOf}
 use Rattle.level.specs.Ranked.{mapEdit, All, IfSet}

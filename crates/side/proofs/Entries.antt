@@ -1,8 +1,8 @@
 -- A message's entries on one side: what the loop over them keeps, and what it has shown at the end. An entry for the other side changes nothing.
 -- Assumes nothing.
-use Prim.Native.Nat.{ℕ, zero, suc, _+_, _-_, _≤_, _<_}
+use Prim.Native.Nat.{ℕ, suc, _+_, _-_, _≤_, _<_}
 use mathlib.Core.Path.{_≡_, refl, sym, ap, ap₂, _∙_, subst}
-use mathlib.Core.Bool.{Bool, true, false, _||_, or-assoc, or-false, or-true}
+use mathlib.Core.Bool.{Bool, true, false, _||_, or-assoc, or-false}
 use mathlib.Core.List.{List, [], _∷_, _++_}
 use native.Mathlib.Numerals.{add-one}
 use native.Mathlib.Omega.{arith}
@@ -10,7 +10,7 @@ use borrow.Author.Tests.{eqb-true, eqb-false}
 use lib.Dec.{eqb}
 use lib.ListN.{length, getD, set, take, drop, drop-of-length-le, length-map}
 use lib.Seq.{drop-cons, take-suc, take-suc-set, take-take, take-all, length-take-le, getD-take}
-use Rattle.decimal.specs.Decimal.{Number, number, value}
+use Rattle.decimal.specs.Decimal.{number, value}
 use Rattle.decimal.specs.Limits.{order, Within}
 use Rattle.decimal.specs.declared.Decimal.{Decimal}
 use Rattle.decimal.specs.declared.Order.{Order}
@@ -21,7 +21,7 @@ use Rattle.edit.specs.Edit.{Edit, sets, removes, Numbers, isSame, forSide, side
 use Rattle.edit.specs.Buffer.{entryOf, entriesIn, noNumbers}
 use Rattle.settings.specs.declared.SumText.{SumText}
 use Rattle.level.specs.Side.{nearer, without, applyAll, ranked}
-use Rattle.level.specs.Ranked.{All, standing, afterMessage, named, replaces, replaced, Sorted, mapEdit, IfSet}
+use Rattle.level.specs.Ranked.{All, afterMessage, named, replaces, replaced, Sorted, mapEdit, IfSet}
 use Rattle.level.specs.Order.{aheadOf, equalOf}
 use Rattle.level.specs.Words.{noLevel, levelPlain, changeOf}
 use Rattle.checksum.specs.Carried.{levelFor}

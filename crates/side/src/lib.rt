@@ -66,8 +66,8 @@ pub fn apply(
     'entry: while k < entries {
         let entry = entry_at(buffer, k);
         k += 1;
-        let own = entry.side;
-        if !is_same(own, side) {
+        let entry_side = entry.side;
+        if !is_same(entry_side, side) {
             continue;
         }
         let plain = entry.change;

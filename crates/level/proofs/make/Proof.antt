@@ -1,5 +1,4 @@
 -- `make` meets its contract: the level has the digits and decimals of the price and of the size, and decimals fit a byte.
-use mathlib.Core.Path.{_≡_}
 use borrow.Author.Needs.{needs}
 use Rattle.level.specs.Words.{levelMade}
 use Rattle.level.proofs.make.Statement.{statement}

@@ -4,12 +4,12 @@ use mathlib.Core.Path.{_≡_, refl, sym, ap, _∙_, subst}
 use mathlib.Core.Logic.{⊎-elim}
 use mathlib.Core.Bool.{Bool, true, false, not, _||_, or-false, or-true}
 use mathlib.Core.List.{List}
-use Prim.Native.Nat.{ℕ, suc, _+_, _-_, _/_, _≤_, _<_}
+use Prim.Native.Nat.{ℕ, _+_, _-_, _/_, _≤_, _<_}
 use native.Mathlib.Omega.{arith}
 use borrow.Author.Needs.{needs}
 use lib.ListN.{length, getD, set, take, drop, length-set}
 use lib.Seq.{length-take-le, getD-take}
-use Rattle.decimal.specs.Decimal.{Number, number, value}
+use Rattle.decimal.specs.Decimal.{number, value}
 use Rattle.decimal.specs.Limits.{Within}
 use Rattle.decimal.specs.declared.Decimal.{Decimal}
 use Rattle.level.specs.declared.Level.{Level}
@@ -22,8 +22,8 @@ use Rattle.edit.specs.declared.Side.{Side}
 use Rattle.level.specs.Side.{nearer, without, applyAll}
 use Rattle.level.specs.Ranked.{All, standing, afterMessage, named, replaces, replaced, Sorted, mapEdit, IfSet}
 use Rattle.level.specs.Words.{levelsIn, wordsPast, noLevel, edit, levelPlain, changeOf}
-use Rattle.level.specs.Kept.{maxWords, keptIn, held, Good}
-use Rattle.side.specs.Applying.{EntryWithin, LevelWithin, Given, withSum, changesFor, AfterEntries}
+use Rattle.level.specs.Kept.{maxWords, keptIn, held}
+use Rattle.side.specs.Applying.{EntryWithin, LevelWithin, Given, withSum, changesFor}
 use Rattle.level.proofs.All.{all-take, all-at}
 use Rattle.level.proofs.Ranking.{applyRanked, sorted-take}
 use Rattle.level.proofs.Meeting.{standing-at}

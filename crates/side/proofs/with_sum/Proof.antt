@@ -1,8 +1,7 @@
 -- `with_sum` meets its contract: a level that is set gets the sum of its piece, and a removal stays as it is.
 use mathlib.Core.Path.{sym, ap, ap₂, _∙_, subst}
 use Rattle.decimal.specs.Limits.{Within}
-use Rattle.edit.specs.Edit.{Edit, sets, removes}
-use Rattle.level.specs.declared.Level.{Level}
+use Rattle.edit.specs.Edit.{sets}
 use Rattle.level.specs.declared.Change.{Change}
 use Rattle.level.specs.Ranked.{mapEdit, IfSet}
 use Rattle.level.specs.Words.{edit}

@@ -2,4 +2,6 @@
 pub mod Steps
 pub mod Outlines
 pub mod Objects
+pub mod Holding
 pub mod Whole
+pub mod Keeping

@@ -10,16 +10,16 @@ use Rattle.decimal.specs.Digits.{Reading, reads, refused}
 use Rattle.json.specs.Json.{Span}
 use Rattle.json.specs.Names.{means}
 use Rattle.entries.specs.Places.{andThen, wholeAt, checksumAt}
-use Rattle.layout.specs.Scan.{notEntryArray, noOutline, outlineFrom}
-use Rattle.layout.specs.declared.EntryArray.{EntryArray}
+use Rattle.entries.specs.declared.Tally.{Tally}
+use Rattle.layout.specs.Scan.{noOutline, outlineFrom}
 use Rattle.layout.specs.declared.MemberSpan.{MemberSpan}
-use Rattle.layout.specs.declared.EntryMember.{EntryMember}
 use Rattle.layout.specs.declared.Outline.{Outline}
 use Rattle.layout.specs.declared.Scan.{Scan}
 use Rattle.layout.specs.declared.Kind.{Kind}
 use Rattle.layout.specs.declared.Kind.the-variants.{Snapshot, Update}
 use Rattle.message_m.specs.LayoutM.{kindAt}
-use Rattle.message_m.specs.Collected.{onceAt, onceListed, outlineWhere, numbersIn, bodyIn, outlineIn, scanIn}
+use Rattle.message_m.specs.Collected.{onceAt, outlineWhere, numbersIn, sidesIn, bodyIn, outlineIn, scanIn}
+use Rattle.message_m.specs.declared.Data.{Data}
 use Rattle.message_m.specs.declared.Members.{Members}
 
 abbrev pub placeOf : MemberSpan → Span
@@ -44,15 +44,6 @@ module _ (m : MemberSpan) where
     unfolding andThen
     then-no h = rw (once-no h)
 
-module _ (t : EntryMember) where
-  pub listed-yes : t .times ≡ 1 → t .listing ≡ onceListed t
-  unfolding onceListed
-  listed-yes h = sym (rw (eq-eqb (t .times) 1 h))
-
-  pub listed-no : (t .times ≡ 1 → ⊥) → notEntryArray ≡ onceListed t
-  unfolding onceListed
-  listed-no h = sym (rw (ne-eqb (t .times) 1 h))
-
 -- ---- where something is read, or not
 module _ {A : Type 0} (f : A → Outline) where
   pub where-reads : {x : Reading A} {a : A} → x ≡ reads a → f a ≡ outlineWhere x f
@@ -64,7 +55,7 @@ module _ {A : Type 0} (f : A → Outline) where
   where-refused h = sym (rw h)
 
 -- ---- from the checksum on
-module _ (s : List ℕ) (kind : Kind) (b a : EntryArray) (k g : MemberSpan) where
+module _ (s : List ℕ) (kind : Kind) (t : Tally) (k g : MemberSpan) where
   abbrev sum : Reading ℕ
   sum = andThen (onceAt k) (checksumAt s)
 
@@ -72,32 +63,49 @@ module _ (s : List ℕ) (kind : Kind) (b a : EntryArray) (k g : MemberSpan) wher
   number = andThen (onceAt g) (wholeAt s)
 
   abbrev with-sum : ℕ → Outline
-  with-sum u = outlineWhere number (λ n. outlineFrom kind b a true u n)
+  with-sum u = outlineWhere number (λ n. outlineFrom kind t true u n)
 
-  pub numbers-no-sum : sum ≡ refused → noOutline ≡ numbersIn s kind b a k g
+  pub numbers-no-sum : sum ≡ refused → noOutline ≡ numbersIn s kind t k g
   unfolding numbersIn
   numbers-no-sum h = where-refused with-sum h
 
-  pub numbers-no-number : (u : ℕ) → sum ≡ reads u → number ≡ refused → noOutline ≡ numbersIn s kind b a k g
+  pub numbers-no-number : (u : ℕ) → sum ≡ reads u → number ≡ refused → noOutline ≡ numbersIn s kind t k g
   unfolding numbersIn
-  numbers-no-number u h r = where-refused (λ n. outlineFrom kind b a true u n) r ∙ where-reads with-sum h
+  numbers-no-number u h r = where-refused (λ n. outlineFrom kind t true u n) r ∙ where-reads with-sum h
 
-  pub numbers-are : (u n : ℕ) → sum ≡ reads u → number ≡ reads n → outlineFrom kind b a true u n ≡ numbersIn s kind b a k g
+  pub numbers-are : (u n : ℕ) → sum ≡ reads u → number ≡ reads n → outlineFrom kind t true u n ≡ numbersIn s kind t k g
   unfolding numbersIn
-  numbers-are u n h r = where-reads (λ n. outlineFrom kind b a true u n) r ∙ where-reads with-sum h
+  numbers-are u n h r = where-reads (λ n. outlineFrom kind t true u n) r ∙ where-reads with-sum h
 
 -- ---- from `data` on
 module _ (s : List ℕ) (kind : Kind) (met : Members) where
-  abbrev numbers : Outline
-  numbers = numbersIn s kind (onceListed (met .body .last .bids)) (onceListed (met .body .last .asks)) (met .checksum) (met .gsn)
+  abbrev last : Data
+  last = met .body .last
+
+  abbrev sides : Outline
+  sides = sidesIn s kind last (met .checksum) (met .gsn)
 
   pub body-not-once : (met .body .mark .times ≡ 1 → ⊥) → noOutline ≡ bodyIn s kind met
   unfolding bodyIn
-  body-not-once h = where-refused (λ d. numbers) (once-no (met .body .mark) h)
+  body-not-once h = where-refused (λ d. sides) (once-no (met .body .mark) h)
 
-  pub body-once : met .body .mark .times ≡ 1 → numbers ≡ bodyIn s kind met
-  unfolding bodyIn
-  body-once h = where-reads (λ d. numbers) (once-yes (met .body .mark) h)
+  module _ (o : met .body .mark .times ≡ 1) where
+    body-once : sides ≡ bodyIn s kind met
+    unfolding bodyIn
+    body-once = where-reads (λ d. sides) (once-yes (met .body .mark) o)
+
+    pub bids-not-once : (last .bids ≡ 1 → ⊥) → noOutline ≡ bodyIn s kind met
+    unfolding sidesIn
+    bids-not-once h = sym (rw (ne-eqb (last .bids) 1 h, sidesIn)) ∙ body-once
+
+    module _ (b : last .bids ≡ 1) where
+      pub asks-not-once : (last .asks ≡ 1 → ⊥) → noOutline ≡ bodyIn s kind met
+      unfolding sidesIn
+      asks-not-once h = sym (rw (eq-eqb (last .bids) 1 b, ne-eqb (last .asks) 1 h, sidesIn)) ∙ body-once
+
+      pub sides-once : last .asks ≡ 1 → numbersIn s kind (last .tally) (met .checksum) (met .gsn) ≡ bodyIn s kind met
+      unfolding sidesIn
+      sides-once h = sym (rw (eq-eqb (last .bids) 1 b, eq-eqb (last .asks) 1 h, sidesIn)) ∙ body-once
 
 -- ---- whole
 module _ (s : List ℕ) (met : Members) where

@@ -1,6 +1,6 @@
 -- One member more, as the code finds it.
 -- Assumes nothing.
-use mathlib.Core.Path.{_≡_, refl, sym, ap, _∙_}
+use mathlib.Core.Path.{_≡_, refl, sym, ap, _∙_, subst}
 use mathlib.Core.List.{List, [], _∷_}
 use mathlib.Core.Bool.{Bool, true, false, _&&_, _||_, or-false, cond}
 use Prim.Native.Nat.{ℕ, suc, _+_, _≤_}
@@ -10,25 +10,27 @@ use lib.Dec.{eqb}
 use lib.ListN.{length}
 use Rattle.text.specs.Text.{ascii, byteAt}
 use Rattle.decimal.specs.Digits.{Reading, reads, refused}
+use Rattle.edit.specs.declared.Side.{Side}
+use Rattle.edit.specs.declared.Side.the-variants.{Bids, Asks}
 use Rattle.json_tokens.specs.Tokens.{End, At, Broken}
 use Rattle.json_tokens.specs.Ends.{endOf}
+use Rattle.json_tokens.proofs.Laws.{end-at}
+use Rattle.json_tokens.proofs.Bounds.{bounds}
 use Rattle.json.specs.Json.{Span, Pair, Items, items, noItems, itemsEnd, elements, value}
 use Rattle.json.specs.Names.{means, holds, hasBackslash}
+use Rattle.json.proofs.Bounds.{value-in}
 use Rattle.json.proofs.Laws.{value-array}
 use Rattle.json.proofs.Which.{numbered, meant, one-meant, which-meant, which-plain}
-use Rattle.entries.specs.Places.{andThen, contents, isString, arrayAt, objectAt}
-use Rattle.entries.specs.Rows.{entriesAt}
+use Rattle.entries.specs.Places.{andAlso, contents, isString, arrayAt, objectAt}
+use Rattle.entries.specs.Rows.{Entry, sidedAt}
+use Rattle.entries.specs.Tally.{met as count, toldNot, toldAt, spansTally, arrayTally, Tells, Kept, Met}
 use Rattle.entries.specs.declared.Form.the-variants as forms
-use Rattle.entries.specs.Summary.{noEntries, summaryOf, summaryAt}
 use Rattle.entries.specs.declared.Entries.{Entries}
-use Rattle.entries.proofs.Summary.{summary-is}
-use Rattle.layout.specs.MemberSpans.{fewMore, withMemberSpan, withEntryArray}
-use Rattle.layout.specs.Scan.{entryArrayFrom}
-use Rattle.layout.specs.declared.EntryArray.{EntryArray}
+use Rattle.entries.specs.declared.Tally.{Tally}
+use Rattle.entries.proofs.Tallies.{tells-more, kept-more}
+use Rattle.layout.specs.MemberSpans.{fewMore, withMemberSpan}
 use Rattle.layout.specs.declared.MemberSpan.{MemberSpan}
-use Rattle.layout.specs.declared.EntryMember.{EntryMember}
-use Rattle.layout.proofs.Laws.{listing-of}
-use Rattle.message_m.specs.Collected.{onHit, sideM, noData, moreData, dataFrom, dataOf, ourNames, keyOf, isEscaped, moreBody, moreMembers, Placed}
+use Rattle.message_m.specs.Collected.{onHit, withHeld, tallyWith, noData, moreData, dataFrom, dataOf, Added, ourNames, keyOf, isEscaped, heldOf, bodyHeld, moreBody, moreMembers, Placed}
 use Rattle.message_m.specs.declared.Data.{Data}
 use Rattle.message_m.specs.declared.Body.{Body}
 use Rattle.message_m.specs.declared.Members.{Members}
@@ -58,6 +60,9 @@ unfolding keyOf
 keyed s a =
     let h : numbered (keyOf s a) 1 ourNames ≡ meant s a ourNames = which-meant s a ourNames refl 1 (omega arith) in
     record { channel = cc; product = cc; kind = cc; body = cc; checksum = cc; gsn = cc }
+
+pub data-key : (s : List ℕ) (a : Span) (k : ℕ) → k ≡ keyOf s a → eqb k 4 ≡ means s a (ascii "data")
+data-key s a k h = ap (λ (n : ℕ). eqb n 4) h ∙ keyed s a .body
 
 -- the code's chain of tests; each case takes what the tests before it found
 module _ (s : List ℕ) (a : Span) where
@@ -146,73 +151,105 @@ array-broken d s a h = go (eqb (byteAt s (a .from)) 91) refl
     go true q = contents-broken (elements (value d s) s (a .from + 1)) (sym (value-array s (a .from) d (eqb-true _ _ q)) ∙ h)
     go false q = refl
 
--- the listing of a value, as the code has it
-pub side-is : (s : List ℕ) (at : ℕ) (e : Entries) → e ≡ summaryAt forms.Pair 14 s at → (l : EntryArray) → l ≡ entryArrayFrom at e
-    → l ≡ sideM s (record { from = at; to = endOf (value 14 s at) })
-unfolding entriesAt andThen summaryAt endOf summaryOf
-side-is s at e h l g = g ∙ ap (entryArrayFrom at) h ∙ go (value 14 s at) refl
-  where
-    none : (t : ℕ) → value 14 s at ≡ Broken → entriesAt forms.Pair 14 s (record { from = at; to = t }) ≡ refused
-    none t q = rw (array-broken 13 s (record { from = at; to = t }) q)
+-- what is told of the entries at a position, as the code has it
+module _ (s : List ℕ) (at : ℕ) (side : Side) (t : Tally) where
+  abbrev to-end : Span
+  to-end = record { from = at; to = endOf (value 14 s at) }
 
-    nothing : value 14 s at ≡ Broken → summaryAt forms.Pair 14 s at ≡ noEntries 0
-    nothing q = rw (q, summaryAt)
+  told-is : toldAt 0 s 14 forms.Pair side t at ≡ record { end = endOf (value 14 s at); tally = arrayTally 0 s 14 forms.Pair side t to-end }
+  unfolding toldAt endOf arrayTally spansTally
+  told-is = go (value 14 s at) refl
+    where
+      none : value 14 s at ≡ Broken → arrayAt 14 s (record { from = at; to = 0 }) ≡ refused
+      none q = array-broken 13 s (record { from = at; to = 0 }) q
 
-    go : (x : End) → value 14 s at ≡ x → entryArrayFrom at (summaryAt forms.Pair 14 s at) ≡ sideM s (record { from = at; to = endOf x })
-    go (At t) q = ap (entryArrayFrom at) (summary-is forms.Pair 14 s at t q) ∙ listing-of forms.Pair 14 s (record { from = at; to = t }) t
-    go Broken q =
-        ap (entryArrayFrom at) (nothing q ∙ sym (ap (summaryOf s 0) (none 0 q))) ∙ listing-of forms.Pair 14 s (record { from = at; to = 0 }) 0
+      go : (x : End) → value 14 s at ≡ x
+          → _≡_ {A = Entries} (elim x [ At e ↦ record { end = e; tally = arrayTally 0 s 14 forms.Pair side t (record { from = at; to = e }) } | Broken ↦ toldNot 0 ])
+          (record { end = endOf x; tally = arrayTally 0 s 14 forms.Pair side t (record { from = at; to = endOf x }) })
+      go (At e) q = refl
+      go Broken q = sym (rw (none q))
 
--- one more in its slot
-pub slot-more : (s : List ℕ) (t : EntryMember) (a : Span) {l : EntryArray} {r : EntryMember} → r ≡ record { times = fewMore (t .times); listing = l } → l ≡ sideM s a → r ≡ withEntryArray (sideM s) t a
-unfolding withEntryArray
-slot-more s t a h g = h ∙ rw g
+  module _ (before after : List ℕ) (r : Entries) (h : Met 0 s 14 forms.Pair side t at before after r) where
+    pub entries-end : r .end ≡ endOf (value 14 s at)
+    entries-end = ap (λ (x : Entries). x .end) (h .told ∙ told-is)
 
-data-made : {e f : ℕ} {b c x y : EntryMember} → e ≡ f → b ≡ c → x ≡ y → _≡_ {A = Data} (record { end = e; bids = b; asks = x }) (record { end = f; bids = c; asks = y })
-data-made p q r = rw (p, q, r)
+    pub entries-tally : r .tally ≡ arrayTally 0 s 14 forms.Pair side t to-end
+    entries-tally = ap (λ (x : Entries). x .tally) (h .told ∙ told-is)
+
+    pub entries-added : Added s to-end t (r .tally) (λ x. andAlso x (sidedAt side forms.Pair 14 s to-end)) before after
+    entries-added =
+        let e = entries-end in
+        record {
+          few = λ n. let k = h .few (λ z. n (sym e ∙ z)) in omega arith;
+          room = h .room;
+          kept = λ n x w k.
+              let v = end-at (value 14 s at) (endOf (value 14 s at)) refl n in (
+                subst (Tells s (andAlso x (sidedAt side forms.Pair 14 s to-end))) (sym entries-tally) (tells-more s x t side forms.Pair 14 to-end w),
+                kept-more s x t side forms.Pair 14 at before after r w k h (endOf (value 14 s at)) v,
+              );
+        }
+
+-- the same where another thing is added, which is the same
+pub added-as : {s : List ℕ} {a : Span} {t u : Tally} {f g : Reading (List Entry) → Reading (List Entry)} {before after : List ℕ} → Added s a t u f before after
+    → ((x : Reading (List Entry)) → f x ≡ g x) → Added s a t u g before after
+added-as {s} {a} {t} {u} {f} {g} {before} {after} h same =
+    record {
+      few = h .few;
+      room = h .room;
+      kept = λ n x w k.
+          let p = h .kept n x w k in
+          (subst (λ (y : Reading (List Entry)). Tells s y u) (same x) (p .0), subst (λ (y : Reading (List Entry)). Kept s y after) (same x) (p .1));
+    }
+
+-- nothing is added by a value that is passed over
+pub added-none : (s : List ℕ) (d : ℕ) (at : ℕ) (t : Tally) (buffer : List ℕ) → count t ≤ at → length buffer ≡ 600
+    → Added s (record { from = at; to = endOf (value d s at) }) t t (λ x. x) buffer buffer
+added-none s d at t buffer few room =
+    record {
+      few = λ n. let b = bounds (endOf (value d s at)) (value-in d s at) (end-at (value d s at) (endOf (value d s at)) refl n) in omega arith;
+      room = room;
+      kept = λ n x w k. (w, k);
+    }
 
 -- the member m, whose value ends at e
 module _ (s : List ℕ) (d : Data) (m : Pair) {e : ℕ} (h : e ≡ m .value .to) where
-  bids-yes : means s (m .name) (ascii "bids") ≡ true → withEntryArray (sideM s) (d .bids) (m .value) ≡ moreData s d m .bids
-  unfolding moreData
-  bids-yes y = sym (hit-yes (means s (m .name) (ascii "bids")) (withEntryArray (sideM s)) (d .bids) (m .value) y)
-
-  bids-no : means s (m .name) (ascii "bids") ≡ false → d .bids ≡ moreData s d m .bids
-  unfolding moreData
-  bids-no n = sym (hit-no (means s (m .name) (ascii "bids")) (withEntryArray (sideM s)) (d .bids) (m .value) n)
-
-  asks-yes : means s (m .name) (ascii "asks") ≡ true → withEntryArray (sideM s) (d .asks) (m .value) ≡ moreData s d m .asks
-  unfolding moreData
-  asks-yes y = sym (hit-yes (means s (m .name) (ascii "asks")) (withEntryArray (sideM s)) (d .asks) (m .value) y)
-
-  asks-no : means s (m .name) (ascii "asks") ≡ false → d .asks ≡ moreData s d m .asks
-  unfolding moreData
-  asks-no n = sym (hit-no (means s (m .name) (ascii "asks")) (withEntryArray (sideM s)) (d .asks) (m .value) n)
-
   not-asks : means s (m .name) (ascii "bids") ≡ true → means s (m .name) (ascii "asks") ≡ false
   not-asks y = let h = one-meant s (m .name) (ascii "bids" ∷ ascii "asks" ∷ []) refl 0 (omega arith) y in cc
 
-  pub data-bids : {r : EntryMember} → means s (m .name) (ascii "bids") ≡ true → r ≡ withEntryArray (sideM s) (d .bids) (m .value)
-      → _≡_ {A = Data} (record { end = e; bids = r; asks = d .asks }) (moreData s d m)
-  unfolding moreData
-  data-bids y g = data-made h (g ∙ bids-yes y) (asks-no (not-asks y))
+  pub data-bids : {n : ℕ} {u : Tally} → means s (m .name) (ascii "bids") ≡ true → n ≡ fewMore (d .bids) → u ≡ arrayTally 0 s 14 forms.Pair Bids (d .tally) (m .value)
+      → _≡_ {A = Data} (record { end = e; bids = n; asks = d .asks; tally = u }) (moreData s d m)
+  unfolding moreData tallyWith onHit
+  data-bids y g k = let o = not-asks y in sym (rw (y, o, g, k, h))
 
-  pub data-asks : {r : EntryMember} → means s (m .name) (ascii "bids") ≡ false → means s (m .name) (ascii "asks") ≡ true → r ≡ withEntryArray (sideM s) (d .asks) (m .value)
-      → _≡_ {A = Data} (record { end = e; bids = d .bids; asks = r }) (moreData s d m)
-  unfolding moreData
-  data-asks n y g = data-made h (bids-no n) (g ∙ asks-yes y)
+  pub data-asks : {n : ℕ} {u : Tally} → means s (m .name) (ascii "bids") ≡ false → means s (m .name) (ascii "asks") ≡ true → n ≡ fewMore (d .asks)
+      → u ≡ arrayTally 0 s 14 forms.Pair Asks (d .tally) (m .value) → _≡_ {A = Data} (record { end = e; bids = d .bids; asks = n; tally = u }) (moreData s d m)
+  unfolding moreData tallyWith onHit
+  data-asks n y g k = sym (rw (n, y, g, k, h))
 
-  pub data-other : means s (m .name) (ascii "bids") ≡ false → means s (m .name) (ascii "asks") ≡ false → _≡_ {A = Data} (record { end = e; bids = d .bids; asks = d .asks }) (moreData s d m)
-  unfolding moreData
-  data-other n o = data-made h (bids-no n) (asks-no o)
+  pub data-other : means s (m .name) (ascii "bids") ≡ false → means s (m .name) (ascii "asks") ≡ false → _≡_ {A = Data} (record { end = e; bids = d .bids; asks = d .asks; tally = d .tally }) (moreData s d m)
+  unfolding moreData tallyWith onHit
+  data-other n o = sym (rw (n, o, h))
+
+module _ (s : List ℕ) (x : Reading (List Entry)) (m : Pair) where
+  pub held-bids : means s (m .name) (ascii "bids") ≡ true → andAlso x (sidedAt Bids forms.Pair 14 s (m .value)) ≡ withHeld s x m
+  unfolding withHeld
+  held-bids y = sym (rw y)
+
+  pub held-asks : means s (m .name) (ascii "bids") ≡ false → means s (m .name) (ascii "asks") ≡ true → andAlso x (sidedAt Asks forms.Pair 14 s (m .value)) ≡ withHeld s x m
+  unfolding withHeld
+  held-asks n y = sym (rw (n, y))
+
+  pub held-other : means s (m .name) (ascii "bids") ≡ false → means s (m .name) (ascii "asks") ≡ false → x ≡ withHeld s x m
+  unfolding withHeld
+  held-other n o = sym (rw (n, o))
 
 -- ---- `data`
 
-pub data-end : (s : List ℕ) (a : Span) → dataOf s a .end ≡ a .to
-unfolding dataOf dataFrom noData
-data-end s a = go (objectAt 15 s a)
+pub data-end : (s : List ℕ) (t : Tally) (a : Span) → dataOf s t a .end ≡ a .to
+unfolding dataOf dataFrom
+data-end s t a = go (objectAt 15 s a)
   where
-    go : (x : Reading (List Pair)) → dataFrom s (a .to) x .end ≡ a .to
+    go : (x : Reading (List Pair)) → dataFrom s (a .to) t x .end ≡ a .to
     go (reads ms) = refl
     go refused = refl
 
@@ -220,18 +257,27 @@ body-made : {e f : ℕ} {k m : MemberSpan} {c d : Data} → e ≡ f → k ≡ m 
 body-made p q r = rw (p, q, r)
 
 module _ (s : List ℕ) (b : Body) (a : Span) (k n : ℕ) where
-  pub body-data : k ≡ n → (d : Data) → d ≡ dataOf s a → (m : MemberSpan) → m ≡ withMemberSpan (b .mark) (record { from = a .from; to = d .end })
+  pub body-data : k ≡ n → (d : Data) → d ≡ dataOf s (b .last .tally) a → (m : MemberSpan) → m ≡ withMemberSpan (b .mark) (record { from = a .from; to = d .end })
       → _≡_ {A = Body} (record { end = d .end; mark = m; last = d }) (moreBody s (eqb k n) b a)
   unfolding moreBody
   body-data y d h m g =
-      let e : d .end ≡ a .to = ap (λ (x : Data). x .end) h ∙ data-end s a in
+      let e : d .end ≡ a .to = ap (λ (x : Data). x .end) h ∙ data-end s (b .last .tally) a in
       body-made e (g ∙ ap (λ (t : ℕ). withMemberSpan (b .mark) (record { from = a .from; to = t })) e ∙ sym (hit-yes (eqb k n) withMemberSpan (b .mark) a (eq-eqb k n y)))
-      (h ∙ sym (hit-yes (eqb k n) (λ d v. dataOf s v) (b .last) a (eq-eqb k n y)))
+      (h ∙ sym (hit-yes (eqb k n) (λ d v. dataOf s (d .tally) v) (b .last) a (eq-eqb k n y)))
 
   pub body-other : (k ≡ n → ⊥) → {e : ℕ} → e ≡ a .to → _≡_ {A = Body} (record { end = e; mark = b .mark; last = b .last }) (moreBody s (eqb k n) b a)
   unfolding moreBody
   body-other y h =
-      body-made h (sym (hit-no (eqb k n) withMemberSpan (b .mark) a (ne-eqb k n y))) (sym (hit-no (eqb k n) (λ d v. dataOf s v) (b .last) a (ne-eqb k n y)))
+      body-made h (sym (hit-no (eqb k n) withMemberSpan (b .mark) a (ne-eqb k n y))) (sym (hit-no (eqb k n) (λ d v. dataOf s (d .tally) v) (b .last) a (ne-eqb k n y)))
+
+-- what a member adds
+pub body-held : (s : List ℕ) (hit : Bool) (x : Reading (List Entry)) (a : Span) → hit ≡ true → heldOf s x (objectAt 15 s a) ≡ bodyHeld s hit x a
+unfolding bodyHeld
+body-held s hit x a h = sym (rw h)
+
+pub body-passed : (s : List ℕ) (hit : Bool) (x : Reading (List Entry)) (a : Span) → hit ≡ false → x ≡ bodyHeld s hit x a
+unfolding bodyHeld
+body-passed s hit x a h = sym (rw h)
 
 -- ---- all members, part by part; each part but `data` takes the end from the body
 module _ (name s : List ℕ) (met : Members) (n : Span) (at to key : ℕ) (b : Body) (is : key ≡ keyOf s n)

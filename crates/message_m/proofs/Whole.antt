@@ -1,6 +1,6 @@
 -- What was met in the end is what the definition of the dialect asks for.
 -- Assumes nothing.
-use mathlib.Core.Path.{_≡_, refl, sym, ap, ap₂, _∙_}
+use mathlib.Core.Path.{_≡_, refl, sym, ap, ap₂, _∙_, subst}
 use mathlib.Core.List.{List, [], _∷_}
 use mathlib.Core.Bool.{Bool, true, false, _&&_, _||_, cond, or-assoc, or-false, or-true}
 use Prim.Native.Nat.{ℕ, _+_, _≤_, _<_}
@@ -10,31 +10,34 @@ use lib.Dec.{eqb}
 use lib.ListN.{length}
 use Rattle.text.specs.Text.{ascii, byteAt}
 use Rattle.decimal.specs.Digits.{Reading, reads, refused}
+use Rattle.edit.specs.declared.Side.the-variants.{Bids, Asks}
 use Rattle.json_tokens.specs.Tokens.{End, At, Broken, blanks, closing}
 use Rattle.json_tokens.specs.Ends.{endOf}
 use Rattle.json.specs.Json.{Span, Pair, value}
 use Rattle.json.specs.Names.{means, hasBackslash}
-use Rattle.json.proofs.Fold.{Loop, Left, overMembers}
-use Rattle.entries.specs.Places.{andThen, objectAt, valuesOf, only, wholeAt, checksumAt}
-use Rattle.entries.specs.declared.Form.the-variants as forms
 use Rattle.json.specs.Fold.{foldFrom}
-use Rattle.layout.specs.Layout.{printed, Listed, Layout, Envelope, listedAt, laid}
-use Rattle.layout.specs.MemberSpans.{few, fewMore, withMemberSpan, memberSpanOf, withEntryArray, entryMemberOf}
-use Rattle.layout.specs.Scan.{notEntryArray, entryArrayOf, noOutline, notFramed, outlineOf, outlineFrom, isPrinted, sumOf, scanOf, scanAt}
-use Rattle.layout.specs.declared.EntryArray.{EntryArray}
+use Rattle.json.proofs.Fold.{Loop, Left, overMembers}
+use Rattle.entries.specs.Places.{andThen, andAlso, objectAt, valuesOf, only, wholeAt, checksumAt}
+use Rattle.entries.specs.Rows.{Entry, sidedAt}
+use Rattle.entries.specs.Tally.{noneYet, arrayTally, Tells}
+use Rattle.entries.specs.declared.Form.the-variants as forms
+use Rattle.entries.specs.declared.Tally.{Tally}
+use Rattle.entries.proofs.Tallies.{none-also, also-none, also-assoc, tells-none, tells-more}
+use Rattle.layout.specs.Layout.{printed, Layout, Envelope, memberEntries, entriesIn, laid}
+use Rattle.layout.specs.MemberSpans.{few, fewMore, withMemberSpan, memberSpanOf}
+use Rattle.layout.specs.Scan.{noOutline, notFramed, outlineOf, outlineFrom, isPrinted, sumOf, scanOf, scanAt}
 use Rattle.layout.specs.declared.MemberSpan.{MemberSpan}
-use Rattle.layout.specs.declared.EntryMember.{EntryMember}
 use Rattle.layout.specs.declared.Outline.{Outline}
 use Rattle.layout.specs.declared.Scan.{Scan}
 use Rattle.layout.proofs.Laws.{outline-of}
-use Rattle.layout.proofs.MemberSpans.{values-fold, only-once, only-other, slot-times}
+use Rattle.layout.proofs.MemberSpans.{values-fold, only-once, only-other, count-times}
 use Rattle.layout.specs.declared.Kind.{Kind}
-use Rattle.message_m.specs.LayoutM.{someName, someString, escapedM, someMeans, oursM, kindAt, listedIn, layoutM, envelopeM}
-use Rattle.message_m.specs.Collected.{onMember, sideM, noData, dataEnd, moreData, dataFrom, dataOf, isEscaped, moreBody, noMembers, moreMembers, onceAt, onceListed, outlineWhere, numbersIn, bodyIn, outlineIn, scanIn, Placed}
+use Rattle.message_m.specs.LayoutM.{someName, someString, escapedM, someMeans, oursM, kindAt, layoutM, envelopeM}
+use Rattle.message_m.specs.Collected.{onMember, withHeld, tallyWith, noData, dataEnd, moreData, dataFrom, dataOf, isEscaped, moreBody, noMembers, moreMembers, onceAt, outlineWhere, numbersIn, sidesIn, bodyIn, outlineIn, scanIn, Placed}
 use Rattle.message_m.specs.declared.Data.{Data}
 use Rattle.message_m.specs.declared.Members.{Members}
 use Rattle.message_m.proofs.Steps.{hit-yes, hit-no, placed-more}
-use Rattle.message_m.proofs.Outlines.{once-yes, once-no, listed-no}
+use Rattle.message_m.proofs.Outlines.{once-yes, once-no}
 use Rattle.message_m.proofs.Objects.{object-broken, made-other, made-empty, made-start}
 
 -- a component that follows the members of one name
@@ -47,38 +50,74 @@ on-fold s name step get add is =
     (λ st m h. is st m ∙ hit-no (means s (m .name) name) add (get st) (m .value) h)
 
 -- ---- the sides of `data`
-pub data-folds : (s : List ℕ) (e : ℕ) (ms : List Pair) → dataFrom s e (reads ms) ≡ dataEnd e (foldFrom (moreData s) (noData 0) ms)
-unfolding dataFrom moreData noData
-data-folds s e ms =
-    let b = on-fold s (ascii "bids") (moreData s) (λ (d : Data). d .bids) (withEntryArray (sideM s)) (λ st m. refl) (noData 0) ms in
-    let a = on-fold s (ascii "asks") (moreData s) (λ (d : Data). d .asks) (withEntryArray (sideM s)) (λ st m. refl) (noData 0) ms in
-    sym (rw (b, a))
+pub data-folds : (s : List ℕ) (t : Tally) (e : ℕ) (ms : List Pair) → dataFrom s e t (reads ms) ≡ dataEnd e (foldFrom (moreData s) (noData 0 t) ms)
+unfolding dataFrom
+data-folds s t e ms = refl
 
 pub data-ends : (s : List ℕ) (d : Data) (m : Pair) → moreData s d m .end ≡ m .value .to
 unfolding moreData
 data-ends s d m = refl
 
 -- the loop over them
-abbrev pub dataLoop : List ℕ → Loop Pair Data Data
-dataLoop s = overMembers 14 s (moreData s) dataEnd (noData 0)
+abbrev pub dataLoop : List ℕ → Tally → Loop Pair Data Data
+dataLoop s t = overMembers 14 s (moreData s) dataEnd (noData 0 t)
 
 -- the value at a position, as that of a member `data`
-abbrev pub dataAt : List ℕ → ℕ → Data
-dataAt s at = dataOf s (record { from = at; to = endOf (value 15 s at) })
+abbrev pub dataAt : List ℕ → Tally → ℕ → Data
+dataAt s t at = dataOf s t (record { from = at; to = endOf (value 15 s at) })
 
-module _ (s : List ℕ) (at : ℕ) where
-  pub data-none : (byteAt s at ≡ 123 → ⊥) → {e : ℕ} → e ≡ endOf (value 15 s at) → noData e ≡ dataAt s at
+module _ (s : List ℕ) (t : Tally) (at : ℕ) where
+  abbrev made : ℕ → Reading (List Pair) → Data
+  made e x = dataFrom s e t x
+
+  pub data-none : (byteAt s at ≡ 123 → ⊥) → {e : ℕ} → e ≡ endOf (value 15 s at) → noData e t ≡ dataAt s t at
   unfolding dataOf dataFrom
-  data-none n h = ap noData h ∙ made-other (dataFrom s) 14 s at n
+  data-none n h = ap (λ (e : ℕ). noData e t) h ∙ made-other made 14 s at n
 
   module _ (opens : byteAt s at ≡ 123) (e : ℕ) (h : e ≡ endOf (closing 125 s (at + 1))) where
-    pub data-empty : 0 < e → noData e ≡ dataAt s at
-    unfolding dataOf noData
-    data-empty p = made-empty (dataFrom s) 14 s at opens (moreData s) dataEnd (noData 0) (data-folds s) e h p
+    pub data-empty : 0 < e → noData e t ≡ dataAt s t at
+    unfolding dataOf
+    data-empty p = made-empty made 14 s at opens (moreData s) dataEnd (noData 0 t) (data-folds s t) e h p
 
-    pub data-start : e ≡ 0 → (k : ℕ) → k ≡ blanks s (at + 1) → Left (dataLoop s) (noData 0) k (dataAt s at)
+    pub data-start : e ≡ 0 → (k : ℕ) → k ≡ blanks s (at + 1) → Left (dataLoop s t) (noData 0 t) k (dataAt s t at)
     unfolding dataOf dataFrom
-    data-start z k b = made-start (dataFrom s) 14 s at opens (moreData s) dataEnd (noData 0) (data-folds s) e h z k b
+    data-start z k b = made-start made 14 s at opens (moreData s) dataEnd (noData 0 t) (data-folds s t) e h z k b
+
+-- what their members hold is told
+held-tells : (s : List ℕ) (x : Reading (List Entry)) (t : Tally) (m : Pair) → Tells s x t → Tells s (withHeld s x m) (tallyWith s t m)
+unfolding withHeld tallyWith
+held-tells s x t m h = go (means s (m .name) (ascii "bids")) (means s (m .name) (ascii "asks"))
+  where
+    go : (b a : Bool) → Tells s
+        (cond b (andAlso x (sidedAt Bids forms.Pair 14 s (m .value))) (cond a (andAlso x (sidedAt Asks forms.Pair 14 s (m .value))) x))
+        (cond b (arrayTally 0 s 14 forms.Pair Bids t (m .value)) (cond a (arrayTally 0 s 14 forms.Pair Asks t (m .value)) t))
+    go true a = tells-more s x t Bids forms.Pair 14 (m .value) h
+    go false true = tells-more s x t Asks forms.Pair 14 (m .value) h
+    go false false = h
+
+held-all : (s : List ℕ) (x : Reading (List Entry)) (d : Data) (ms : List Pair) → Tells s x (d .tally) → Tells s (foldFrom (withHeld s) x ms) (foldFrom (moreData s) d ms .tally)
+unfolding foldFrom moreData
+held-all s x d [] h = h
+held-all s x d (m ∷ ms) h = held-all s (withHeld s x m) (moreData s d m) ms (held-tells s x (d .tally) m h)
+
+-- .. and is what the definition has
+one-held : (s : List ℕ) (x : Reading (List Entry)) (m : Pair) → withHeld s x m ≡ andAlso x (memberEntries forms.Pair 14 s (ascii "bids") (ascii "asks") m)
+unfolding withHeld memberEntries
+one-held s x m = go (means s (m .name) (ascii "bids")) (means s (m .name) (ascii "asks"))
+  where
+    go : (b a : Bool) → cond b (andAlso x (sidedAt Bids forms.Pair 14 s (m .value))) (cond a (andAlso x (sidedAt Asks forms.Pair 14 s (m .value))) x)
+        ≡ andAlso x (cond b (sidedAt Bids forms.Pair 14 s (m .value)) (cond a (sidedAt Asks forms.Pair 14 s (m .value)) (reads [])))
+    go true a = refl
+    go false true = refl
+    go false false = sym (also-none x)
+
+pub held-are : (s : List ℕ) (x : Reading (List Entry)) (ms : List Pair) → foldFrom (withHeld s) x ms ≡ andAlso x (entriesIn forms.Pair 14 s (ascii "bids") (ascii "asks") ms)
+unfolding foldFrom entriesIn
+held-are s x [] = sym (also-none x)
+held-are s x (m ∷ ms) =
+    held-are s (withHeld s x m) ms
+    ∙ ap (λ (y : Reading (List Entry)). andAlso y (entriesIn forms.Pair 14 s (ascii "bids") (ascii "asks") ms)) (one-held s x m)
+    ∙ also-assoc x (memberEntries forms.Pair 14 s (ascii "bids") (ascii "asks") m) (entriesIn forms.Pair 14 s (ascii "bids") (ascii "asks") ms)
 
 -- ---- check 4 and check 5: what some member has
 
@@ -150,22 +189,24 @@ then-out s {A} f g x y h k = go x refl ∙ ap (λ (z : Reading A). outlineWhere 
     go (reads a) q = k a q
     go refused q = refl
 
-module _ (s : List ℕ) where
-  -- a side of `data`
-  side-of : (l : List Span) → entryArrayOf s (andThen (only l) (listedAt forms.Pair 14 s)) ≡ onceListed (entryMemberOf (sideM s) l)
-  unfolding andThen only entryArrayOf onceListed foldFrom withEntryArray fewMore few
-  side-of [] = refl
-  side-of (a ∷ []) = refl
-  side-of (a ∷ (b ∷ l)) =
-      let t = slot-times (sideM s) (a ∷ (b ∷ l)) in
-      listed-no (entryMemberOf (sideM s) (a ∷ (b ∷ l))) (λ h. omega arith)
+isOnly : Reading Span → Bool
+isOnly (reads a) = true
+isOnly refused = false
 
+module _ (s : List ℕ) where
   -- the value of the only member `data` is the last one's
-  last-only : (l : List Span) (d : Data) (a : Span) → only l ≡ reads a → foldFrom (λ (d : Data) (a : Span). dataOf s a) d l ≡ dataOf s a
+  last-only : (l : List Span) (d : Data) (a : Span) → only l ≡ reads a → foldFrom (λ (d : Data) (a : Span). dataOf s (d .tally) a) d l ≡ dataOf s (d .tally) a
   unfolding only foldFrom
   last-only [] d a h = let z : _≡_ {A = ℕ} 0 1 = cc in absurd (omega arith)
-  last-only (b ∷ []) d a h = let e : b ≡ a = cc in ap (dataOf s) e
+  last-only (b ∷ []) d a h = let e : b ≡ a = cc in ap (dataOf s (d .tally)) e
   last-only (b ∷ (c ∷ l)) d a h = let z : _≡_ {A = ℕ} 0 1 = cc in absurd (omega arith)
+
+  -- met once
+  times-once : (l : List Span) → eqb (foldFrom (λ (n : ℕ) (a : Span). fewMore n) 0 l) 1 ≡ isOnly (only l)
+  unfolding only foldFrom fewMore isOnly few
+  times-once [] = refl
+  times-once (a ∷ []) = refl
+  times-once (a ∷ (b ∷ l)) = ap (λ (n : ℕ). eqb n 1) (count-times (a ∷ (b ∷ l)))
 
 -- the members that were met, of which ms are all
 module _ (name s : List ℕ) (ms : List Pair) where
@@ -199,41 +240,41 @@ module _ (name s : List ℕ) (ms : List Pair) where
   unfolding moreMembers moreBody
   data-mark = on-fold s (ascii "data") (moreMembers name s) (λ (x : Members). x .body .mark) withMemberSpan (λ st m. refl) noMembers ms
 
-  data-last : met .body .last ≡ foldFrom (λ (d : Data) (a : Span). dataOf s a) (noData 0) (values (ascii "data"))
+  data-last : met .body .last ≡ foldFrom (λ (d : Data) (a : Span). dataOf s (d .tally) a) (noData 0 noneYet) (values (ascii "data"))
   unfolding moreMembers moreBody
-  data-last = on-fold s (ascii "data") (moreMembers name s) (λ (x : Members). x .body .last) (λ (d : Data) (a : Span). dataOf s a) (λ st m. refl) noMembers ms
+  data-last = on-fold s (ascii "data") (moreMembers name s) (λ (x : Members). x .body .last) (λ (d : Data) (a : Span). dataOf s (d .tally) a) (λ st m. refl) noMembers ms
 
   -- ---- from the checksum on, where ds are the members of `data`
   module _ (kind : Kind) (ds : List Pair) where
-    abbrev bids : Reading Listed
-    bids = listedIn s (ascii "bids") ds
+    abbrev held : Reading (List Entry)
+    held = entriesIn forms.Pair 14 s (ascii "bids") (ascii "asks") ds
 
-    abbrev asks : Reading Listed
-    asks = listedIn s (ascii "asks") ds
+    abbrev told : Data
+    told = foldFrom (moreData s) (noData 0 noneYet) ds
 
-    abbrev bidSlot : EntryMember
-    bidSlot = entryMemberOf (sideM s) (valuesOf s (ascii "bids") ds)
-
-    abbrev askSlot : EntryMember
-    askSlot = entryMemberOf (sideM s) (valuesOf s (ascii "asks") ds)
+    held-told : Tells s held (told .tally)
+    held-told =
+        subst (λ (x : Reading (List Entry)). Tells s x (told .tally)) (held-are s (reads []) ds ∙ none-also held)
+        (held-all s (reads []) (noData 0 noneYet) ds (tells-none s))
 
     abbrev all-read : ℕ → ℕ → Reading Layout
-    all-read sum number = laid kind (printed sum) number bids asks
+    all-read sum number = laid kind (printed sum) number held
 
     abbrev sum-read : ℕ → Reading Layout
     sum-read sum = andThen (only (values (ascii "gsn"))) (λ g. andThen (wholeAt s g) (all-read sum))
 
+    abbrev numbers-read : Reading Layout
+    numbers-read = andThen (only (values (ascii "checksum"))) (λ k. andThen (checksumAt s k) sum-read)
+
     abbrev sides-read : Reading Layout
-    sides-read = andThen (only (values (ascii "checksum"))) (λ k. andThen (checksumAt s k) sum-read)
+    sides-read = andThen (only (valuesOf s (ascii "bids") ds)) (λ b. andThen (only (valuesOf s (ascii "asks") ds)) (λ a. numbers-read))
 
     abbrev outline : ℕ → ℕ → Outline
-    outline sum number = outlineFrom kind (onceListed bidSlot) (onceListed askSlot) true sum number
+    outline sum number = outlineFrom kind (told .tally) true sum number
 
     all-out : (sum number : ℕ) → outlineOf s (all-read sum number) ≡ outline sum number
-    unfolding listedIn isPrinted sumOf
-    all-out sum number =
-        sym (outline-of s kind (printed sum) number bids asks)
-        ∙ ap₂ (λ (b a : EntryArray). outlineFrom kind b a true sum number) (side-of s (valuesOf s (ascii "bids") ds)) (side-of s (valuesOf s (ascii "asks") ds))
+    unfolding isPrinted sumOf
+    all-out sum number = sym (outline-of s kind (printed sum) number held (told .tally) held-told)
 
     sum-out : (sum : ℕ) → outlineOf s (sum-read sum) ≡ outlineWhere (andThen (onceAt (met .gsn)) (wholeAt s)) (outline sum)
     sum-out sum =
@@ -241,47 +282,63 @@ module _ (name s : List ℕ) (ms : List Pair) where
         ∙ then-out s (all-read sum) (outline sum) (andThen (only (values (ascii "gsn"))) (wholeAt s)) (andThen (onceAt (met .gsn)) (wholeAt s))
         (ap (λ (x : Reading Span). andThen x (wholeAt s)) (only-is (values (ascii "gsn")) (met .gsn) gsn-is)) (λ n q. all-out sum n)
 
-    sides-out : outlineOf s sides-read ≡ numbersIn s kind (onceListed bidSlot) (onceListed askSlot) (met .checksum) (met .gsn)
+    numbers-out : outlineOf s numbers-read ≡ numbersIn s kind (told .tally) (met .checksum) (met .gsn)
     unfolding numbersIn
-    sides-out =
+    numbers-out =
         ap (outlineOf s) (then-assoc (only (values (ascii "checksum"))) (checksumAt s) sum-read)
         ∙ then-out s sum-read (λ sum. outlineWhere (andThen (onceAt (met .gsn)) (wholeAt s)) (outline sum))
         (andThen (only (values (ascii "checksum"))) (checksumAt s)) (andThen (onceAt (met .checksum)) (checksumAt s))
         (ap (λ (x : Reading Span). andThen x (checksumAt s)) (only-is (values (ascii "checksum")) (met .checksum) checksum-is)) (λ n q. sum-out n)
 
+    times-bids : told .bids ≡ foldFrom (λ (n : ℕ) (a : Span). fewMore n) 0 (valuesOf s (ascii "bids") ds)
+    unfolding moreData
+    times-bids = on-fold s (ascii "bids") (moreData s) (λ (d : Data). d .bids) (λ (n : ℕ) (a : Span). fewMore n) (λ st m. refl) (noData 0 noneYet) ds
+
+    times-asks : told .asks ≡ foldFrom (λ (n : ℕ) (a : Span). fewMore n) 0 (valuesOf s (ascii "asks") ds)
+    unfolding moreData
+    times-asks = on-fold s (ascii "asks") (moreData s) (λ (d : Data). d .asks) (λ (n : ℕ) (a : Span). fewMore n) (λ st m. refl) (noData 0 noneYet) ds
+
+    sides-out : outlineOf s sides-read ≡ sidesIn s kind told (met .checksum) (met .gsn)
+    unfolding sidesIn andThen outlineOf isOnly
+    sides-out =
+        go (only (valuesOf s (ascii "bids") ds)) (only (valuesOf s (ascii "asks") ds))
+        ∙ ap₂ (λ (b a : Bool). cond b (cond a (numbersIn s kind (told .tally) (met .checksum) (met .gsn)) noOutline) noOutline)
+        (sym (ap (λ (n : ℕ). eqb n 1) times-bids ∙ times-once s (valuesOf s (ascii "bids") ds)))
+        (sym (ap (λ (n : ℕ). eqb n 1) times-asks ∙ times-once s (valuesOf s (ascii "asks") ds)))
+      where
+        go : (x y : Reading Span) → outlineOf s (andThen x (λ b. andThen y (λ a. numbers-read)))
+            ≡ cond (isOnly x) (cond (isOnly y) (numbersIn s kind (told .tally) (met .checksum) (met .gsn)) noOutline) noOutline
+        go (reads b) (reads a) = numbers-out
+        go (reads b) refused = refl
+        go refused y = refl
+
   -- ---- from `data` on
   module _ (kind : Kind) where
-    abbrev numbers : Data → Outline
-    numbers d = numbersIn s kind (onceListed (d .bids)) (onceListed (d .asks)) (met .checksum) (met .gsn)
+    abbrev sides : Data → Outline
+    sides d = sidesIn s kind d (met .checksum) (met .gsn)
 
     abbrev data-read : Span → Reading Layout
     data-read d = andThen (objectAt 15 s d) (sides-read kind)
 
-    -- a value that has no sides
-    no-sides : (k g : MemberSpan) → numbersIn s kind (onceListed (noData 0 .bids)) (onceListed (noData 0 .asks)) k g ≡ noOutline
-    unfolding numbersIn onceListed noData outlineWhere outlineFrom
-    no-sides k g = go (andThen (onceAt k) (checksumAt s)) (andThen (onceAt g) (wholeAt s))
-      where
-        go : (x y : Reading ℕ) → outlineWhere x (λ sum. outlineWhere y (λ number. outlineFrom kind notEntryArray notEntryArray true sum number)) ≡ noOutline
-        go (reads sum) (reads number) = refl
-        go (reads sum) refused = refl
-        go refused y = refl
+    ended : (e : ℕ) (d : Data) → sides (dataEnd e d) ≡ sides d
+    unfolding sidesIn
+    ended e d = refl
 
-    data-out : (d : Span) → only (values (ascii "data")) ≡ reads d → outlineOf s (data-read d) ≡ numbers (met .body .last)
-    unfolding dataOf andThen outlineOf dataFrom noData
+    data-out : (d : Span) → only (values (ascii "data")) ≡ reads d → outlineOf s (data-read d) ≡ sides (met .body .last)
+    unfolding dataOf andThen outlineOf dataFrom sidesIn
     data-out d q = go (objectAt 15 s d) refl
       where
-        go : (x : Reading (List Pair)) → objectAt 15 s d ≡ x → outlineOf s (andThen x (sides-read kind)) ≡ numbers (met .body .last)
-        go x h = at x ∙ ap numbers (sym (data-last ∙ last-only s (values (ascii "data")) (noData 0) d q ∙ ap (dataFrom s (d .to)) h))
+        go : (x : Reading (List Pair)) → objectAt 15 s d ≡ x → outlineOf s (andThen x (sides-read kind)) ≡ sides (met .body .last)
+        go x h = at x ∙ ap sides (sym (data-last ∙ last-only s (values (ascii "data")) (noData 0 noneYet) d q ∙ ap (dataFrom s (d .to) noneYet) h))
           where
-            at : (y : Reading (List Pair)) → outlineOf s (andThen y (sides-read kind)) ≡ numbers (dataFrom s (d .to) y)
+            at : (y : Reading (List Pair)) → outlineOf s (andThen y (sides-read kind)) ≡ sides (dataFrom s (d .to) noneYet y)
             at (reads ds) = sides-out kind ds
-            at refused = sym (no-sides (met .checksum) (met .gsn))
+            at refused = refl
 
     body-out : outlineOf s (andThen (only (values (ascii "data"))) data-read) ≡ bodyIn s kind met
     unfolding bodyIn
     body-out =
-        then-out s data-read (λ d. numbers (met .body .last)) (only (values (ascii "data"))) (onceAt (met .body .mark))
+        then-out s data-read (λ d. sides (met .body .last)) (only (values (ascii "data"))) (onceAt (met .body .mark))
         (only-is (values (ascii "data")) (met .body .mark) data-mark) data-out
 
   -- ---- whole

@@ -87,19 +87,18 @@ heldOf s x (reads ms) = foldFrom (withHeld s) x ms
 heldOf s x refused = x
 
 -- What a reader promises of a value from a on, which it reads if it is JSON: that it is told, and that the buffer has what `next` says that it adds.
-pub record Added (s : List ℕ) (depth : ℕ) (a : Span) (t u : Tally) (next : Reading (List Entry) → Reading (List Entry)) (before after : List ℕ) : Type 0 where
+pub record Added (s : List ℕ) (a : Span) (t u : Tally) (next : Reading (List Entry) → Reading (List Entry)) (before after : List ℕ) : Type 0 where
   pub few : (a .to ≡ 0 → ⊥) → count u ≤ a .to
   pub room : length after ≡ bufferWords
   pub kept : (a .to ≡ 0 → ⊥) → (x : Reading (List Entry)) → Tells s x t → Kept s x before → Tells s (next x) u × Kept s (next x) after
 
 pub record DataRead (s : List ℕ) (t : Tally) (a : Span) (before after : List ℕ) (r : Data) : Type 0 where
   pub told : r ≡ dataOf s t a
-  pub added : Added s itemDepth a t (r .tally) (λ x. heldOf s x (objectAt itemDepth s a)) before after
+  pub added : Added s a t (r .tally) (λ x. heldOf s x (objectAt itemDepth s a)) before after
 
 pub record MoreData (s : List ℕ) (d : Data) (m : Pair) (before after : List ℕ) (r : Data) : Type 0 where
-  pub told : (m .value .to ≡ 0 → ⊥) → r ≡ moreData s d m
-  pub ends : r .end ≡ m .value .to
-  pub added : Added s sideDepth (m .value) (d .tally) (r .tally) (λ x. withHeld s x m) before after
+  pub told : r ≡ moreData s d m
+  pub added : Added s (m .value) (d .tally) (r .tally) (λ x. withHeld s x m) before after
 
 -- ---- the members of the message
 
@@ -144,7 +143,7 @@ bodyHeld s hit x a = cond hit (heldOf s x (objectAt itemDepth s a)) x
 
 pub record MoreBody (s : List ℕ) (hit : Bool) (b : Body) (a : Span) (before after : List ℕ) (r : Body) : Type 0 where
   pub told : r ≡ moreBody s hit b a
-  pub added : Added s itemDepth a (b .last .tally) (r .last .tally) (λ x. bodyHeld s hit x a) before after
+  pub added : Added s a (b .last .tally) (r .last .tally) (λ x. bodyHeld s hit x a) before after
 
 abbrev pub noMembers : Members
 noMembers =
@@ -179,7 +178,7 @@ moreMembers name s met m =
 
 pub record MoreMembers (name s : List ℕ) (met : Members) (m : Pair) (before after : List ℕ) (r : Members) : Type 0 where
   pub told : r ≡ moreMembers name s met m
-  pub added : Added s itemDepth (m .value) (met .body .last .tally) (r .body .last .tally) (λ x. bodyHeld s (means s (m .name) (ascii "data")) x (m .value)) before after
+  pub added : Added s (m .value) (met .body .last .tally) (r .body .last .tally) (λ x. bodyHeld s (means s (m .name) (ascii "data")) x (m .value)) before after
 
 -- ---- the layout, once all members were met
 
@@ -197,11 +196,13 @@ numbersIn s kind t checksum gsn =
     outlineWhere (andThen (onceAt gsn) (wholeAt s)) (λ number.
     outlineFrom kind t true sum number))
 
+-- From the sides on, of which each was met once in `data`.
+unfoldable pub sidesIn : List ℕ → Kind → Data → MemberSpan → MemberSpan → Outline
+sidesIn s kind d checksum gsn =
+    cond (eqb (d .bids) 1) (cond (eqb (d .asks) 1) (numbersIn s kind (d .tally) checksum gsn) noOutline) noOutline
+
 unfoldable pub bodyIn : List ℕ → Kind → Members → Outline
-bodyIn s kind met =
-    cond (eqb (met .body .mark .times) 1 && (eqb (met .body .last .bids) 1 && eqb (met .body .last .asks) 1))
-    (numbersIn s kind (met .body .last .tally) (met .checksum) (met .gsn))
-    noOutline
+bodyIn s kind met = outlineWhere (onceAt (met .body .mark)) (λ d. sidesIn s kind (met .body .last) (met .checksum) (met .gsn))
 
 unfoldable pub outlineIn : List ℕ → Members → Outline
 outlineIn s met =

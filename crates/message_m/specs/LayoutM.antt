@@ -46,12 +46,12 @@ layoutM s ms =
     andThen (kindAt s t) (λ kind.
     andThen (only (valuesOf s (ascii "data") ms)) (λ d.
     andThen (objectAt itemDepth s d) (λ ds.
+    andThen (only (valuesOf s (ascii "bids") ds)) (λ b.
+    andThen (only (valuesOf s (ascii "asks") ds)) (λ a.
     andThen (only (valuesOf s (ascii "checksum") ms)) (λ k.
     andThen (checksumAt s k) (λ sum.
     andThen (only (valuesOf s (ascii "gsn") ms)) (λ g.
     andThen (wholeAt s g) (λ number.
-    andThen (only (valuesOf s (ascii "bids") ds)) (λ b.
-    andThen (only (valuesOf s (ascii "asks") ds)) (λ a.
     laid kind (printed sum) number (entriesIn forms.Pair sideDepth s (ascii "bids") (ascii "asks") ds)))))))))))))
 
 -- ---- the message, to a book of that name

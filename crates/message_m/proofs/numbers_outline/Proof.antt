@@ -16,7 +16,7 @@ returns c =
     let u : ℕ = c .before .before .before .before .before .before .sum .given .0 .0 in
     let h = sym (c .before .before .before .before .before .before .before .before .checksum-of .ensures) ∙ ap parsedChecksum (c .before .before .before .before .before .before .sum .given .1) in
     let n : ℕ = c .before .before .number .given .0 .0 in
-    c .outline-of .ensures ∙ numbers-are s (a .kind) (a .bids) (a .asks) (a .checksum) (a .gsn) u n h (sym (c .before .before .before .before .gsn-of .ensures) ∙ ap parsedWhole (c .before .before .number .given .1))
+    c .outline-of .ensures ∙ numbers-are s (a .kind) (a .tally) (a .checksum) (a .gsn) u n h (sym (c .before .before .before .before .gsn-of .ensures) ∙ ap parsedWhole (c .before .before .number .given .1))
 
 returns-2 : tie.Need-returns-2
 returns-2 c =
@@ -24,13 +24,13 @@ returns-2 c =
     let s = now (a .s) in
     let u : ℕ = c .before .before .before .before .before .sum .given .0 .0 in
     let h = sym (c .before .before .before .before .before .before .before .checksum-of .ensures) ∙ ap parsedChecksum (c .before .before .before .before .before .sum .given .1) in
-    c .no-outline .ensures ∙ numbers-no-number s (a .kind) (a .bids) (a .asks) (a .checksum) (a .gsn) u h (sym (c .before .before .before .gsn-of .ensures) ∙ ap parsedWhole (c .before .enum-told .given .1))
+    c .no-outline .ensures ∙ numbers-no-number s (a .kind) (a .tally) (a .checksum) (a .gsn) u h (sym (c .before .before .before .gsn-of .ensures) ∙ ap parsedWhole (c .before .enum-told .given .1))
 
 returns-3 : tie.Need-returns-3
 returns-3 c =
     let a = c .before .before .before .before .before .args in
     let s = now (a .s) in
-    c .no-outline2 .ensures ∙ numbers-no-sum s (a .kind) (a .bids) (a .asks) (a .checksum) (a .gsn) (sym (c .before .before .before .checksum-of .ensures) ∙ ap parsedChecksum (c .before .enum-told2 .given .1))
+    c .no-outline2 .ensures ∙ numbers-no-sum s (a .kind) (a .tally) (a .checksum) (a .gsn) (sym (c .before .before .before .checksum-of .ensures) ∙ ap parsedChecksum (c .before .enum-told2 .given .1))
 
 pub numbers-outline-spec : {M : Type 1} → statement M
 numbers-outline-spec =

@@ -3,7 +3,7 @@
 -- Assumes nothing.
 use Prim.Native.Nat.{ℕ, _+_, _-_, _≤_, _<_}
 use mathlib.Core.Path.{_≡_, refl, sym, ap, ap₂, _∙_}
-use mathlib.Core.Bool.{Bool, true, false, _&&_, _||_, cond, and-eq-true-iff}
+use mathlib.Core.Bool.{Bool, true, false, _&&_, cond, and-eq-true-iff, _||_}
 use mathlib.Core.List.{List, _∷_, _++_, append-assoc}
 use native.Mathlib.Omega.{arith}
 use borrow.Author.Tests.{eqb-false, eqb-true, ne-eqb, le-ltb, leb-true}
@@ -12,12 +12,11 @@ use lib.ListN.{length, getD, take, drop, length-append, length-drop, take-append
 use lib.Seq.{drop-drop, length-take-le}
 use Rattle.text.specs.Text.{isDigit, byteAt}
 use Rattle.decimal.specs.Digits.{Reading, reads, refused, leading}
-use Rattle.decimal.specs.Decimal.{Number, number, Prefix, prefixed, isWhole, fractional, prefix, read, isZero, maxWhole, maxDecimals}
-use Rattle.decimal.specs.Limits.{Within}
+use Rattle.decimal.specs.Decimal.{Number, number, Prefix, prefixed, isWhole, fractional, prefix, read, maxWhole, maxDecimals}
 use Rattle.decimal.specs.declared.Decimal.{Decimal}
 use Rattle.decimal.proofs.Digits.{Digits, none, one, digit-in}
 use Rattle.decimal.proofs.Scan.{prefix-refused, prefix-pointed, pointed-plain, pointed-fraction, read-all}
-use Rattle.decimal.proofs.RoundTrip.{Shape, plain, with-point, read-shape, prefix-stop, read-within}
+use Rattle.decimal.proofs.RoundTrip.{Shape, plain, with-point, read-shape, prefix-stop}
 use Rattle.json_tokens.specs.Tokens.{At, blanks, chars, separator, stringRest, string}
 use Rattle.json_tokens.proofs.Laws.{here, in-byte, string-yes}
 use Rattle.entries.specs.Places.{inner}

@@ -9,3 +9,4 @@ pub mod Counting
 pub mod Tallies
 pub mod Arrays
 pub mod Shift
+pub mod Claims

@@ -13,7 +13,7 @@ use Rattle.decimal.specs.Digits.{Reading, reads, refused}
 use Rattle.decimal.specs.Decimal.{read, isZero}
 use Rattle.edit.specs.Buffer.{maxBuffered, entriesIn}
 use Rattle.edit.specs.declared.Side.{Side}
-use Rattle.json_tokens.specs.Tokens.{End, At, Broken}
+use Rattle.json_tokens.specs.Tokens.{At, Broken}
 use Rattle.json_tokens.specs.Ends.{endOf}
 use Rattle.json_tokens.proofs.Laws.{end-at}
 use Rattle.json_tokens.proofs.Bounds.{bounds, end-broken}
@@ -24,7 +24,7 @@ use Rattle.json.proofs.Bounds.{value-in}
 use Rattle.json.proofs.Shift.{shiftedSpan, ItemsShifts, both-items, no-items, value-shifts, elements-shift}
 use Rattle.entries.specs.Places.{andThen, all, isString, contents, arrayAt, inner}
 use Rattle.entries.specs.Rows.{Row, Entry, sided, rowK, rowM, rowOf, entryOf, entriesAt, sidedAt, badPrice, badSize, isBad, numberAt, numbersAt}
-use Rattle.entries.specs.Tally.{toldNot, withEntry, oneMore, orNot, oneSpan, spansTally, arrayTally, toldAt, met, Met}
+use Rattle.entries.specs.Tally.{toldNot, oneMore, orNot, oneSpan, spansTally, arrayTally, toldAt, met, Met}
 use Rattle.entries.specs.declared.Form.{Form}
 use Rattle.entries.specs.declared.Form.the-variants.{Triple, Pair}
 use Rattle.entries.specs.declared.Tally.{Tally}

@@ -3,7 +3,7 @@
 -- Assumes nothing.
 use Prim.Native.Nat.{ℕ, _+_, _-_, _≤_, _<_}
 use mathlib.Core.Path.{_≡_, refl, sym, ap, ap₂, _∙_}
-use mathlib.Core.Bool.{Bool, true, false, _&&_, cond, and-eq-true-iff, _||_}
+use mathlib.Core.Bool.{Bool, true, false, _&&_, _||_, cond, and-eq-true-iff}
 use mathlib.Core.List.{List, _∷_, _++_, append-assoc}
 use native.Mathlib.Omega.{arith}
 use borrow.Author.Tests.{eqb-false, eqb-true, ne-eqb, le-ltb, leb-true}
@@ -29,7 +29,6 @@ use Rattle.entries.specs.declared.EntryPlace.{EntryPlace}
 use Rattle.entries.specs.declared.Amounts.{Amounts}
 use Rattle.entries.specs.declared.QuotedDecimal.{QuotedDecimal}
 use Rattle.entries.proofs.Strings.{no-row, same-row}
-use Rattle.entries.proofs.Found.{found-past}
 
 -- ---- a decimal takes a byte at least
 
@@ -175,12 +174,6 @@ module _ (form : Form) (depth : ℕ) (s : List ℕ) (at : ℕ) (a : Amounts) (d 
   pub size-reads : read (inner s (sizeSpan found)) ≡ reads (number (a .size))
   unfolding entryPlaceOf
   size-reads = ap (λ (x : EntryPlace). read (inner s (sizeSpan x))) found-is ∙ d .size
-
-  pub decimals-past : at < e
-  decimals-past =
-      let n = decimals-end in
-      let p = found-past form depth s at found refl (λ z. more (sym n ∙ z)) in
-      omega arith
 
 -- ---- the numbers of two texts, and whether check 8 refuses them, by what is read of them
 

@@ -9,6 +9,10 @@ DECIMAL = re.compile(r"(0|[1-9][0-9]{0,9})(\.[0-9]{1,9})?\Z")
 BLANKS = " \t\r\n"
 ENTRIES_DEPTH = 14
 ENTRY_DEPTH = 13
+# where the value of a case stands in its line
+AT = 2
+# how many entries the buffer has room for
+ROOM = 200
 
 
 def no_constant(name):
@@ -57,28 +61,48 @@ def row(text, value, at, dialect):
     return [text[a:b] for a, b in spans(text, at)[:2]]
 
 
-def entry(text, dialect):
-    found = value_at(text, 0, ENTRY_DEPTH)
+def entry(line, dialect):
+    found = value_at(line, AT, ENTRY_DEPTH)
     if found is None:
         return "  end 0"
-    texts = row(text, found[0], 0, dialect)
+    texts = row(line, found[0], AT, dialect)
     return "  end %d%s" % (found[1], "".join(" " + t for t in texts or []))
 
 
-def entries(text, dialect):
-    found = value_at(text, 0, ENTRIES_DEPTH)
+def number(text):
+    """The digits and the decimals of a text between quotes; both are 0 where it is no decimal."""
+    if not DECIMAL.match(text[1:-1]):
+        return (0, 0)
+    whole, _, fraction = text[1:-1].partition(".")
+    return (int(whole + fraction), len(fraction))
+
+
+def is_bad(texts, snapshot):
+    price, size = texts
+    if not DECIMAL.match(price[1:-1]) or number(price)[0] == 0:
+        return True
+    return not DECIMAL.match(size[1:-1]) or (snapshot and number(size)[0] == 0)
+
+
+def entries(line, dialect):
+    found = value_at(line, AT, ENTRIES_DEPTH)
     if found is None:
         return "  end 0"
     value, end = found
     if not isinstance(value, list):
         return "  end %d" % end
-    rows = [row(text, v, a, dialect) for v, (a, _) in zip(value, spans(text, 0))]
+    places = [a for a, _ in spans(line, AT)]
+    rows = [row(line, v, a, dialect) for v, a in zip(value, places)]
     if None in rows:
         return "  end %d" % end
-    decimals = [[DECIMAL.match(t[1:-1]) and float(t[1:-1]) for t in texts] for texts in rows]
-    broken = any(not price or size is None for price, size in decimals)
-    zero = any(size == 0 for _, size in decimals if size is not None)
-    return "  end %d entries %d%s%s" % (end, len(rows), " broken" * broken, " zero" * zero)
+    out = "  end %d entries %d" % (end, len(rows))
+    for word, snapshot in (("broken", False), ("strict", True)):
+        bad = [a for a, texts in zip(places, rows) if is_bad(texts, snapshot)]
+        if bad:
+            out += " %s %d" % (word, bad[0])
+    for texts in rows[:ROOM]:
+        out += "\n    " + " ".join("%d/%d" % number(text) for text in texts)
+    return out
 
 
 ENTRIES = [
@@ -106,6 +130,9 @@ def arrays(dialect):
     for n in range(60):
         rows = ['["%s","%s"%s]' % (pick.choice(NUMBERS[:5] + NUMBERS[18:]), pick.choice(NUMBERS[3:5] + ["1", "2"]), last) for _ in range(pick.randrange(9))]
         yield "[%s]" % pick.choice([",", " , "]).join(rows)
+    # more than the buffer has room for
+    for n in (199, 200, 201, 205):
+        yield "[%s]" % ",".join('["%d","%d.5"%s]' % (k + 1, k, last) for k in range(n))
 
 
 def main():
@@ -114,7 +141,7 @@ def main():
         for kind, texts, tell in ((dialect, ENTRIES, entry), (dialect.lower(), list(arrays(dialect)), entries)):
             for text in texts:
                 cases.append("%s %s" % (kind, text))
-                answers.append(cases[-1] + "\n" + tell(text, dialect))
+                answers.append(cases[-1] + "\n" + tell(cases[-1], dialect))
     for name, lines in (("stdin", cases), ("stdout", answers)):
         with open("crates/entries_vectors/" + name, "w") as out:
             out.write("".join(line + "\n" for line in lines))

@@ -7,7 +7,7 @@ use mathlib.Core.List.{List, [], _∷_, _++_, map, append-nil, append-assoc}
 use native.Mathlib.Omega.{arith}
 use native.Mathlib.Numerals.{add-one}
 use borrow.Author.Tests.{eq-eqb, ne-eqb, ltb-true, ltb-false}
-use lib.Dec.{eqb, ltb}
+use lib.Dec.{ltb}
 use lib.ListN.{length, take, set, length-append, length-map, length-take}
 use lib.Seq.{take-all, take-append-le, take-suc-set, set-out, append-snoc}
 use Rattle.text.specs.Text.{byteAt}
@@ -35,7 +35,7 @@ use Rattle.entries.specs.declared.Tally.{Tally}
 use Rattle.entries.specs.declared.Entries.{Entries}
 use Rattle.entries.proofs.Stops.{broken-at}
 use Rattle.entries.proofs.Strings.{no-row, same-row, entry-whole}
-use Rattle.entries.proofs.Found.{found-end, found-is, found-past}
+use Rattle.entries.proofs.Found.{found-end, found-is}
 use Rattle.entries.proofs.Tallies.{also-reads, all-append, fold-append, map-append, one-met, entries-met, spans-told, array-spans, told-is, told-broken}
 
 -- ---- a list of one more, of which no more than n are kept

@@ -12,12 +12,11 @@ use lib.ListN.{length, getD, take, drop, length-append, length-drop, take-append
 use lib.Seq.{drop-drop, length-take-le}
 use Rattle.text.specs.Text.{isDigit, byteAt}
 use Rattle.decimal.specs.Digits.{Reading, reads, refused, leading}
-use Rattle.decimal.specs.Decimal.{Number, number, Prefix, prefixed, isWhole, fractional, prefix, read, isZero, maxWhole, maxDecimals}
-use Rattle.decimal.specs.Limits.{Within}
+use Rattle.decimal.specs.Decimal.{Number, number, Prefix, prefixed, isWhole, fractional, prefix, read, maxWhole, maxDecimals}
 use Rattle.decimal.specs.declared.Decimal.{Decimal}
 use Rattle.decimal.proofs.Digits.{Digits, none, one, digit-in}
 use Rattle.decimal.proofs.Scan.{prefix-refused, prefix-pointed, pointed-plain, pointed-fraction, read-all}
-use Rattle.decimal.proofs.RoundTrip.{Shape, plain, with-point, read-shape, prefix-stop, read-within}
+use Rattle.decimal.proofs.RoundTrip.{Shape, plain, with-point, read-shape, prefix-stop}
 use Rattle.json_tokens.specs.Tokens.{At, blanks, chars, separator, stringRest, string}
 use Rattle.json_tokens.proofs.Laws.{here, in-byte, string-yes}
 use Rattle.entries.specs.Places.{inner}
@@ -30,7 +29,6 @@ use Rattle.entries.specs.declared.EntryPlace.{EntryPlace}
 use Rattle.entries.specs.declared.Amounts.{Amounts}
 use Rattle.entries.specs.declared.QuotedDecimal.{QuotedDecimal}
 use Rattle.entries.proofs.Strings.{no-row, same-row}
-use Rattle.entries.proofs.Found.{found-past}
 
 -- ---- a decimal takes a byte at least
 
@@ -176,12 +174,6 @@ module _ (form : Form) (depth : ℕ) (s : List ℕ) (at : ℕ) (a : Amounts) (d 
   pub size-reads : read (inner s (sizeSpan found)) ≡ reads (number (a .size))
   unfolding entryPlaceOf
   size-reads = ap (λ (x : EntryPlace). read (inner s (sizeSpan x))) found-is ∙ d .size
-
-  pub decimals-past : at < e
-  decimals-past =
-      let n = decimals-end in
-      let p = found-past form depth s at found refl (λ z. more (sym n ∙ z)) in
-      omega arith
 
 -- ---- the numbers of two texts, and whether check 8 refuses them, by what is read of them
 

@@ -10,12 +10,12 @@ use Rattle.decimal.specs.Limits.{Within}
 use Rattle.decimal.proofs.RoundTrip.{read-within}
 use Rattle.json.specs.Json.{Span}
 use Rattle.entries.specs.Places.{inner}
-use Rattle.entries.specs.Rows.{numberAt}
+use Rattle.entries.specs.Rows.{numberIn, numberAt}
 
 pub number-within : (s : List ℕ) (a : Span) → Within (numberAt s a)
 unfolding numberAt
 number-within s a = go (read (inner s a)) refl
   where
-    go : (x : Reading Number) → read (inner s a) ≡ x → Within (elim x [ reads n ↦ n | refused ↦ record { digits = 0; decimals = 0 } ])
+    go : (x : Reading Number) → read (inner s a) ≡ x → Within (numberIn x)
     go (reads n) h = read-within (inner s a) n h
     go refused h = record { few = omega arith; low = lit< tt }

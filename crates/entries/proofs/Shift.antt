@@ -10,10 +10,10 @@ use lib.ListN.{length, take, drop, length-drop, length-map}
 use lib.Seq.{drop-drop, take-all}
 use Rattle.text.specs.Text.{byteAt}
 use Rattle.decimal.specs.Digits.{Reading, reads, refused}
-use Rattle.decimal.specs.Decimal.{read, isZero}
+use Rattle.decimal.specs.Decimal.{read}
 use Rattle.edit.specs.Buffer.{maxBuffered, entriesIn}
 use Rattle.edit.specs.declared.Side.{Side}
-use Rattle.json_tokens.specs.Tokens.{End, At, Broken}
+use Rattle.json_tokens.specs.Tokens.{At, Broken}
 use Rattle.json_tokens.specs.Ends.{endOf}
 use Rattle.json_tokens.proofs.Laws.{end-at}
 use Rattle.json_tokens.proofs.Bounds.{bounds, end-broken}
@@ -23,8 +23,8 @@ use Rattle.json.specs.Fold.{foldFrom}
 use Rattle.json.proofs.Bounds.{value-in}
 use Rattle.json.proofs.Shift.{shiftedSpan, ItemsShifts, both-items, no-items, value-shifts, elements-shift}
 use Rattle.entries.specs.Places.{andThen, all, isString, contents, arrayAt, inner}
-use Rattle.entries.specs.Rows.{Row, Entry, sided, rowK, rowM, rowOf, entryOf, entriesAt, sidedAt, badPrice, badSize, isBad, numberAt, numbersAt}
-use Rattle.entries.specs.Tally.{toldNot, withEntry, oneMore, orNot, oneSpan, spansTally, arrayTally, toldAt, met, Met}
+use Rattle.entries.specs.Rows.{Row, Entry, sided, rowK, rowM, rowOf, entryOf, entriesAt, sidedAt, isBadPrice, isBadSize, badPrice, badSize, isBad, numberIn, numberAt, numbersAt}
+use Rattle.entries.specs.Tally.{toldNot, oneMore, orNot, oneSpan, spansTally, arrayTally, toldAt, met, Met}
 use Rattle.entries.specs.declared.Form.{Form}
 use Rattle.entries.specs.declared.Form.the-variants.{Triple, Pair}
 use Rattle.entries.specs.declared.Tally.{Tally}
@@ -67,15 +67,15 @@ module _ (k : ℕ) (s : List ℕ) (a : Span) where
 
   pub number-shift : numberAt s (shiftedSpan k a) ≡ numberAt (drop k s) a
   unfolding numberAt
-  number-shift = ap (λ (t : List ℕ). elim (read t) [ reads n ↦ n | refused ↦ record { digits = 0; decimals = 0 } ]) inner-shift
+  number-shift = ap (λ (t : List ℕ). numberIn (read t)) inner-shift
 
   pub price-shift : badPrice s (shiftedSpan k a) ≡ badPrice (drop k s) a
   unfolding badPrice
-  price-shift = ap (λ (t : List ℕ). elim (read t) [ reads n ↦ isZero n | refused ↦ true ]) inner-shift
+  price-shift = ap (λ (t : List ℕ). isBadPrice (read t)) inner-shift
 
   pub size-shift : (snapshot : Bool) → badSize snapshot s (shiftedSpan k a) ≡ badSize snapshot (drop k s) a
   unfolding badSize
-  size-shift snapshot = ap (λ (t : List ℕ). elim (read t) [ reads n ↦ snapshot && isZero n | refused ↦ true ]) inner-shift
+  size-shift snapshot = ap (λ (t : List ℕ). isBadSize snapshot (read t)) inner-shift
 
   string-shift : isString s (shiftedSpan k a) ≡ isString (drop k s) a
   unfolding isString shiftedSpan

@@ -1,11 +1,10 @@
 -- What is told of the entries of a message, array by array: the tally and the buffer go on telling what was read. Assumes nothing.
-use Prim.Native.Nat.{ℕ, zero, suc, _+_, _-_, _≤_}
-use mathlib.Core.Path.{_≡_, refl, sym, ap, ap₂, _∙_}
-use mathlib.Core.Bool.{Bool, true, false, cond}
+use Prim.Native.Nat.{ℕ, zero, suc, _+_, _-_}
+use mathlib.Core.Path.{_≡_, refl, sym, ap, _∙_}
+use mathlib.Core.Bool.{true, false, cond}
 use mathlib.Core.List.{List, [], _∷_, _++_, map, append-nil, append-assoc}
 use native.Mathlib.Omega.{arith}
-use lib.ListN.{length, take, length-append, length-map}
-use lib.Seq.{take-all, take-append-le}
+use lib.ListN.{length, take, length-append}
 use Rattle.decimal.specs.Digits.{Reading, reads, refused}
 use Rattle.edit.specs.Edit.{Numbers, isSame, forSide}
 use Rattle.edit.specs.Buffer.{maxBuffered, bufferWords, entriesIn}

@@ -1,21 +1,28 @@
-// Runs the texts of standard input, a case to a line, and writes what the crate `entries` answers of the value at the start of each:
+// Runs the lines of standard input, a case each, and writes what the crate `entries` answers of the value that stands at 2 of it:
 //
 //     K TEXT    an entry of dialect K: its end, and the texts of its price and its size
 //     M TEXT    an entry of dialect M
-//     k TEXT    an array of entries of dialect K: its end, how many there are, and which faults they have
+//     k TEXT    an array of entries of dialect K, read as bids: its end, how many there are, where the first bad one begins, outside a snapshot
+//               and in one, and the digits and the decimals of each price and size that the buffer has
 //     m TEXT    an array of entries of dialect M
 //
 // Other lines are headings. What is to come was worked out apart from the crate, by tools/entries_vectors.py.
+use decimal::Decimal;
+use edit::BUFFER_WORDS;
+use edit::MAX_BUFFERED;
+use edit::Side;
 use entries::ENTRY_DEPTH;
 use entries::Entries;
 use entries::EntryPlace;
 use entries::Form;
+use entries::none_yet;
 use libc::STDIN_FILENO;
 use libc::STDOUT_FILENO;
 use lines::LINE_END;
 use lines::find;
-ghost use Prim.Native.Nat.{_≤_};
+ghost use mathlib.Core.Path.{_≡_};
 ghost use lib.ListN.{length};
+ghost use Rattle.edit.specs.Buffer.{bufferWords};
 
 fn main() {
     let mut table = io::large_buffer();
@@ -50,15 +57,14 @@ fn line(s: &[u8]) {
         return;
     }
     let c = s[0];
-    let text = &s[2..];
     if c == b'K' {
-        tell_entry(text, entries::entry_at(text, 0, ENTRY_DEPTH, Form::Triple));
+        tell_entry(s, entries::entry_at(s, 2, ENTRY_DEPTH, Form::Triple));
     } else if c == b'M' {
-        tell_entry(text, entries::entry_at(text, 0, ENTRY_DEPTH, Form::Pair));
+        tell_entry(s, entries::entry_at(s, 2, ENTRY_DEPTH, Form::Pair));
     } else if c == b'k' {
-        tell_entries(entries::entries_at(text, 0, ENTRY_DEPTH + 1, Form::Triple));
+        array(s, Form::Triple);
     } else if c == b'm' {
-        tell_entries(entries::entries_at(text, 0, ENTRY_DEPTH + 1, Form::Pair));
+        array(s, Form::Pair);
     }
 }
 
@@ -70,23 +76,71 @@ fn tell_entry(s: &[u8], found: EntryPlace) {
     }
 }
 
-fn tell_entries(sum: Entries) {
-    end(sum.end);
-    if sum.well_formed {
+fn array(s: &[u8], form: Form) {
+    let mut buffer: [u64; BUFFER_WORDS] = [0; BUFFER_WORDS];
+    let read = entries::entries_at(
+        s,
+        2,
+        ENTRY_DEPTH + 1,
+        form,
+        Side::Bids,
+        none_yet(),
+        &mut buffer,
+    );
+    tell_entries(read, &buffer);
+}
+
+fn tell_entries(read: Entries, buffer: &[u64; BUFFER_WORDS])
+    requires { ⌜ length (now buffer) ≡ bufferWords ⌝ }
+{
+    end(read.end);
+    let met = read.tally;
+    if met.well_formed {
         write(b" entries ");
-        io::print_decimal(STDOUT_FILENO, sum.count as u64);
+        number(met.bids as u64);
+        if 0 < met.broken_at {
+            write(b" broken ");
+            number(met.broken_at as u64);
+        }
+        if 0 < met.strict_at {
+            write(b" strict ");
+            number(met.strict_at as u64);
+        }
+        numbers(buffer, met.bids);
     }
-    if sum.broken {
-        write(b" broken");
+}
+
+// The numbers of the first n entries of the buffer, or of all that it has.
+fn numbers(buffer: &[u64; BUFFER_WORDS], n: usize)
+    requires { ⌜ length (now buffer) ≡ bufferWords ⌝ }
+{
+    let mut k = 0;
+    while k < n {
+        if MAX_BUFFERED <= k {
+            return;
+        }
+        let entry = edit::entry_in(buffer, k);
+        write(b"\n    ");
+        decimal(entry.price);
+        write(b" ");
+        decimal(entry.size);
+        k += 1;
     }
-    if sum.zero {
-        write(b" zero");
-    }
+}
+
+fn decimal(a: Decimal) {
+    number(decimal::digits_of(a));
+    write(b"/");
+    number(decimal::decimals_of(a));
+}
+
+fn number(n: u64) {
+    io::print_decimal(STDOUT_FILENO, n);
 }
 
 fn end(e: usize) {
     write(b"\n  end ");
-    io::print_decimal(STDOUT_FILENO, e as u64);
+    number(e as u64);
 }
 
 fn part(s: &[u8], from: usize, to: usize) {

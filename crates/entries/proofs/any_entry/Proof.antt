@@ -1,10 +1,10 @@
 -- `any_entry` meets its contract: the two texts that were found are read, counted by what they say, and put as numbers.
 use mathlib.Core.Bool.{Bool, true, false, _||_}
-use mathlib.Core.Path.{_≡_, refl, sym, ap, ap₂, _∙_, subst}
+use mathlib.Core.Path.{_≡_, refl, sym, ap₂, _∙_, subst}
 use Rattle.decimal.specs.Decimal.{number}
 use Rattle.decimal.specs.Limits.{Within}
 use Rattle.decimal.specs.Reads.{parsed}
-use Rattle.entries.specs.Rows.{numberIn, numberAt}
+use Rattle.entries.specs.Rows.{numberAt}
 use Rattle.entries.specs.Found.{priceSpan, sizeSpan}
 use Rattle.entries.proofs.Numbers.{number-within}
 use Rattle.entries.proofs.Decimals.{bad-by, price-by, size-by}

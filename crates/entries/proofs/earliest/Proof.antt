@@ -1,5 +1,4 @@
 -- `earliest` meets its contract: a position that is known stays, and 0 says that none is known.
-use mathlib.Core.Path.{_≡_}
 use Rattle.entries.specs.Tally.{earliest}
 use borrow.Author.Tests.{eq-eqb, ne-eqb}
 use Rattle.entries.proofs.earliest.Statement.{statement}

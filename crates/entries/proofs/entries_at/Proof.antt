@@ -1,13 +1,11 @@
 -- `entries_at` meets its contract: the text from the array on stands at `at` of the message, and a value that is no array is no array of entries.
-use Prim.Native.Nat.{ℕ, _+_, _-_, _≤_, _<_}
-use mathlib.Core.Path.{_≡_, refl, sym, ap, _∙_, subst}
-use mathlib.Core.List.{List}
+use Prim.Native.Nat.{_+_, _-_, _<_}
+use mathlib.Core.Path.{_≡_, sym, ap, _∙_}
 use native.Mathlib.Omega.{arith}
 use lib.ListN.{length, drop, length-drop}
 use Rattle.text.specs.Text.{byteAt}
 use Rattle.json_tokens.proofs.Laws.{in-byte}
 use Rattle.json_tokens.proofs.Shift.{byte-shift}
-use Rattle.entries.specs.Tally.{toldNot, Met}
 use Rattle.entries.proofs.Arrays.{met-other}
 use Rattle.entries.proofs.Shift.{part-is, met-inside, met-later, met-later-broken}
 use borrow.Author.Needs.{needs}

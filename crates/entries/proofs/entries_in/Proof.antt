@@ -1,11 +1,8 @@
 -- `entries_in` meets its contract: wherever the loop stands, the elements that were passed were met, and what is left of the array is the rest of them.
-use Prim.Native.Nat.{ℕ, suc, _+_, _-_, _≤_}
-use mathlib.Core.List.{List}
+use Prim.Native.Nat.{suc, _-_}
 use mathlib.Core.Path.{_≡_}
 use native.Mathlib.Omega.{arith}
 use lib.ListN.{length}
-use Rattle.entries.specs.Tally.{Counted}
-use Rattle.entries.specs.Found.{entryPlaceAt}
 use Rattle.entries.proofs.Arrays.{Going, going-empty, going-start, going-further, going-on, going-last, going-broken, going-wrong}
 use borrow.Author.Needs.{needs}
 use Rattle.entries.proofs.entries_in.Statement.{statement}

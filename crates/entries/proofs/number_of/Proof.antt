@@ -1,6 +1,5 @@
 -- `number_of` meets its contract: what was read is a decimal, or none.
 use mathlib.Core.Path.{_∙_, ap, sym}
-use Rattle.decimal.specs.Decimal.{number}
 use Rattle.decimal.specs.Reads.{parsed}
 use Rattle.decimal.specs.declared.Parsed.{Parsed}
 use Rattle.entries.specs.Rows.{numberIn}

@@ -16,7 +16,6 @@ use Rattle.settings.specs.declared.Settings.{Settings}
 use Rattle.settings.specs.declared.Dialect.{Dialect}
 use Rattle.settings.specs.declared.Dialect.the-variants.{K, M, Unknown}
 use Rattle.decimal.specs.Digits.{reads}
-use Rattle.edit.specs.Buffer.{bufferWords}
 use Rattle.entries.specs.Tally.{Kept}
 use Rattle.layout.specs.Layout.{isSnapshot, Layout}
 use Rattle.layout.specs.declared.Kind.{Kind}
@@ -97,5 +96,4 @@ judged settings now number s =
 -- What `judge` promises: the verdict, and that the buffer has the entries of a message that passes.
 pub record JudgedAs (settings : Settings) (now : Lifecycle) (number : ℕ) (s buffer : List ℕ) (r : Verdict) : Type 0 where
   pub told : r ≡ judged settings now number s
-  pub room : length buffer ≡ bufferWords
   pub kept : isShut (statusOf (now .state)) ≡ false → (l : Layout) → checked (configOf settings) s ≡ passes l → Kept s (reads (l .entries)) buffer

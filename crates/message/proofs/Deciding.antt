@@ -1,8 +1,8 @@
 -- The checks by what one walk over a message tells are the checks of the message.
 -- Assumes nothing.
-use mathlib.Core.Path.{_≡_, refl, sym, _∙_}
-use mathlib.Core.List.{List, [], _∷_, _++_}
-use mathlib.Core.Bool.{Bool, true, false, true≢false, _&&_, _||_, cond}
+use mathlib.Core.Path.{_≡_, refl, sym, ap, ap₂, _∙_}
+use mathlib.Core.List.{List, [], _∷_}
+use mathlib.Core.Bool.{Bool, true, false, _||_, cond}
 use Prim.Native.Nat.{ℕ}
 use native.Mathlib.Omega.{arith}
 use borrow.Author.Tests.{eq-eqb, ne-eqb}
@@ -14,16 +14,18 @@ use Rattle.json_tokens.proofs.Bounds.{bounds}
 use Rattle.json.specs.Json.{Span, value, text}
 use Rattle.json.proofs.Bounds.{value-in}
 use Rattle.entries.specs.Places.{top}
+use Rattle.edit.specs.declared.Side.the-variants.{Bids, Asks}
 use Rattle.entries.specs.Rows.{badTexts}
-use Rattle.entries.specs.Summary.{anyBroken, anyZero}
-use Rattle.entries.proofs.Claims.{broken-none, none-broken, zero-none, none-zero}
-use Rattle.layout.specs.Layout.{isSnapshot, Listed, Layout, Envelope}
-use Rattle.layout.specs.Scan.{anyBad, outlineOf, scanOf, scanAt}
-use Rattle.layout.specs.declared.Kind.{Kind}
-use Rattle.layout.specs.declared.Kind.the-variants.{Snapshot, Update}
+use Rattle.entries.specs.Tally.{tallyOf}
+use Rattle.entries.specs.declared.Form.{Form}
+use Rattle.entries.specs.declared.Tally.{Tally}
+use Rattle.entries.proofs.Tallies.{tally-formed, tally-bids, tally-asks}
+use Rattle.entries.proofs.Claims.{AllHere, badAt, bad-none, none-bad, FirstBad, first-bad}
+use Rattle.layout.specs.Layout.{isSnapshot, Layout, Envelope}
+use Rattle.layout.specs.Scan.{badAt as layoutBad, isPrinted, sumOf, noOutline, outlineFrom, outlineOf, scanOf, scanAt}
 use Rattle.layout.specs.declared.Outline.{Outline}
 use Rattle.layout.specs.declared.Scan.{Scan}
-use Rattle.message.specs.Meaning.{fails, passes, bad, decimals, tooMany, counted, laidOut, addressed}
+use Rattle.message.specs.Meaning.{fails, passes, bad, decimals, entriesFor, tooMany, counted, laidOut, addressed}
 use Rattle.message.specs.Verdict.{verdictOf}
 use Rattle.message.specs.Deciding.{laidOutline, addressedScan, decided}
 use Rattle.answer.specs.declared.Answer.the-variants.{NotJson, Escaped, NotOurs, BadLayout, TooManyEntries, BadDecimal}
@@ -80,14 +82,70 @@ module _ (most : ℕ) (t : Scan) where
     decided-more g = let e = ne-eqb (t .end) 0 h in sym (rw (e, g, decided))
 
 -- ---- the whole
+
+-- the outline of a layout, whose entries are entries
+module _ (s : List ℕ) (l : Layout) where
+  abbrev t : Tally
+  t = tallyOf s (l .entries)
+
+  abbrev whole : Outline
+  whole = record { «well_formed» = true; kind = l .kind; bids = t .bids; asks = t .asks; «bad_at» = layoutBad (l .kind) t; printed = isPrinted (l .checksum); checksum = sumOf (l .checksum); number = l .number }
+
+  outline-is : outlineOf s (reads l) ≡ whole
+  unfolding outlineOf outlineFrom
+  outline-is = ap (λ (b : Bool). cond b whole noOutline) (tally-formed s (l .entries))
+
+  outline-reads : outlineOf s (reads l) .«well_formed» ≡ true
+  outline-reads = ap (λ (o : Outline). o .«well_formed») outline-is
+
+  pub outline-bids : outlineOf s (reads l) .bids ≡ length (entriesFor Bids l)
+  outline-bids = ap (λ (o : Outline). o .bids) outline-is ∙ tally-bids s (l .entries)
+
+  pub outline-asks : outlineOf s (reads l) .asks ≡ length (entriesFor Asks l)
+  outline-asks = ap (λ (o : Outline). o .asks) outline-is ∙ tally-asks s (l .entries)
+
+  pub outline-kind : outlineOf s (reads l) .kind ≡ l .kind
+  outline-kind = ap (λ (o : Outline). o .kind) outline-is
+
+  pub outline-printed : outlineOf s (reads l) .printed ≡ isPrinted (l .checksum)
+  outline-printed = ap (λ (o : Outline). o .printed) outline-is
+
+  pub outline-checksum : outlineOf s (reads l) .checksum ≡ sumOf (l .checksum)
+  outline-checksum = ap (λ (o : Outline). o .checksum) outline-is
+
+  pub outline-number : outlineOf s (reads l) .number ≡ l .number
+  outline-number = ap (λ (o : Outline). o .number) outline-is
+
+  pub outline-bad : outlineOf s (reads l) .«bad_at» ≡ badAt (isSnapshot (l .kind)) t
+  unfolding layoutBad
+  outline-bad = ap (λ (o : Outline). o .«bad_at») outline-is ∙ go (isSnapshot (l .kind))
+    where
+      go : (b : Bool) → cond b (t .«strict_at») (t .«broken_at») ≡ badAt b t
+      go true = refl
+      go false = refl
+
+-- check 7, by the counts
+few-entries : (most : ℕ) (o : Outline) (b a : ℕ) → o .«well_formed» ≡ true → o .bids ≡ b → o .asks ≡ a
+    → laidOutline most o ≡ cond (ltb most b || ltb most a) (Fails TooManyEntries) (Passes o)
+unfolding laidOutline
+few-entries most o b a h p q =
+    ap (λ (x : Bool). cond x (cond (ltb most (o .bids) || ltb most (o .asks)) (Fails TooManyEntries) (Passes o)) (Fails BadLayout)) h
+    ∙ ap₂ (λ (x y : ℕ). cond (ltb most x || ltb most y) (Fails TooManyEntries) (Passes o)) p q
+
+refused-laid : (most : ℕ) (s : List ℕ) → laidOutline most (outlineOf s refused) ≡ verdictOf s (laidOut most refused)
+unfolding laidOutline outlineOf laidOut verdictOf
+refused-laid most s = refl
+
 laid-is : (most : ℕ) (s : List ℕ) (l : Reading Layout) → laidOutline most (outlineOf s l) ≡ verdictOf s (laidOut most l)
-unfolding laidOutline outlineOf laidOut counted tooMany verdictOf
-laid-is most s (reads l) = at (ltb most (length (l .bids .rows)) || ltb most (length (l .asks .rows)))
+unfolding laidOut counted tooMany verdictOf
+laid-is most s (reads l) =
+    few-entries most (outlineOf s (reads l)) (length (entriesFor Bids l)) (length (entriesFor Asks l)) (outline-reads s l) (outline-bids s l) (outline-asks s l)
+    ∙ at (ltb most (length (entriesFor Bids l)) || ltb most (length (entriesFor Asks l)))
   where
     at : (b : Bool) → cond b (Fails TooManyEntries) (Passes (outlineOf s (reads l))) ≡ verdictOf s (cond b (fails TooManyEntries) (passes l))
     at true = refl
     at false = refl
-laid-is most s refused = refl
+laid-is most s refused = refused-laid most s
 
 address-is : (most : ℕ) (s : List ℕ) (e : ℕ) (h : Reading Envelope) → addressedScan most (scanOf s e h) ≡ verdictOf s (addressed most h)
 unfolding addressedScan scanOf addressed verdictOf
@@ -150,51 +208,27 @@ module _ (most : ℕ) (hear : List ℕ → Span → Reading Envelope) (s : List 
       go Broken v = decided-none v
 
 -- ---- check 8
+module _ (form : Form) (s : List ℕ) (l : Layout) (stand : AllHere form 13 s (l .entries)) where
+  -- where the first bad text begins, or 0
+  abbrev at : ℕ
+  at = outlineOf s (reads l) .«bad_at»
 
--- nothing is bad exactly if no text breaks a rule
-bad-side : (kind : Kind) (s : List ℕ) (l : Listed) (b : Bool) → anyBad kind s l ≡ b
-    → (b ≡ false → badTexts (isSnapshot kind) s (l .rows) ≡ []) × (badTexts (isSnapshot kind) s (l .rows) ≡ [] → b ≡ false)
-unfolding anyBad isSnapshot
-bad-side Snapshot s l b h = (none (anyBroken s (l .rows)) (anyZero s (l .rows)) refl refl h, λ e. let z = zero-none s (l .rows) e in sym h ∙ rw (z .0, z .1))
-  where
-    none : (x y : Bool) → anyBroken s (l .rows) ≡ x → anyZero s (l .rows) ≡ y → (x || (true && y)) ≡ b → b ≡ false → badTexts true s (l .rows) ≡ []
-    none true y p q g n = absurd (true≢false (g ∙ n))
-    none false true p q g n = absurd (true≢false (g ∙ n))
-    none false false p q g n = none-zero s (l .rows) p q
-bad-side Update s l b h = (none (anyBroken s (l .rows)) refl h, λ e. let z = broken-none s (l .rows) e in sym h ∙ rw z)
-  where
-    none : (x : Bool) → anyBroken s (l .rows) ≡ x → (x || (false && anyZero s (l .rows))) ≡ b → b ≡ false → badTexts false s (l .rows) ≡ []
-    none true p g n = absurd (true≢false (g ∙ n))
-    none false p g n = none-broken s (l .rows) p
+  pub no-bad : at ≡ 0 → bad s l ≡ []
+  unfolding bad
+  no-bad h = none-bad (isSnapshot (l .kind)) s form 13 (l .entries) stand (sym (outline-bad s l) ∙ h)
 
-module _ (s : List ℕ) (l : Layout) where
-  abbrev x : Bool
-  x = anyBad (l .kind) s (l .bids)
+  pub none-decimals : at ≡ 0 → decimals s l ≡ passes l
+  unfolding decimals
+  none-decimals h = ap (λ (u : List Span). elim u [ [] ↦ passes l | a ∷ rest ↦ fails BadDecimal ]) (no-bad h)
 
-  abbrev y : Bool
-  y = anyBad (l .kind) s (l .asks)
-
-  pub none-bad : (x || y) ≡ false → decimals s l ≡ passes l
+  pub some-decimals : (at ≡ 0 → ⊥) → decimals s l ≡ fails BadDecimal
   unfolding decimals bad
-  none-bad h = at x y refl refl h
+  some-decimals n = go (badTexts (isSnapshot (l .kind)) s (l .entries)) refl
     where
-      at : (u v : Bool) → x ≡ u → y ≡ v → (u || v) ≡ false → elim (badTexts (isSnapshot (l .kind)) s (l .bids .rows) ++ badTexts (isSnapshot (l .kind)) s (l .asks .rows)) [ [] ↦ passes l | a ∷ rest ↦ fails BadDecimal ] ≡ passes l
-      at true v p q g = absurd (true≢false g)
-      at false true p q g = absurd (true≢false g)
-      at false false p q g =
-          let b = bad-side (l .kind) s (l .bids) false p .0 refl in
-          let a = bad-side (l .kind) s (l .asks) false q .0 refl in
-          rw (b, a)
+      go : (u : List Span) → badTexts (isSnapshot (l .kind)) s (l .entries) ≡ u → elim u [ [] ↦ passes l | a ∷ rest ↦ fails BadDecimal ] ≡ fails BadDecimal
+      go (a ∷ u) p = refl
+      go [] p = absurd (n (outline-bad s l ∙ bad-none (isSnapshot (l .kind)) s form 13 (l .entries) stand p))
 
-  pub some-bad : (x || y) ≡ true → decimals s l ≡ fails BadDecimal
-  unfolding decimals bad
-  some-bad h = go (badTexts (isSnapshot (l .kind)) s (l .bids .rows)) (badTexts (isSnapshot (l .kind)) s (l .asks .rows)) refl refl
-    where
-      go : (u v : List Span) → badTexts (isSnapshot (l .kind)) s (l .bids .rows) ≡ u → badTexts (isSnapshot (l .kind)) s (l .asks .rows) ≡ v
-          → elim (u ++ v) [ [] ↦ passes l | a ∷ rest ↦ fails BadDecimal ] ≡ fails BadDecimal
-      go (a ∷ u) v p q = refl
-      go [] (a ∷ v) p q = refl
-      go [] [] p q =
-          let b = bad-side (l .kind) s (l .bids) x refl .1 p in
-          let a = bad-side (l .kind) s (l .asks) y refl .1 q in
-          absurd (true≢false (sym h ∙ rw (b, a)))
+  -- the first bad text, where there is one
+  pub first-text : (at ≡ 0 → ⊥) → FirstBad form 13 s (isSnapshot (l .kind)) (l .entries) at
+  first-text n = rw (outline-bad s l) (first-bad (isSnapshot (l .kind)) s form 13 (l .entries) stand (λ z. n (outline-bad s l ∙ z)))

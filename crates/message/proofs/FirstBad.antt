@@ -1,130 +1,71 @@
--- The first bad text of a message, from those of its sides.
+-- The first bad text of a message, from where the first bad entry begins.
 -- Assumes nothing.
-use mathlib.Core.Path.{_≡_, refl, sym, ap, ap₂, _∙_, subst}
-use mathlib.Core.List.{List, [], _∷_, map}
-use mathlib.Core.Bool.{Bool, true, false, true≢false, _&&_, cond}
-use Prim.Native.Nat.{ℕ, _+_, _≤_, _<_}
+use mathlib.Core.Path.{_≡_, refl, sym, ap, _∙_}
+use mathlib.Core.List.{List, [], _∷_}
+use mathlib.Core.Bool.{Bool, true, false, cond}
+use Prim.Native.Nat.{ℕ, _≤_}
 use native.Mathlib.Omega.{arith}
-use borrow.Author.Tests.{eq-eqb, ne-eqb, lt-ltb, le-ltb}
-use lib.Dec.{eqb, ltb}
-use lib.ListN.{length, drop, length-drop}
+use borrow.Author.Tests.{eqb-true, eqb-false, eq-eqb, ne-eqb}
+use lib.Dec.{eqb}
+use lib.ListN.{length}
 use Rattle.decimal.specs.Digits.{reads}
 use Rattle.json.specs.Json.{Span}
-use Rattle.json.proofs.Shift.{shiftedSpan}
 use Rattle.settings.specs.Settings.{Config, good}
-use Rattle.entries.specs.Rows.{Row, badTexts, firstOf}
-use Rattle.entries.proofs.Shift.{texts-shift, shifted-rows}
-use Rattle.layout.specs.Layout.{isSnapshot, Listed, Layout}
+use Rattle.entries.specs.Rows.{badPrice, badTexts, firstOf}
+use Rattle.entries.specs.Found.{entryPlaceAt, priceSpan, sizeSpan, Placed}
+use Rattle.entries.specs.declared.EntryPlace.{EntryPlace}
+use Rattle.entries.specs.declared.Form.{Form}
+use Rattle.entries.proofs.Claims.{AllHere, FirstBad}
+use Rattle.layout.specs.Layout.{isSnapshot, Layout}
 use Rattle.layout.specs.Scan.{outlineOf}
 use Rattle.layout.specs.declared.Outline.{Outline}
-use Rattle.entries.specs.Arrays.{rowsAt, Ready}
-use Rattle.entries.specs.declared.Form.{Form}
-use Rattle.first_bad.specs.Places.{noPlace, placeOf, First}
-use Rattle.first_bad.specs.declared.Place.{Place}
-use Rattle.message.specs.Meaning.{Checked, fails, passes, framed, earlier, firstBad, firstBadOf, badDecimal}
+use Rattle.message.specs.Meaning.{Checked, fails, passes, framed, bad, firstBad, firstBadOf, badDecimal}
 use Rattle.message.specs.Verdict.{verdictOf}
-use Rattle.message.specs.Bad.{partOf, movedBy, badAt, earlierPlace, Within, PlaceIs, PartIs}
+use Rattle.message.specs.Bad.{partOf, formOf, badOf, badIn, Within, PartIs}
 use Rattle.answer.specs.declared.Answer.{Answer}
 use Rattle.message.specs.declared.Part.{Part}
 use Rattle.message.specs.declared.Verdict.{Verdict}
 use Rattle.message.specs.declared.Verdict.the-variants.{Fails, Passes}
-use Rattle.message.proofs.Where.{formIn, Lies, nowhere, there, framed-lies}
-use Rattle.message.proofs.Entering.{framed-few, listed-ready}
+use Rattle.message.proofs.Deciding.{no-bad, first-text}
+use Rattle.message.proofs.Where.{framed-lies}
 
--- ---- of two places the one that is written first
+-- ---- the first bad text of a layout
 
-module _ (b a : Place) where
-  pub earlier-ask : b .bad ≡ true → a .bad ≡ true → a .from < b .from → record { from = a .from; to = a .to } ≡ earlierPlace b a
-  unfolding earlierPlace
-  earlier-ask h g l = let e = lt-ltb (a .from) (b .from) l in sym (rw (h, g, e, earlierPlace))
-
-  pub earlier-bid : b .bad ≡ true → a .bad ≡ true → b .from ≤ a .from → record { from = b .from; to = b .to } ≡ earlierPlace b a
-  unfolding earlierPlace
-  earlier-bid h g l = let e = le-ltb (a .from) (b .from) l in sym (rw (h, g, e, earlierPlace))
-
-  pub earlier-only : b .bad ≡ true → a .bad ≡ false → record { from = b .from; to = b .to } ≡ earlierPlace b a
-  unfolding earlierPlace
-  earlier-only h g = sym (rw (h, g, earlierPlace))
-
-  pub earlier-other : b .bad ≡ false → record { from = a .from; to = a .to } ≡ earlierPlace b a
-  unfolding earlierPlace
-  earlier-other h = sym (rw (h, earlierPlace))
-
-  pub earlier-within : (s : List ℕ) → Within s (b .from) (b .to) → Within s (a .from) (a .to) → (r : Part) → r ≡ earlierPlace b a → Within s (r .from) (r .to)
-  unfolding earlierPlace
-  earlier-within s p q r e = subst (λ (x : Part). Within s (x .from) (x .to)) (sym e) (at (b .bad) (a .bad && ltb (a .from) (b .from)))
-    where
-      part-of : Place → Part
-      part-of x = record { from = x .from; to = x .to }
-
-      at : (u v : Bool) → Within s (cond u (cond v (part-of a) (part-of b)) (part-of a) .from) (cond u (cond v (part-of a) (part-of b)) (part-of a) .to)
-      at true true = q
-      at true false = p
-      at false v = q
-
-earlier-places : (x y : List Span) → earlierPlace (placeOf x) (placeOf y) ≡ partOf (earlier x y)
-unfolding earlierPlace placeOf partOf earlier firstOf
-earlier-places [] [] = refl
-earlier-places [] (b ∷ y) = refl
-earlier-places (a ∷ x) [] = refl
-earlier-places (a ∷ x) (b ∷ y) = at (ltb (b .from) (a .from))
+span-part : (s : List ℕ) (f : EntryPlace) → partOf (cond (badPrice s (priceSpan f)) (priceSpan f) (sizeSpan f)) ≡ badOf s f
+unfolding badOf
+span-part s f = go (badPrice s (priceSpan f))
   where
-    at : (t : Bool) → cond t (record { from = b .from; to = b .to }) (record { from = a .from; to = a .to }) ≡ partOf (cond t b a)
-    at true = refl
-    at false = refl
+    go : (b : Bool) → partOf (cond b (priceSpan f) (sizeSpan f)) ≡ cond b (partOf (priceSpan f)) (partOf (sizeSpan f))
+    go true = refl
+    go false = refl
 
--- ---- one side
+part-within : (s : List ℕ) (f : EntryPlace) → Placed s f → Within s (badOf s f .from) (badOf s f .to)
+unfolding badOf partOf
+part-within s f p = go (badPrice s (priceSpan f))
+  where
+    go : (b : Bool) → Within s (cond b (partOf (priceSpan f)) (partOf (sizeSpan f)) .from) (cond b (partOf (priceSpan f)) (partOf (sizeSpan f)) .to)
+    go true = let x = p .0 .0 in record { order = omega arith; inside = p .0 .1 }
+    go false = let x = p .1 .0 in record { order = omega arith; inside = p .1 .1 }
 
-moved-place : (k : ℕ) (x : List Span) → movedBy k (placeOf x) ≡ placeOf (map (shiftedSpan k) x)
-unfolding movedBy placeOf shiftedSpan
-moved-place k [] = refl
-moved-place k (a ∷ x) = refl
+no-part : partOf (firstOf []) ≡ record { from = 0; to = 0 }
+unfolding partOf firstOf
+no-part = refl
 
-module _ (form : Form) (s : List ℕ) (at count : ℕ) (snapshot : Bool) where
-  abbrev texts : List Span
-  texts = badTexts snapshot (drop at s) (rowsAt form (drop at s))
-
-  pub bad-none : count ≡ 0 → PlaceIs s (badAt form s at count snapshot) noPlace
-  unfolding badAt
-  bad-none h = let e = eq-eqb count 0 h in record { is = sym (rw (e, badAt)); within = record { order = omega arith; inside = omega arith } }
-
-  module _ (h : count ≡ 0 → ⊥) (r : Place) (f : First texts (drop at s) r) where
-    at-is : badAt form s at count snapshot ≡ movedBy at r
-    unfolding badAt
-    at-is = let e = ne-eqb count 0 h in rw (e, badAt) (ap (movedBy at) (sym (f .is)))
-
-    pub bad-found : r .bad ≡ true → at ≤ length s → PlaceIs s (badAt form s at count snapshot) (record { bad = true; from = at + r .from; to = at + r .to })
-    unfolding movedBy
-    bad-found g l =
-        let n = length-drop at s in
-        let o = f .order in
-        let i = f .inside in
-        record { is = sym (at-is ∙ rw (g, movedBy)); within = record { order = omega arith; inside = omega arith } }
-
-    pub bad-missed : r .bad ≡ false → PlaceIs s (badAt form s at count snapshot) r
-    unfolding movedBy placeOf
-    bad-missed g = record { is = go texts (f .is) ∙ sym (at-is ∙ rw (g, movedBy)); within = record { order = f .order; inside = let n = length-drop at s in let i = f .inside in omega arith } }
-      where
-        go : (x : List Span) → r ≡ placeOf x → r ≡ noPlace
-        go [] e = e
-        go (a ∷ x) e = absurd (true≢false (sym (ap (λ (z : Place). z .bad) e) ∙ g))
-
--- the entries of a side, in the whole message
-module _ (form : Form) (s : List ℕ) (snapshot : Bool) (l : Listed) where
-  side-bad : Lies form s l → badAt form s (l .at) (length (l .rows)) snapshot ≡ placeOf (badTexts snapshot s (l .rows))
-  unfolding badAt badTexts placeOf
-  side-bad (nowhere e) = rw e
-  side-bad (there to q) =
-      let x = shifted-rows (l .at) s (drop (l .at) s) refl form to (l .rows) q in
-      let w : movedBy (l .at) (placeOf (badTexts snapshot (drop (l .at) s) (rowsAt form (drop (l .at) s)))) ≡ placeOf (badTexts snapshot s (l .rows)) =
-      moved-place (l .at) (badTexts snapshot (drop (l .at) s) (rowsAt form (drop (l .at) s)))
-      ∙ ap placeOf (sym (texts-shift (l .at) s snapshot (rowsAt form (drop (l .at) s))) ∙ ap (badTexts snapshot s) (sym x)) in
-      at (l .rows) refl w
-    where
-      at : (rows : List Row) → l .rows ≡ rows → movedBy (l .at) (placeOf (badTexts snapshot (drop (l .at) s) (rowsAt form (drop (l .at) s)))) ≡ placeOf (badTexts snapshot s (l .rows))
-          → cond (eqb (length (l .rows)) 0) noPlace (movedBy (l .at) (placeOf (badTexts snapshot (drop (l .at) s) (rowsAt form (drop (l .at) s))))) ≡ placeOf (badTexts snapshot s (l .rows))
-      at [] e w = rw e
-      at (x ∷ rows) e w = let n : eqb (length (l .rows)) 0 ≡ false = ne-eqb (length (l .rows)) 0 (λ z. let y = ap length e in omega arith) in rw n w
+text-bad : (form : Form) (s : List ℕ) (l : Layout) → AllHere form 13 s (l .entries) → (n : ℕ) → n ≡ outlineOf s (reads l) .«bad_at»
+    → PartIs s (partOf (firstOf (badTexts (isSnapshot (l .kind)) s (l .entries)))) (badIn s form n)
+unfolding badIn bad
+text-bad form s l stand n q = go (eqb n 0) refl
+  where
+    go : (b : Bool) → eqb n 0 ≡ b → PartIs s (partOf (firstOf (badTexts (isSnapshot (l .kind)) s (l .entries)))) (cond b (record { from = 0; to = 0 }) (badOf s (entryPlaceAt form 13 s n)))
+    go true e =
+        record {
+          is = sym (ap (λ (x : List Span). partOf (firstOf x)) (no-bad form s l stand (sym q ∙ eqb-true n 0 e)) ∙ no-part);
+          within = record { order = omega arith; inside = omega arith };
+        }
+    go false e =
+        let f = first-text form s l stand (λ z. eqb-false n 0 e (q ∙ z)) in
+        let g : FirstBad form 13 s (isSnapshot (l .kind)) (l .entries) n = rw q f in
+        record { is = sym (ap partOf (g .first) ∙ span-part s (entryPlaceAt form 13 s n)); within = part-within s (entryPlaceAt form 13 s n) (g .placed) }
 
 -- ---- the message
 
@@ -146,27 +87,38 @@ module _ (t : Config) (s : List ℕ) (h : good t ≡ true) (v : Verdict) (is : v
         go (fails b) k = let z : _≡_ {A = ℕ} 0 1 = cc in absurd (omega arith)
         go (passes l) k = let e : outlineOf s (reads l) ≡ o = cc in (l, refl, sym e)
 
-    pub frame-ready : (form : Form) → form ≡ formIn (t .dialect) → Ready form s (o .«bids_at») (o .bids) × Ready form s (o .«asks_at») (o .asks)
-    unfolding outlineOf
-    frame-ready form q =
+    pub frame-placed : (form : Form) → form ≡ formOf (t .dialect) → (o .«bad_at» ≡ 0 → ⊥) → Placed s (entryPlaceAt form 13 s (o .«bad_at»))
+    frame-placed form q n =
         let p = passed in
         let l = p .0 in
-        let w = framed-lies t s l (p .1) in
-        let f = framed-few t s l (p .1) in
-        let d = formIn (t .dialect) in
-        rw (q, p .2) (listed-ready d s (l .bids) (f .0) (w .bids), listed-ready d s (l .asks) (f .1) (w .asks))
+        rw (q, p .2) (first-text (formOf (t .dialect)) s l (framed-lies t s l (p .1) .entries) (λ z. n (ap (λ (x : Outline). x .«bad_at») (p .2) ∙ z)) .placed)
 
-    pub frame-bad : (form : Form) → form ≡ formIn (t .dialect)
-        → earlierPlace (badAt form s (o .«bids_at») (o .bids) (isSnapshot (o .kind))) (badAt form s (o .«asks_at») (o .asks) (isSnapshot (o .kind))) ≡ partOf (firstBadOf s (framed t s))
-    unfolding outlineOf firstBadOf firstBad
+    pub frame-bad : (form : Form) → form ≡ formOf (t .dialect) → PartIs s (partOf (firstBadOf s (framed t s))) (badIn s form (o .«bad_at»))
+    unfolding firstBadOf firstBad bad badIn
     frame-bad form q =
         let p = passed in
         let l = p .0 in
-        let w = framed-lies t s l (p .1) in
-        let d = formIn (t .dialect) in
-        let b = side-bad d s (isSnapshot (l .kind)) (l .bids) (w .bids) in
-        let a = side-bad d s (isSnapshot (l .kind)) (l .asks) (w .asks) in
-        rw (q, p .2, p .1) (ap₂ earlierPlace b a ∙ earlier-places (badTexts (isSnapshot (l .kind)) s (l .bids .rows)) (badTexts (isSnapshot (l .kind)) s (l .asks .rows)))
+        let stand = framed-lies t s l (p .1) .entries in
+        rw (q, p .2, p .1) (text-bad (formOf (t .dialect)) s l stand (outlineOf s (reads l) .«bad_at») refl)
+
+-- ---- the price or the size of the entry at a position
+module _ (s : List ℕ) (form : Form) (at : ℕ) where
+  pub in-none : at ≡ 0 → record { from = 0; to = 0 } ≡ badIn s form at
+  unfolding badIn
+  in-none h = sym (rw (eq-eqb at 0 h, badIn))
+
+  module _ (h : at ≡ 0 → ⊥) (f : EntryPlace) (e : f ≡ entryPlaceAt form 13 s at) where
+    is-entry : badOf s f ≡ badIn s form at
+    unfolding badIn
+    is-entry = ap (badOf s) e ∙ sym (rw (ne-eqb at 0 h, badIn))
+
+    pub in-price : badPrice s (priceSpan f) ≡ true → record { from = f .«price_from»; to = f .«price_to» } ≡ badIn s form at
+    unfolding badOf partOf
+    in-price g = sym (rw (g, badOf)) ∙ is-entry
+
+    pub in-size : badPrice s (priceSpan f) ≡ false → record { from = f .«size_from»; to = f .«size_to» } ≡ badIn s form at
+    unfolding badOf partOf
+    in-size g = sym (rw (g, badOf)) ∙ is-entry
 
 pub place-good : (t : Config) (s : List ℕ) → good t ≡ true → partOf (firstBadOf s (framed t s)) ≡ partOf (badDecimal t s)
 unfolding badDecimal

@@ -1,4 +1,4 @@
--- Where the entries of a message lie: those of a side, if there are any, are the array of entries at the position that its layout has.
+-- The entries of a message that passes the checks of its text stand in it; its numbers keep their bounds.
 -- Assumes nothing.
 use mathlib.Core.Path.{_≡_, refl, sym, ap, _∙_, subst}
 use mathlib.Core.List.{List, [], _∷_}
@@ -12,43 +12,33 @@ use Rattle.decimal.specs.Decimal.{isWhole}
 use Rattle.decimal.specs.Whole.{readWhole, atMost, readChecksum}
 use Rattle.decimal.proofs.Digits.{Digits, leading-digits, value-below, tens-mono}
 use Rattle.decimal.proofs.Scan.{leading-whole}
-use Rattle.json.specs.Names.{part}
+use Rattle.json.specs.Names.{part, means}
+use Rattle.edit.specs.declared.Side.the-variants.{Bids, Asks}
 use Rattle.json.specs.Json.{Span, Pair, text}
 use Rattle.settings.specs.Settings.{Config}
-use Rattle.settings.specs.Kept.{isM}
 use Rattle.settings.specs.Rules.{rulesOf}
 use Rattle.settings.specs.declared.Dialect.{Dialect}
 use Rattle.settings.specs.declared.Dialect.the-variants.{K, M, Unknown}
 use Rattle.entries.specs.Places.{isString, inner, andThen, all, arrayAt, objectAt, valuesOf, only, wholeAt, checksumAt, quotedChecksumAt, top}
-use Rattle.entries.specs.Rows.{Row, entriesAt}
-use Rattle.entries.specs.Arrays.{formOf}
+use Rattle.entries.specs.Rows.{Entry, sidedAt}
+use Rattle.entries.proofs.Claims.{AllHere, here-none, here-also, sided-here}
 use Rattle.entries.specs.declared.Form.{Form}
 use Rattle.entries.specs.declared.Form.the-variants as forms
-use Rattle.layout.specs.Depths.{sideDepth}
-use Rattle.layout.specs.Layout.{Printed, printed, unprinted, Listed, Layout, Envelope, unlisted, listedAt, laid}
+use Rattle.layout.specs.Layout.{Printed, printed, unprinted, Layout, Envelope, memberEntries, entriesIn, laid}
 use Rattle.layout.specs.declared.Kind.{Kind}
 use Rattle.layout.specs.declared.Kind.the-variants.{Snapshot, Update}
-use Rattle.message_k.specs.LayoutK.{Frame, frameOf, isSnapshot, isUpdate, together, listedOf, listedIn, objectsLayout, layoutK, envelopeK}
-use Rattle.message_m.specs.LayoutM.{kindAt, listedIn as listedInM, layoutM, envelopeM}
+use Rattle.message_k.specs.LayoutK.{Frame, frameOf, isSnapshot, isUpdate, together, entriesK, objectsLayout, layoutK, envelopeK}
+use Rattle.message_m.specs.LayoutM.{kindAt, layoutM, envelopeM}
 use lib.Dec.{leb, ltb, eqb, lit<}
 use lib.ListN.{length, getD}
+use Rattle.message.specs.Bad.{formOf}
 use Rattle.message.specs.Meaning.{fails, passes, tooMany, counted, laidOut, addressed, envelopeIn, framed}
 use Rattle.answer.specs.declared.Answer.{Answer}
 use Rattle.answer.specs.declared.Answer.the-variants.{TooLong, NotJson, Escaped, NotOurs, BadLayout, TooManyEntries}
 
--- The form of the entries of a dialect.
-abbrev pub formIn : Dialect → Form
-formIn d = formOf (isM d)
-
--- The rows are those of the array of entries at the position, or there are none.
-pub data Lies (form : Form) (s : List ℕ) (l : Listed) : Type 0 where
-  nowhere : l .rows ≡ [] → Lies form s l
-  there : (to : ℕ) → entriesAt form sideDepth s (record { from = l .at; to = to }) ≡ reads (l .rows) → Lies form s l
-
--- The entries of both sides, a sequence number of at most 19 digits, and a checksum within its bound.
+-- The entries stand in the text, the sequence number has at most 19 digits, and a checksum is within its bound.
 pub record LieIn (form : Form) (s : List ℕ) (l : Layout) : Type 0 where
-  pub bids : Lies form s (l .bids)
-  pub asks : Lies form s (l .asks)
+  pub entries : AllHere form 13 s (l .entries)
   pub small : l .number < 10 ^ 19
   pub low : (n : ℕ) → l .checksum ≡ printed n → n ≤ 4294967295
 
@@ -119,55 +109,52 @@ quoted-low s a n h = go (isString s a) h
     go true g = checksum-low (inner s a) n g
     go false g = no-reading g
 
--- ---- a side, and a layout of two
+-- ---- the entries of members, and a layout of them
 module _ (form : Form) (s : List ℕ) where
-  listed-lies : (a : Span) (l : Listed) → listedAt form sideDepth s a ≡ reads l → Lies form s l
-  unfolding listedAt andThen
-  listed-lies a l h = go (entriesAt form sideDepth s a) refl h
+  member-here : (bids asks : List ℕ) (m : Pair) (es : List Entry) → memberEntries form 14 s bids asks m ≡ reads es → AllHere form 13 s es
+  unfolding memberEntries
+  member-here bids asks m es h = at (means s (m .name) bids) (means s (m .name) asks) h
     where
-      go : (x : Reading (List Row)) → entriesAt form sideDepth s a ≡ x → andThen x (λ rows. reads (record { at = a .from; rows = rows })) ≡ reads l → Lies form s l
-      go (reads rows) q g =
-          let e : l ≡ record { at = a .from; rows = rows } = sym (reads-same g) in
-          rw e (there (a .to) q)
-      go refused q g = no-reading g
+      at : (b a : Bool) → cond b (sidedAt Bids form 14 s (m .value)) (cond a (sidedAt Asks form 14 s (m .value)) (reads [])) ≡ reads es → AllHere form 13 s es
+      at true a g = sided-here Bids form 13 s (m .value) es g
+      at false true g = sided-here Asks form 13 s (m .value) es g
+      at false false g = here-none es g
 
-  laid-lies : (kind : Kind) (p : Printed) (n : ℕ) (b a : Reading Listed)
-      → ((x : Listed) → b ≡ reads x → Lies form s x) → ((x : Listed) → a ≡ reads x → Lies form s x)
-      → n < 10 ^ 19 → ((k : ℕ) → p ≡ printed k → k ≤ 4294967295) → (l : Layout) → laid kind p n b a ≡ reads l → LieIn form s l
+  members-here : (bids asks : List ℕ) (ms : List Pair) (es : List Entry) → entriesIn form 14 s bids asks ms ≡ reads es → AllHere form 13 s es
+  unfolding entriesIn
+  members-here bids asks [] es h = here-none es h
+  members-here bids asks (m ∷ ms) es h =
+      here-also (memberEntries form 14 s bids asks m) (entriesIn form 14 s bids asks ms) (member-here bids asks m) (members-here bids asks ms) es h
+
+  laid-lies : (kind : Kind) (p : Printed) (n : ℕ) (x : Reading (List Entry)) → ((es : List Entry) → x ≡ reads es → AllHere form 13 s es)
+      → n < 10 ^ 19 → ((k : ℕ) → p ≡ printed k → k ≤ 4294967295) → (l : Layout) → laid kind p n x ≡ reads l → LieIn form s l
   unfolding laid andThen
-  laid-lies kind p n (reads b) (reads a) f g small low l h =
-      let e : l ≡ record { kind = kind; bids = b; asks = a; checksum = p; number = n } = sym (reads-same h) in
-      rw e (record { bids = f b refl; asks = g a refl; small = small; low = low })
-  laid-lies kind p n (reads b) refused f g small low l h = no-reading h
-  laid-lies kind p n refused a f g small low l h = no-reading h
+  laid-lies kind p n (reads es) f small low l h =
+      let e : l ≡ record { kind = kind; entries = es; checksum = p; number = n } = sym (reads-same h) in
+      rw e (record { entries = f es refl; small = small; low = low })
+  laid-lies kind p n refused f small low l h = no-reading h
 
 -- ---- K
 module _ (s : List ℕ) where
-  k-list-lies : (l : List Span) (x : Listed) → listedOf s l ≡ reads x → Lies forms.Triple s x
-  unfolding listedOf
-  k-list-lies [] x h = let e : x ≡ unlisted = sym (reads-same h) in rw e (nowhere refl)
-  k-list-lies (a ∷ []) x h = listed-lies forms.Triple s a x h
-  k-list-lies (a ∷ (b ∷ l)) x h = no-reading h
-
   k-objects-lie : (o : List (List Pair)) (l : Layout) → objectsLayout s o ≡ reads l → LieIn forms.Triple s l
-  unfolding objectsLayout listedIn
+  unfolding objectsLayout entriesK
   k-objects-lie o l h = at (isSnapshot s o) (isUpdate s o) h
     where
-      lies : (name : List ℕ) (x : Listed) → listedIn s name o ≡ reads x → Lies forms.Triple s x
-      lies name = k-list-lies (valuesOf s name (together o))
+      here : (bids asks : List ℕ) (es : List Entry) → entriesK s bids asks o ≡ reads es → AllHere forms.Triple 13 s es
+      here bids asks = members-here forms.Triple s bids asks (together o)
 
       at : (x y : Bool)
-          → cond x (laid Snapshot unprinted 0 (listedIn s (ascii "bs") o) (listedIn s (ascii "as") o))
+          → cond x (laid Snapshot unprinted 0 (entriesK s (ascii "bs") (ascii "as") o))
           (cond y
           (andThen (only (valuesOf s (ascii "c") (together o))) (λ c.
-          andThen (quotedChecksumAt s c) (λ sum. laid Update (printed sum) 0 (listedIn s (ascii "b") o) (listedIn s (ascii "a") o))))
+          andThen (quotedChecksumAt s c) (λ sum. laid Update (printed sum) 0 (entriesK s (ascii "b") (ascii "a") o))))
           refused)
           ≡ reads l → LieIn forms.Triple s l
-      at true y g = laid-lies forms.Triple s Snapshot unprinted 0 _ _ (lies (ascii "bs")) (lies (ascii "as")) (lit< tt) (λ k e. no-print e) l g
+      at true y g = laid-lies forms.Triple s Snapshot unprinted 0 _ (here (ascii "bs") (ascii "as")) (lit< tt) (λ k e. no-print e) l g
       at false true g =
           let c = then-reads (only (valuesOf s (ascii "c") (together o))) _ l g in
           let d = then-reads (quotedChecksumAt s (c .0)) _ l (c .1) in
-          laid-lies forms.Triple s Update (printed (d .0)) 0 _ _ (lies (ascii "b")) (lies (ascii "a")) (lit< tt) (λ k e. subst (λ (x : ℕ). x ≤ 4294967295) (printed-same e) (quoted-low s (c .0) (d .0) (d .2))) l (d .1)
+          laid-lies forms.Triple s Update (printed (d .0)) 0 _ (here (ascii "b") (ascii "a")) (lit< tt) (λ k e. subst (λ (x : ℕ). x ≤ 4294967295) (printed-same e) (quoted-low s (c .0) (d .0) (d .2))) l (d .1)
       at false false g = no-reading g
 
   k-lies : (f : Frame) (l : Layout) → layoutK s f ≡ reads l → LieIn forms.Triple s l
@@ -178,12 +165,6 @@ module _ (s : List ℕ) where
       k-objects-lie (o .0) l (o .1)
 
   -- ---- M
-  m-list-lies : (name : List ℕ) (ms : List Pair) (x : Listed) → listedInM s name ms ≡ reads x → Lies forms.Pair s x
-  unfolding listedInM
-  m-list-lies name ms x h =
-      let a = then-reads (only (valuesOf s name ms)) (listedAt forms.Pair sideDepth s) x h in
-      listed-lies forms.Pair s (a .0) x (a .1)
-
   m-lies : (ms : List Pair) (l : Layout) → layoutM s ms ≡ reads l → LieIn forms.Pair s l
   unfolding layoutM wholeAt checksumAt
   m-lies ms l h =
@@ -193,11 +174,13 @@ module _ (s : List ℕ) where
       let t = then-reads (kindAt s (c .0)) _ l (c .1) in
       let d = then-reads (only (valuesOf s (ascii "data") ms)) _ l (t .1) in
       let o = then-reads (objectAt 15 s (d .0)) _ l (d .1) in
-      let k = then-reads (only (valuesOf s (ascii "checksum") ms)) _ l (o .1) in
+      let u = then-reads (only (valuesOf s (ascii "bids") (o .0))) _ l (o .1) in
+      let v = then-reads (only (valuesOf s (ascii "asks") (o .0))) _ l (u .1) in
+      let k = then-reads (only (valuesOf s (ascii "checksum") ms)) _ l (v .1) in
       let n = then-reads (checksumAt s (k .0)) _ l (k .1) in
       let g = then-reads (only (valuesOf s (ascii "gsn") ms)) _ l (n .1) in
       let w = then-reads (wholeAt s (g .0)) _ l (g .1) in
-      laid-lies forms.Pair s (t .0) (printed (n .0)) (w .0) _ _ (m-list-lies (ascii "bids") (o .0)) (m-list-lies (ascii "asks") (o .0)) (whole-small (part s (g .0)) (w .0) (w .2)) (λ i e. subst (λ (x : ℕ). x ≤ 4294967295) (printed-same e) (checksum-low (part s (k .0)) (n .0) (n .2))) l (w .1)
+      laid-lies forms.Pair s (t .0) (printed (n .0)) (w .0) _ (members-here forms.Pair s (ascii "bids") (ascii "asks") (o .0)) (whole-small (part s (g .0)) (w .0) (w .2)) (λ i e. subst (λ (x : ℕ). x ≤ 4294967295) (printed-same e) (checksum-low (part s (k .0)) (n .0) (n .2))) l (w .1)
 
 -- ---- the whole: a message that passes checks 2 to 7, and one that passes 8 too
 no-pass : {A : Type 0} (a : Answer) (l : Layout) → fails a ≡ passes l → A
@@ -224,8 +207,8 @@ module _ (form : Form) (s : List ℕ) where
       at false false g = no-pass NotOurs l g
   addressed-lies most refused f l h = no-pass NotOurs l h
 
-heard-lies : (d : Dialect) (t : Config) (s : List ℕ) (a : Span) (x : Envelope) → envelopeIn d t s a ≡ reads x → (y : Layout) → x .layout ≡ reads y → LieIn (formIn d) s y
-unfolding envelopeIn isM envelopeK envelopeM
+heard-lies : (d : Dialect) (t : Config) (s : List ℕ) (a : Span) (x : Envelope) → envelopeIn d t s a ≡ reads x → (y : Layout) → x .layout ≡ reads y → LieIn (formOf d) s y
+unfolding envelopeIn formOf envelopeK envelopeM
 heard-lies K t s a x h y g =
     let f = then-reads (andThen (arrayAt 16 s a) frameOf) _ x h in
     let e = reads-same (f .1) in
@@ -236,11 +219,11 @@ heard-lies M t s a x h y g =
     m-lies s (f .0) y (ap (λ (z : Envelope). z .layout) e ∙ g)
 heard-lies Unknown t s a x h y g = no-reading h
 
-pub framed-lies : (t : Config) (s : List ℕ) (l : Layout) → framed t s ≡ passes l → LieIn (formIn (t .dialect)) s l
+pub framed-lies : (t : Config) (s : List ℕ) (l : Layout) → framed t s ≡ passes l → LieIn (formOf (t .dialect)) s l
 unfolding framed
 framed-lies t s l h = at (ltb (rulesOf (t .dialect) .longest) (length s)) (text s) h
   where
-    at : (a b : Bool) → cond a (fails TooLong) (cond b (addressed (rulesOf (t .dialect) .entries) (envelopeIn (t .dialect) t s (top s))) (fails NotJson)) ≡ passes l → LieIn (formIn (t .dialect)) s l
+    at : (a b : Bool) → cond a (fails TooLong) (cond b (addressed (rulesOf (t .dialect) .entries) (envelopeIn (t .dialect) t s (top s))) (fails NotJson)) ≡ passes l → LieIn (formOf (t .dialect)) s l
     at true b g = no-pass TooLong l g
-    at false true g = addressed-lies (formIn (t .dialect)) s (rulesOf (t .dialect) .entries) (envelopeIn (t .dialect) t s (top s)) (heard-lies (t .dialect) t s (top s)) l g
+    at false true g = addressed-lies (formOf (t .dialect)) s (rulesOf (t .dialect) .entries) (envelopeIn (t .dialect) t s (top s)) (heard-lies (t .dialect) t s (top s)) l g
     at false false g = no-pass NotJson l g

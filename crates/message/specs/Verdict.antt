@@ -3,10 +3,8 @@ use mathlib.Core.Path.{_≡_}
 use mathlib.Core.Bool.{cond}
 use mathlib.Core.List.{List}
 use Prim.Native.Nat.{ℕ}
-use lib.ListN.{length}
 use Rattle.decimal.specs.Digits.{reads}
 use Rattle.settings.specs.Settings.{Config, good}
-use Rattle.edit.specs.Buffer.{bufferWords}
 use Rattle.entries.specs.Tally.{Kept}
 use Rattle.layout.specs.Layout.{Layout}
 use Rattle.layout.specs.Scan.{outlineOf}
@@ -26,5 +24,4 @@ verdictOf s (passes l) = Passes (outlineOf s (reads l))
 -- What its reader promises: the verdict, and that the buffer has the entries of a message that passes.
 pub record Judged (s : List ℕ) (c : Checked) (buffer : List ℕ) (r : Verdict) : Type 0 where
   pub told : r ≡ verdictOf s c
-  pub room : length buffer ≡ bufferWords
   pub kept : (l : Layout) → c ≡ passes l → Kept s (reads (l .entries)) buffer

@@ -64,7 +64,7 @@ fn form_of(dialect: Dialect) -> Form
 
 // The first text of the entry at `at` that breaks a rule of decimals: the price, or else the size. 0 says that there is none.
 fn bad_in(s: &[u8], form: Form, at: usize) -> Part
-    requires { ⌜ (at ≡ 0 → ⊥) → Placed (now s) (entryPlaceAt form entryDepth (now s) at) ⌝ }
+    requires { ⌜ ((at ≡ 0 → ⊥) → Placed (now s) (entryPlaceAt form entryDepth (now s) at)) ⌝ }
     ensures { λ r. ⌜ r ≡ badIn (now (s .entry)) form at ⌝ }
 {
     if at == 0 {

@@ -2,12 +2,12 @@
 -- Assumes nothing.
 use mathlib.Core.Path.{_≡_, refl, sym, ap, ap₂, _∙_, subst}
 use mathlib.Core.List.{List, [], _∷_, _++_, map, append-assoc, append-nil}
-use mathlib.Core.Bool.{Bool, true, false, true≢false, _&&_, _||_, not, cond}
+use mathlib.Core.Bool.{Bool, true, false, true≢false, cond}
 use Prim.Native.Nat.{ℕ, _≤_, _<_, _^_}
 use native.Mathlib.Omega.{arith}
 use borrow.Author.Tests.{ltb-true}
-use lib.Dec.{ltb, lit<}
-use lib.ListN.{length, take, length-take, length-map}
+use lib.Dec.{lit<}
+use lib.ListN.{length, take, length-take}
 use lib.Seq.{take-all}
 use Rattle.decimal.specs.Digits.{Reading, reads, refused}
 use Rattle.decimal.specs.Decimal.{Number, read, isZero, value}
@@ -20,34 +20,29 @@ use Rattle.settings.specs.Rules.{rulesOf}
 use Rattle.settings.specs.declared.Dialect.{Dialect}
 use Rattle.settings.specs.declared.Dialect.the-variants.{K, M, Unknown}
 use Rattle.entries.specs.Places.{inner}
-use Rattle.entries.specs.Rows.{Row, numberAt, badPrice, badSize, badTexts}
-use Rattle.entries.specs.Summary.{anyBroken}
-use Rattle.entries.proofs.Claims.{broken-none, zero-none}
-use Rattle.edit.specs.Edit.{PriceLevel, shownPrice}
-use Rattle.edit.specs.Edit.{Edit, sets, removes}
+use Rattle.entries.specs.Rows.{Entry, isBadPrice, numberIn, numberAt, numbersAt, badPrice, badSize, badTexts}
+use Rattle.edit.specs.Edit.{PriceLevel, shownPrice, Edit, sets, removes, Numbers, editOf, isSame, forSide}
 use Rattle.level.specs.Side.{nearer, place, apply, applyAll, ranked, namesTwice}
-use Rattle.level.specs.Ranked.{All, IfSet, Sorted, Distinct}
+use Rattle.level.specs.Ranked.{All, IfSet, named, Sorted}
 use Rattle.edit.specs.declared.Side.{Side}
 use Rattle.edit.specs.declared.Side.the-variants.{Bids, Asks}
 use Rattle.level.proofs.All.{all-take}
 use Rattle.level.proofs.Ranking.{all-applyAll, all-ranked, applyRanked, commute, without-none, place-middle, ranked-sorted, sorted-take, sorted-distinct, distinct-applyAll, distinct-once}
-use Rattle.level.proofs.Lengths.{length-ranked}
 use Rattle.entries.proofs.Numbers.{number-within}
 use Rattle.crc32_spec.specs.Crc.{crc, run}
 use Rattle.writer.specs.Snapshot.{kSnapshot, mSnapshot}
 use Rattle.checksum.specs.Text.{interleaved, colonJoined, mChecksumText}
 use Rattle.layout.specs.declared.Kind.the-variants.{Snapshot}
-use Rattle.layout.specs.Layout.{isSnapshot, Printed, printed, unprinted, Layout}
-use Rattle.message.specs.Meaning.{LevelChange, levelChangeAt, Message, messageOf, Checked, fails, passes, bad, checked, decodedOf, decode, decodes, refuses}
-use Rattle.answer.specs.declared.Answer.the-variants.{Taken}
-use Rattle.message.proofs.Where.{LieIn, framed-lies}
+use Rattle.layout.specs.Layout.{isSnapshot, Printed, printed, unprinted}
+use Rattle.message.specs.Meaning.{SidedEdit, sidedEdit, Message, messageOf, Checked, fails, passes, bad, checked, decodedOf, decode, decodes}
+use Rattle.message.proofs.Where.{framed-lies}
 use Rattle.message.proofs.Entering.{Readable, is-k, is-m, good-readable, also-framed}
-use Rattle.round_trip.specs.Claims.{levelChangeOf, Positive, ValidLevel, Each, each-none, each-more, Valid}
+use Rattle.round_trip.specs.Claims.{setting, Positive, ValidLevel, Each, each-none, each-more, Valid}
 use Rattle.round_trip.proofs.Claims.{k-round-trip, m-round-trip}
-use Rattle.reference.specs.Reference.{Status, shut, waiting, live, isShut, isLive, Reference, opened, Sides, rules, editOf, afterChanges, sidesAfter, pricesOf, checksumText, checksumOf, taken, After, receive, textIn, snapshotText, Ask, does, Call, final, withStatus}
-use Rattle.reference.specs.Claims.{Ready, restarts, Agrees, carries-none, the-same, Acceptable, ReadsBack, Round-trip}
+use Rattle.reference.specs.Reference.{Status, shut, waiting, live, isShut, isLive, Reference, opened, rules, editsFor, afterEdits, sidesAfter, pricesOf, checksumText, checksumOf, taken, After, textIn, snapshotText, Ask, does, Call, final, withStatus}
+use Rattle.reference.specs.Claims.{restarts, Agrees, carries-none, the-same, Acceptable, ReadsBack, Round-trip}
 use Rattle.reference.proofs.Snapshot.{of-update}
-use Rattle.reference.proofs.Outcome.{or-none, ready-open, acceptable-taken}
+use Rattle.reference.proofs.Outcome.{ready-open, acceptable-taken}
 use Rattle.reference.proofs.Carried.{said-carries}
 use Rattle.reference.proofs.Runs.{Steps, stays, moves, steps, Reached, reached, reached-step, reached-opened}
 use Rattle.settings.proofs.Depth.{good-depth, good-rules}
@@ -96,14 +91,9 @@ module _ (side : Side) where
   unfolding ranked
   side-back q h = sets-back q [] [] h refl
 
--- the entries of a snapshot of it
-fine-sets : (q : List PriceLevel) → All ValidLevel q → map editOf (map levelChangeOf q) ≡ map sets q
-unfolding All editOf levelChangeOf
-fine-sets [] h = refl
-fine-sets (x ∷ q) h = let z = h .0 .size .some in ap₂ (λ (e : Edit PriceLevel) (l : List (Edit PriceLevel)). e ∷ l) (rw z) (fine-sets q (h .1))
-
-prices-back : (q : List PriceLevel) → pricesOf (map levelChangeOf q) ≡ map shownPrice q
-unfolding levelChangeOf
+-- the prices of a snapshot of it
+prices-back : (q : List PriceLevel) → pricesOf (map sets q) ≡ map shownPrice q
+unfolding named
 prices-back [] = refl
 prices-back (x ∷ q) = ap (λ (l : List Number). x .price ∷ l) (prices-back q)
 
@@ -112,59 +102,68 @@ unfolding All
 each-fine [] h = each-none
 each-fine (x ∷ q) h = each-more (h .0) (each-fine q (h .1))
 
--- ---- the quotes of a message that passes check 8
-
-pub record Offer (q : LevelChange) : Type 0 where
-  pub price : Positive (q .price)
-  pub size : Within (q .size)
-
-price-positive : (s : List ℕ) (a : Span) → badPrice s a ≡ false → Positive (numberAt s a)
-unfolding badPrice numberAt
-price-positive s a h = go (read (inner s a)) refl h
-  where
-    go : (x : Reading Number) → read (inner s a) ≡ x → elim x [ reads n ↦ isZero n | refused ↦ true ] ≡ false → Positive (elim x [ reads n ↦ n | refused ↦ record { digits = 0; decimals = 0 } ])
-    go (reads n) q g = record { within = read-within (inner s a) n q; some = g }
-    go refused q g = absurd (true≢false g)
-
-offers : (s : List ℕ) (rows : List Row) → anyBroken s rows ≡ false → All Offer (map (levelChangeAt s) rows)
-unfolding All anyBroken levelChangeAt
-offers s [] h = tt
-offers s (r ∷ l) h =
-    let a = or-none (badPrice s (r .price) || badSize false s (r .size)) (anyBroken s l) h in
-    let b = or-none (badPrice s (r .price)) (badSize false s (r .size)) (a .0) in
-    (record { price = price-positive s (r .price) (b .0); size = number-within s (r .size) }, offers s l (a .1))
-
-texts-offers : (snapshot : Bool) (s : List ℕ) (rows : List Row) → badTexts snapshot s rows ≡ [] → All Offer (map (levelChangeAt s) rows)
-texts-offers true s rows h = offers s rows (zero-none s rows h .0)
-texts-offers false s rows h = offers s rows (broken-none s rows h)
-
-offer-edit : (q : LevelChange) → Offer q → IfSet ValidLevel (editOf q)
-unfolding editOf IfSet
-offer-edit q o = at (isZero (q .size)) refl
-  where
-    at : (b : Bool) → isZero (q .size) ≡ b → IfSet {A = PriceLevel} ValidLevel (cond b (removes (q .price)) (sets (record { price = q .price; size = q .size })))
-    at true e = tt
-    at false e = record { price = o .price; size = record { within = o .size; some = e } }
-
-offer-edits : (qs : List LevelChange) → All Offer qs → All (IfSet ValidLevel) (map editOf qs)
-unfolding All
-offer-edits [] h = tt
-offer-edits (q ∷ qs) h = (offer-edit q (h .0), offer-edits qs (h .1))
-
--- ---- what a message that is understood has
+-- ---- the edits of a message that passes check 8
 
 append-none : {A : Type 0} (x y : List A) → x ++ y ≡ [] → (x ≡ []) × (y ≡ [])
 append-none [] y h = (refl, h)
 append-none (a ∷ x) y h = let z : _≡_ {A = ℕ} 0 1 = cc in absurd (omega arith)
 
+not-listed : (b : Bool) (a : Span) → cond b (a ∷ []) [] ≡ [] → b ≡ false
+not-listed true a h = let z : _≡_ {A = ℕ} 0 1 = cc in absurd (omega arith)
+not-listed false a h = refl
+
+price-positive : (s : List ℕ) (a : Span) → badPrice s a ≡ false → Positive (numberAt s a)
+unfolding badPrice numberAt
+price-positive s a h = go (read (inner s a)) refl h
+  where
+    go : (x : Reading Number) → read (inner s a) ≡ x → isBadPrice x ≡ false → Positive (numberIn x)
+    go (reads n) q g = record { within = read-within (inner s a) n q; some = g }
+    go refused q g = absurd (true≢false g)
+
+-- a level that it sets can be held
+abbrev Fine : SidedEdit → Type 0
+Fine d = IfSet ValidLevel (d .edit)
+
+edit-fine : (e : Numbers) → Positive (e .price) → Within (e .size) → Fine (sidedEdit e)
+unfolding sidedEdit editOf IfSet
+edit-fine e p w = at (isZero (e .size)) refl
+  where
+    at : (b : Bool) → isZero (e .size) ≡ b → IfSet {A = PriceLevel} ValidLevel (cond b (removes (e .price)) (sets (record { price = e .price; size = e .size })))
+    at true z = tt
+    at false z = record { price = p; size = record { within = w; some = z } }
+
+edits-fine : (snapshot : Bool) (s : List ℕ) (es : List Entry) → badTexts snapshot s es ≡ [] → All Fine (map sidedEdit (map (numbersAt s) es))
+unfolding All badTexts numbersAt
+edits-fine snapshot s [] h = tt
+edits-fine snapshot s (e ∷ es) h =
+    let a = append-none (cond (badPrice s (e .row .price)) (e .row .price ∷ []) []) _ h in
+    let b = append-none (cond (badSize snapshot s (e .row .size)) (e .row .size ∷ []) []) (badTexts snapshot s es) (a .1) in
+    let p = price-positive s (e .row .price) (not-listed (badPrice s (e .row .price)) (e .row .price) (a .0)) in
+    (edit-fine (numbersAt s e) p (number-within s (e .row .size)), edits-fine snapshot s es (b .1))
+
+-- those for one side
+unfoldable forOne : Side → List SidedEdit → List (Edit PriceLevel)
+forOne side ds = map (λ (d : SidedEdit). d .edit) (forSide (λ (d : SidedEdit). d .side) side ds)
+
+for-one-fine : (side : Side) (ds : List SidedEdit) → All Fine ds → All (IfSet ValidLevel) (forOne side ds)
+unfolding All forOne forSide
+for-one-fine side [] h = tt
+for-one-fine side (d ∷ ds) h = at (isSame (d .side) side) (for-one-fine side ds (h .1))
+  where
+    at : (b : Bool) → All (IfSet ValidLevel) (forOne side ds)
+        → All (IfSet ValidLevel) (map (λ (d : SidedEdit). d .edit) (cond b (d ∷ forSide (λ (d : SidedEdit). d .side) side ds) (forSide (λ (d : SidedEdit). d .side) side ds)))
+    at true ih = (h .0, ih)
+    at false ih = ih
+
+-- ---- what a message that is understood has
+
 pub record Understood (m : Message) : Type 0 where
-  pub bids : All Offer (m .bids)
-  pub asks : All Offer (m .asks)
+  pub edits : (side : Side) → All (IfSet ValidLevel) (editsFor side m)
   pub small : m .number < 10 ^ 19
   pub low : (n : ℕ) → m .checksum ≡ printed n → n ≤ 4294967295
 
 understood : (t : Config) (s : List ℕ) (m : Message) → decode t s ≡ decodes m → Understood m
-unfolding decode decodedOf messageOf bad
+unfolding decode decodedOf messageOf bad editsFor forOne
 understood t s m h = go (checked t s) refl h
   where
     go : (x : Checked) → checked t s ≡ x → decodedOf s x ≡ decodes m → Understood m
@@ -172,11 +171,9 @@ understood t s m h = go (checked t s) refl h
     go (passes l) q g =
         let e : messageOf s l ≡ m = cc in
         let f = also-framed t s l q in
-        let b = append-none (badTexts (isSnapshot (l .kind)) s (l .bids .rows)) (badTexts (isSnapshot (l .kind)) s (l .asks .rows)) (f .1) in
         let w = framed-lies t s l (f .0) in
         subst Understood e (record {
-          bids = texts-offers (isSnapshot (l .kind)) s (l .bids .rows) (b .0);
-          asks = texts-offers (isSnapshot (l .kind)) s (l .asks .rows) (b .1);
+          edits = λ side. for-one-fine side (messageOf s l .edits) (edits-fine (isSnapshot (l .kind)) s (l .entries) (f .1));
           small = w .small;
           low = w .low;
         })
@@ -200,18 +197,18 @@ unfolding Sorted All
 empty-sane side depth = record { sorted = tt; fine = tt; few = omega arith }
 
 -- a side after a message
-module _ (t : Config) (g : good t ≡ true) (side : Side) (qs : List LevelChange) (base : List PriceLevel) (h : SaneSide side (t .depth) base) (o : All Offer qs) where
+module _ (t : Config) (g : good t ≡ true) (side : Side) (es : List (Edit PriceLevel)) (base : List PriceLevel) (h : SaneSide side (t .depth) base) (o : All (IfSet ValidLevel) es) where
   abbrev worked : List PriceLevel
-  worked = applyAll shownPrice (map editOf qs) base
+  worked = applyAll shownPrice es base
 
   worked-sorted : Sorted shownPrice side (ranked shownPrice side worked)
-  worked-sorted = ranked-sorted shownPrice side worked (distinct-applyAll shownPrice (map editOf qs) base (sorted-distinct shownPrice side base (h .sorted)))
+  worked-sorted = ranked-sorted shownPrice side worked (distinct-applyAll shownPrice es base (sorted-distinct shownPrice side base (h .sorted)))
 
   worked-fine : All ValidLevel (ranked shownPrice side worked)
-  worked-fine = all-ranked shownPrice ValidLevel side worked (all-applyAll shownPrice ValidLevel (map editOf qs) base (offer-edits qs o) (h .fine))
+  worked-fine = all-ranked shownPrice ValidLevel side worked (all-applyAll shownPrice ValidLevel es base o (h .fine))
 
-  after-sane : length (afterChanges t side qs base) ≤ rulesOf (t .dialect) .levels → SaneSide side (t .depth) (afterChanges t side qs base)
-  unfolding afterChanges
+  after-sane : length (afterEdits t side es base) ≤ rulesOf (t .dialect) .levels → SaneSide side (t .depth) (afterEdits t side es base)
+  unfolding afterEdits
   after-sane few = at (rulesOf (t .dialect) .cut) few (good-rules t g .1)
     where
       at : (b : Bool) → length (cond b (take (t .depth) (ranked shownPrice side worked)) (ranked shownPrice side worked)) ≤ rulesOf (t .dialect) .levels
@@ -237,17 +234,17 @@ module _ (p : Reference) (s : List ℕ) (m : Message) (q : decode (p .config) s 
   unfolding sidesAfter
   bids-sane = at (isSnapshot (m .kind)) refl
     where
-      at : (b : Bool) → isSnapshot (m .kind) ≡ b → SaneSide Bids (p .config .depth) (afterChanges (p .config) Bids (m .bids) (cond (isSnapshot (m .kind)) [] (p .last .sides .bids)))
-      at true e = after-sane (p .config) g Bids (m .bids) (cond (isSnapshot (m .kind)) [] (p .last .sides .bids)) (rw e (empty-sane Bids (p .config .depth))) (u .bids) (a .few .0)
-      at false e = after-sane (p .config) g Bids (m .bids) (cond (isSnapshot (m .kind)) [] (p .last .sides .bids)) (rw e (h .bids)) (u .bids) (a .few .0)
+      at : (b : Bool) → isSnapshot (m .kind) ≡ b → SaneSide Bids (p .config .depth) (afterEdits (p .config) Bids (editsFor Bids m) (cond (isSnapshot (m .kind)) [] (p .last .sides .bids)))
+      at true e = after-sane (p .config) g Bids (editsFor Bids m) (cond (isSnapshot (m .kind)) [] (p .last .sides .bids)) (rw e (empty-sane Bids (p .config .depth))) (u .edits Bids) (a .few .0)
+      at false e = after-sane (p .config) g Bids (editsFor Bids m) (cond (isSnapshot (m .kind)) [] (p .last .sides .bids)) (rw e (h .bids)) (u .edits Bids) (a .few .0)
 
   asks-sane : SaneSide Asks (p .config .depth) (sidesAfter p m .asks)
   unfolding sidesAfter
   asks-sane = at (isSnapshot (m .kind)) refl
     where
-      at : (b : Bool) → isSnapshot (m .kind) ≡ b → SaneSide Asks (p .config .depth) (afterChanges (p .config) Asks (m .asks) (cond (isSnapshot (m .kind)) [] (p .last .sides .asks)))
-      at true e = after-sane (p .config) g Asks (m .asks) (cond (isSnapshot (m .kind)) [] (p .last .sides .asks)) (rw e (empty-sane Asks (p .config .depth))) (u .asks) (a .few .1)
-      at false e = after-sane (p .config) g Asks (m .asks) (cond (isSnapshot (m .kind)) [] (p .last .sides .asks)) (rw e (h .asks)) (u .asks) (a .few .1)
+      at : (b : Bool) → isSnapshot (m .kind) ≡ b → SaneSide Asks (p .config .depth) (afterEdits (p .config) Asks (editsFor Asks m) (cond (isSnapshot (m .kind)) [] (p .last .sides .asks)))
+      at true e = after-sane (p .config) g Asks (editsFor Asks m) (cond (isSnapshot (m .kind)) [] (p .last .sides .asks)) (rw e (empty-sane Asks (p .config .depth))) (u .edits Asks) (a .few .1)
+      at false e = after-sane (p .config) g Asks (editsFor Asks m) (cond (isSnapshot (m .kind)) [] (p .last .sides .asks)) (rw e (h .asks)) (u .edits Asks) (a .few .1)
 
   taken-low : p .config .dialect ≡ M → checksumOf (rulesOf M) (sidesAfter p m) ≤ 4294967295
   taken-low e = go (a .checksum)
@@ -292,27 +289,69 @@ sane t cs = sane-final t (opened t) cs (reached-opened t) (sane-opened t)
 
 -- the snapshot of a sane side gives the side again
 module _ (t : Config) (g : good t ≡ true) (side : Side) (l : List PriceLevel) (h : SaneSide side (t .depth) l) where
-  pub back : afterChanges t side (map levelChangeOf l) [] ≡ l
-  unfolding afterChanges
+  pub back : afterEdits t side (map sets l) [] ≡ l
+  unfolding afterEdits
   back = at (rulesOf (t .dialect) .cut)
     where
-      is : ranked shownPrice side (applyAll shownPrice (map editOf (map levelChangeOf l)) []) ≡ l
-      is = ap (λ (x : List (Edit PriceLevel)). ranked shownPrice side (applyAll shownPrice x [])) (fine-sets l (h .fine)) ∙ side-back side l (h .sorted)
+      is : ranked shownPrice side (applyAll shownPrice (map sets l) []) ≡ l
+      is = side-back side l (h .sorted)
 
-      at : (b : Bool) → cond b (take (t .depth) (ranked shownPrice side (applyAll shownPrice (map editOf (map levelChangeOf l)) [])))
-          (ranked shownPrice side (applyAll shownPrice (map editOf (map levelChangeOf l)) [])) ≡ l
+      at : (b : Bool) → cond b (take (t .depth) (ranked shownPrice side (applyAll shownPrice (map sets l) []))) (ranked shownPrice side (applyAll shownPrice (map sets l) [])) ≡ l
       at true = ap (take (t .depth)) is ∙ take-all (t .depth) l (h .few)
       at false = is
 
   pub back-fine : Valid l
   back-fine = let d = good-depth t g .0 in let f = h .few in record { few = omega arith; each = each-fine l (h .fine) }
 
-  pub back-once : namesTwice (pricesOf (map levelChangeOf l)) ≡ false
+  pub back-once : namesTwice (pricesOf (map sets l)) ≡ false
   back-once = ap namesTwice (prices-back l) ∙ distinct-once shownPrice l (sorted-distinct shownPrice side l (h .sorted))
 
+-- the edits for a side among those of both
+one-append : (side : Side) (c d : List SidedEdit) → forOne side (c ++ d) ≡ forOne side c ++ forOne side d
+unfolding forOne forSide
+one-append side [] d = refl
+one-append side (x ∷ c) d = at (isSame (x .side) side) (one-append side c d)
+  where
+    of : List SidedEdit → List SidedEdit
+    of l = forSide (λ (d : SidedEdit). d .side) side l
+
+    at : (b : Bool) → forOne side (c ++ d) ≡ forOne side c ++ forOne side d
+        → map (λ (d : SidedEdit). d .edit) (cond b (x ∷ of (c ++ d)) (of (c ++ d))) ≡ map (λ (d : SidedEdit). d .edit) (cond b (x ∷ of c) (of c)) ++ forOne side d
+    at true ih = ap (λ (l : List (Edit PriceLevel)). x .edit ∷ l) ih
+    at false ih = ih
+
+one-own : (side : Side) (q : List PriceLevel) → isSame side side ≡ true → forOne side (map (setting side) q) ≡ map sets q
+unfolding forOne forSide
+one-own side [] h = refl
+one-own side (x ∷ q) h = rw h (ap (λ (l : List (Edit PriceLevel)). sets x ∷ l) (one-own side q h))
+
+one-other : (side other : Side) (q : List PriceLevel) → isSame other side ≡ false → forOne side (map (setting other) q) ≡ []
+unfolding forOne forSide
+one-other side other [] h = refl
+one-other side other (x ∷ q) h = rw h (one-other side other q h)
+
+-- edits that set these levels on both sides
+record SetsBoth (bids asks : List PriceLevel) (ds : List SidedEdit) : Type 0 where
+  on-bids : forOne Bids ds ≡ map sets bids
+  on-asks : forOne Asks ds ≡ map sets asks
+
+asks-first : (bids asks : List PriceLevel) → SetsBoth bids asks (map (setting Asks) asks ++ map (setting Bids) bids)
+unfolding isSame
+asks-first bids asks = record {
+  on-bids = one-append Bids (map (setting Asks) asks) (map (setting Bids) bids) ∙ rw (one-other Bids Asks asks refl, one-own Bids bids refl);
+  on-asks = one-append Asks (map (setting Asks) asks) (map (setting Bids) bids) ∙ rw (one-own Asks asks refl, one-other Asks Bids bids refl) (append-nil (map sets asks));
+}
+
+bids-first : (bids asks : List PriceLevel) → SetsBoth bids asks (map (setting Bids) bids ++ map (setting Asks) asks)
+unfolding isSame
+bids-first bids asks = record {
+  on-bids = one-append Bids (map (setting Bids) bids) (map (setting Asks) asks) ∙ rw (one-own Bids bids refl, one-other Bids Asks asks refl) (append-nil (map sets bids));
+  on-asks = one-append Asks (map (setting Bids) bids) (map (setting Asks) asks) ∙ rw (one-other Asks Bids bids refl, one-own Asks asks refl);
+}
+
 -- the message that a snapshot of a book is
-snapshotOf : Reference → Printed → Message
-snapshotOf p c = record { kind = Snapshot; bids = map levelChangeOf (p .last .sides .bids); asks = map levelChangeOf (p .last .sides .asks); checksum = c; number = p .last .number }
+snapshotOf : Reference → List SidedEdit → Printed → Message
+snapshotOf p edits c = record { kind = Snapshot; edits = edits; checksum = c; number = p .last .number }
 
 module _ (t : Config) (p : Reference) (r : Reached t p) (h : Sane p) (g : good t ≡ true) where
   same-terms : p .config ≡ t
@@ -329,13 +368,24 @@ module _ (t : Config) (p : Reference) (r : Reached t p) (h : Sane p) (g : good t
   abbrev at-asks : SaneSide Asks (t .depth) (p .last .sides .asks)
   at-asks = subst (λ (x : Config). SaneSide Asks (x .depth) (p .last .sides .asks)) same-terms (h .asks)
 
-  module _ (c : Printed) where
-    sides-back : sidesAfter (opened t) (snapshotOf p c) ≡ p .last .sides
+  module _ (edits : List SidedEdit) (both : SetsBoth (p .last .sides .bids) (p .last .sides .asks) edits) (c : Printed) where
+    on-bids : editsFor Bids (snapshotOf p edits c) ≡ map sets (p .last .sides .bids)
+    unfolding editsFor snapshotOf forOne
+    on-bids = both .on-bids
+
+    on-asks : editsFor Asks (snapshotOf p edits c) ≡ map sets (p .last .sides .asks)
+    unfolding editsFor snapshotOf forOne
+    on-asks = both .on-asks
+
+    sides-back : sidesAfter (opened t) (snapshotOf p edits c) ≡ p .last .sides
     unfolding sidesAfter snapshotOf isSnapshot
     sides-back =
-        rw open-terms (ap₂ (λ (x y : List PriceLevel). record { bids = x; asks = y }) (back t g Bids (p .last .sides .bids) at-bids) (back t g Asks (p .last .sides .asks) at-asks))
+        rw open-terms
+        (ap₂ (λ (x y : List PriceLevel). record { bids = x; asks = y })
+        (ap (λ (es : List (Edit PriceLevel)). afterEdits t Bids es []) on-bids ∙ back t g Bids (p .last .sides .bids) at-bids)
+        (ap (λ (es : List (Edit PriceLevel)). afterEdits t Asks es []) on-asks ∙ back t g Asks (p .last .sides .asks) at-asks))
 
-    acceptable-back : Agrees c (checksumOf (rulesOf (t .dialect)) (p .last .sides)) → Acceptable (opened t) (snapshotOf p c)
+    acceptable-back : Agrees c (checksumOf (rulesOf (t .dialect)) (p .last .sides)) → Acceptable (opened t) (snapshotOf p edits c)
     unfolding snapshotOf opened isSnapshot
     acceptable-back x =
         let d = good-rules t g .0 in
@@ -343,7 +393,10 @@ module _ (t : Config) (p : Reference) (r : Reached t p) (h : Sane p) (g : good t
         let af = at-asks .few in
         record {
           ready = restarts open-status refl;
-          once = λ e. (back-once t g Bids (p .last .sides .bids) at-bids, back-once t g Asks (p .last .sides .asks) at-asks);
+          once = λ e. (
+            ap (λ (es : List (Edit PriceLevel)). namesTwice (pricesOf es)) on-bids ∙ back-once t g Bids (p .last .sides .bids) at-bids,
+            ap (λ (es : List (Edit PriceLevel)). namesTwice (pricesOf es)) on-asks ∙ back-once t g Asks (p .last .sides .asks) at-asks,
+          );
           newer = λ e n. absurd (true≢false (of-update n));
           few = rw (sides-back, open-terms) (omega arith, omega arith);
           checksum = rw (sides-back, open-terms) x;
@@ -352,11 +405,11 @@ module _ (t : Config) (p : Reference) (r : Reached t p) (h : Sane p) (g : good t
         open-status : opened t .status ≡ waiting
         open-status = rw g
 
-    read-back : decode t (snapshotText p) ≡ decodes (snapshotOf p c) → Agrees c (checksumOf (rulesOf (t .dialect)) (p .last .sides)) → ReadsBack t p
+    read-back : decode t (snapshotText p) ≡ decodes (snapshotOf p edits c) → Agrees c (checksumOf (rulesOf (t .dialect)) (p .last .sides)) → ReadsBack t p
     unfolding taken snapshotOf isSnapshot
     read-back q x =
-        let q′ : decode (opened t .config) (snapshotText p) ≡ decodes (snapshotOf p c) = subst (λ (y : Config). decode y (snapshotText p) ≡ decodes (snapshotOf p c)) (sym open-terms) q in
-        let e = acceptable-taken (opened t) (snapshotText p) (snapshotOf p c) q′ (acceptable-back x) in
+        let q′ : decode (opened t .config) (snapshotText p) ≡ decodes (snapshotOf p edits c) = subst (λ (y : Config). decode y (snapshotText p) ≡ decodes (snapshotOf p edits c)) (sym open-terms) q in
+        let e = acceptable-taken (opened t) (snapshotText p) (snapshotOf p edits c) q′ (acceptable-back x) in
         record {
           answer = ap (λ (y : After). y .answer) e;
           status = ap (λ (y : After). y .book .status) e;
@@ -377,17 +430,21 @@ module _ (t : Config) (p : Reference) (r : Reached t p) (h : Sane p) (g : good t
   k-back : t .dialect ≡ K → ReadsBack t p
   unfolding snapshotOf textIn
   k-back e =
+      let bids : List PriceLevel = p .last .sides .bids in
+      let asks : List PriceLevel = p .last .sides .asks in
       let i = in-dialect K e in
       let g′ : good (record { dialect = K; depth = t .depth; name = t .name }) ≡ true = subst (λ (x : Config). good x ≡ true) (sym i) g in
       let w = k-round-trip (t .depth) (t .name) (p .last .sides .bids) (p .last .sides .asks) g′ (back-fine t g Bids (p .last .sides .bids) at-bids) (back-fine t g Asks (p .last .sides .asks) at-asks) in
       let n : p .last .number ≡ 0 = r .number (ap (λ (x : Config). x .dialect) (sym (r .config) ∙ same-terms) ∙ e) in
       let x : snapshotText p ≡ kSnapshot (t .depth) (t .name) (p .last .sides .bids) (p .last .sides .asks) = text-in K e ∙ ap (λ (y : Config). kSnapshot (y .depth) (y .name) (p .last .sides .bids) (p .last .sides .asks)) same-terms in
-      let q : decode t (snapshotText p) ≡ decodes (snapshotOf p unprinted) = ap₂ decode (sym i) x ∙ w ∙ rw n in
-      read-back unprinted q (carries-none refl)
+      let q : decode t (snapshotText p) ≡ decodes (snapshotOf p (map (setting Asks) asks ++ map (setting Bids) bids) unprinted) = ap₂ decode (sym i) x ∙ w ∙ rw n in
+      read-back (map (setting Asks) asks ++ map (setting Bids) bids) (asks-first bids asks) unprinted q (carries-none refl)
 
   m-back : t .dialect ≡ M → ReadsBack t p
   unfolding snapshotOf textIn isM
   m-back e =
+      let bids : List PriceLevel = p .last .sides .bids in
+      let asks : List PriceLevel = p .last .sides .asks in
       let i = in-dialect M e in
       let d : t .depth ≡ 100 = good-depth t g .1 (ap isM e) in
       let j : record { dialect = M; depth = 100; name = t .name } ≡ t = ap (λ (x : ℕ). record { dialect = M; depth = x; name = t .name }) (sym d) ∙ i in
@@ -396,8 +453,8 @@ module _ (t : Config) (p : Reference) (r : Reached t p) (h : Sane p) (g : good t
       let low = h .low (ap (λ (x : Config). x .dialect) same-terms ∙ e) in
       let w = m-round-trip (t .name) (p .last .sides .bids) (p .last .sides .asks) sum (p .last .number) g′ (back-fine t g Bids (p .last .sides .bids) at-bids) (back-fine t g Asks (p .last .sides .asks) at-asks) low (h .small) in
       let x : snapshotText p ≡ mSnapshot (t .name) (p .last .sides .bids) (p .last .sides .asks) sum (p .last .number) = text-in M e ∙ ap (λ (y : Config). mSnapshot (y .name) (p .last .sides .bids) (p .last .sides .asks) sum (p .last .number)) same-terms in
-      let q : decode t (snapshotText p) ≡ decodes (snapshotOf p (printed sum)) = ap₂ decode (sym j) x ∙ w in
-      read-back (printed sum) q (the-same (ap (λ (x : Dialect). printed (checksumOf (rulesOf x) (p .last .sides))) (sym e)))
+      let q : decode t (snapshotText p) ≡ decodes (snapshotOf p (map (setting Bids) bids ++ map (setting Asks) asks) (printed sum)) = ap₂ decode (sym j) x ∙ w in
+      read-back (map (setting Bids) bids ++ map (setting Asks) asks) (bids-first bids asks) (printed sum) q (the-same (ap (λ (x : Dialect). printed (checksumOf (rulesOf x) (p .last .sides))) (sym e)))
 
   pub either-back : ReadsBack t p
   either-back = go (good-readable t g) refl

@@ -12,13 +12,14 @@ use Rattle.settings.specs.Settings.{Config}
 use Rattle.settings.specs.declared.Dialect.{Dialect}
 use Rattle.settings.specs.declared.Dialect.the-variants.{K, M, Unknown}
 use Rattle.entries.specs.Places.{andThen, all, top, arrayAt, objectAt, valuesOf, only, wholeAt, checksumAt, quotedChecksumAt}
+use Rattle.entries.specs.Rows.{Entry}
+use Rattle.entries.specs.declared.Form.the-variants as forms
+use Rattle.layout.specs.Depths.{sideDepth}
 use Rattle.layout.specs.declared.Kind.{Kind}
 use Rattle.layout.specs.declared.Kind.the-variants.{Snapshot, Update}
-use Rattle.layout.specs.Layout.{Printed, printed, unprinted, Listed, Layout, Envelope, laid}
-use Rattle.message_k.specs.LayoutK.{Frame, frameOf, together, isSnapshot, isUpdate, objectsLayout, layoutK, envelopeK}
-use Rattle.message_k.specs.LayoutK as k·
+use Rattle.layout.specs.Layout.{Printed, printed, unprinted, Layout, Envelope, entriesIn, laid}
+use Rattle.message_k.specs.LayoutK.{Frame, frameOf, together, isSnapshot, isUpdate, entriesK, objectsLayout, layoutK, envelopeK}
 use Rattle.message_m.specs.LayoutM.{kindAt, layoutM, envelopeM}
-use Rattle.message_m.specs.LayoutM as m·
 use Rattle.message.specs.Meaning.{Message, decodes, decode, Checked, fails, passes, envelopeIn, checked, decodedOf, messageOf}
 use Rattle.reference.specs.Claims.{Carries}
 use Rattle.reference.proofs.Checks.{Refusals, Read, Either, checked-either}
@@ -33,10 +34,10 @@ then-read P refused next h = tt
 abbrev Carrying : Dialect → Layout → Type 0
 Carrying d l = Carries d (l .kind) (l .checksum) (l .number)
 
-laid-carries : (d : Dialect) (kind : Kind) (sum : Printed) (number : ℕ) (bids asks : Reading Listed) → Carries d kind sum number
-    → Read (Carrying d) (laid kind sum number bids asks)
+laid-carries : (d : Dialect) (kind : Kind) (sum : Printed) (number : ℕ) (entries : Reading (List Entry)) → Carries d kind sum number
+    → Read (Carrying d) (laid kind sum number entries)
 unfolding laid
-laid-carries d kind sum number bids asks h = then-read (Carrying d) bids _ (λ b. then-read (Carrying d) asks _ (λ a. h))
+laid-carries d kind sum number entries h = then-read (Carrying d) entries _ (λ es. h)
 
 -- ---- the dialects
 
@@ -54,16 +55,16 @@ unfolding objectsLayout
 objects-carry s objects = at (isSnapshot s objects) (isUpdate s objects)
   where
     at : (a b : Bool) → Read (Carrying K)
-        (cond a (laid Snapshot unprinted 0 (k·.listedIn s (ascii "bs") objects) (k·.listedIn s (ascii "as") objects))
+        (cond a (laid Snapshot unprinted 0 (entriesK s (ascii "bs") (ascii "as") objects))
         (cond b (andThen (only (valuesOf s (ascii "c") (together objects))) (λ c.
-        andThen (quotedChecksumAt s c) (λ sum. laid Update (printed sum) 0 (k·.listedIn s (ascii "b") objects) (k·.listedIn s (ascii "a") objects)))) refused))
+        andThen (quotedChecksumAt s c) (λ sum. laid Update (printed sum) 0 (entriesK s (ascii "b") (ascii "a") objects)))) refused))
     at true b =
-        laid-carries K Snapshot unprinted 0 (k·.listedIn s (ascii "bs") objects) (k·.listedIn s (ascii "as") objects)
+        laid-carries K Snapshot unprinted 0 (entriesK s (ascii "bs") (ascii "as") objects)
         (record { compared = λ e. (refl, refl); none = λ e h. refl; number = λ e. refl })
     at false true =
         then-read (Carrying K) (only (valuesOf s (ascii "c") (together objects))) _ (λ c.
         then-read (Carrying K) (quotedChecksumAt s c) _ (λ sum.
-        laid-carries K Update (printed sum) 0 (k·.listedIn s (ascii "b") objects) (k·.listedIn s (ascii "a") objects)
+        laid-carries K Update (printed sum) 0 (entriesK s (ascii "b") (ascii "a") objects)
         (record { compared = λ e. not-unprinted sum e; none = λ e h. update-not h; number = λ e. refl })))
     at false false = tt
 
@@ -80,12 +81,14 @@ m-carries s ms =
     then-read P (kindAt s t) _ (λ kind.
     then-read P (only (valuesOf s (ascii "data") ms)) _ (λ d.
     then-read P (objectAt 15 s d) _ (λ ds.
+    then-read P (only (valuesOf s (ascii "bids") ds)) _ (λ b.
+    then-read P (only (valuesOf s (ascii "asks") ds)) _ (λ a.
     then-read P (only (valuesOf s (ascii "checksum") ms)) _ (λ k.
     then-read P (checksumAt s k) _ (λ sum.
     then-read P (only (valuesOf s (ascii "gsn") ms)) _ (λ g.
     then-read P (wholeAt s g) _ (λ number.
-    laid-carries M kind (printed sum) number (m·.listedIn s (ascii "bids") ds) (m·.listedIn s (ascii "asks") ds)
-    (record { compared = λ e. not-unprinted sum e; none = λ e h. m-not-k e; number = λ e. m-not-k e })))))))))))
+    laid-carries M kind (printed sum) number (entriesIn forms.Pair sideDepth s (ascii "bids") (ascii "asks") ds)
+    (record { compared = λ e. not-unprinted sum e; none = λ e h. m-not-k e; number = λ e. m-not-k e })))))))))))))
   where
     P : Layout → Type 0
     P = Carrying M

@@ -11,6 +11,7 @@ use lib.ListN.{length}
 use Rattle.decimal.specs.Digits.{Reading, reads, refused}
 use Rattle.settings.specs.Settings.{Config}
 use Rattle.settings.specs.declared.Rules.{Rules}
+use Rattle.edit.specs.declared.Side.the-variants.{Bids, Asks}
 use Rattle.level.specs.Side.{namesTwice}
 use Rattle.entries.specs.Places.{top}
 use Rattle.layout.specs.declared.Kind.{Kind}
@@ -21,7 +22,7 @@ use Rattle.answer.proofs.Laws.{taken-answer}
 use Rattle.message.specs.Meaning.{Message, Decoded, refuses, decodes, decode, Checked, fails, passes, envelopeIn, checked, decodedOf}
 use Rattle.answer.specs.declared.Answer.{Answer}
 use Rattle.answer.specs.declared.Answer.the-variants.{Taken, Shut, TooLong, NotJson, Escaped, NotOurs, BadLayout, TooManyEntries, BadDecimal, PriceTwice, NoSnapshot, OldNumber, TooManyLevels, WrongChecksum, NoLevel, NoRoom}
-use Rattle.reference.specs.Reference.{Status, shut, waiting, live, isShut, isLive, Reference, rules, checksumOf, pricesOf, namesPriceTwice, lacksSnapshot, isOld, hasTooMany, differs, hasWrongChecksum, sidesAfter, verdict, taken, withStatus, refusedBy, answered, received, receive}
+use Rattle.reference.specs.Reference.{Status, shut, waiting, live, isShut, isLive, Reference, rules, checksumOf, editsFor, pricesOf, namesPriceTwice, lacksSnapshot, isOld, hasTooMany, differs, hasWrongChecksum, sidesAfter, verdict, taken, withStatus, refusedBy, answered, received, receive}
 use Rattle.reference.proofs.Snapshot.{of-snapshot, of-update, a-snapshot, an-update}
 use Rattle.reference.proofs.Checks.{Refusals, Read, Either, checked-either}
 use Rattle.reference.specs.Claims.{Ready, is-live, restarts, Agrees, carries-none, the-same, Acceptable}
@@ -151,7 +152,7 @@ module _ (p : Reference) (m : Message) where
       let f = none-fits (namesPriceTwice m) (lacksSnapshot p m) (isOld p m) (hasTooMany p m) (hasWrongChecksum p m) h in
       record {
         ready = ready-from u (f .1);
-        once = λ k. or-none (namesTwice (pricesOf (m .bids))) (namesTwice (pricesOf (m .asks))) (rw (of-snapshot k) at (f .0));
+        once = λ k. or-none (namesTwice (pricesOf (editsFor Bids m))) (namesTwice (pricesOf (editsFor Asks m))) (rw (of-snapshot k) at (f .0));
         newer = λ e k. leb-false (m .number) (p .last .number) (rw (of-update k) at (where-rule (rules p .numbered) (not (isSnapshot (m .kind)) && leb (m .number) (p .last .number)) (f .2) e));
         few =
             let o = or-none (ltb (rules p .levels) (length (sidesAfter p m .bids))) (ltb (rules p .levels) (length (sidesAfter p m .asks))) (f .3) in
@@ -163,7 +164,7 @@ module _ (p : Reference) (m : Message) where
   unfolding namesPriceTwice
   acceptable-once a = at (isSnapshot (m .kind)) refl
     where
-      at : (b : Bool) → isSnapshot (m .kind) ≡ b → (b && (namesTwice (pricesOf (m .bids)) || namesTwice (pricesOf (m .asks)))) ≡ false
+      at : (b : Bool) → isSnapshot (m .kind) ≡ b → (b && (namesTwice (pricesOf (editsFor Bids m)) || namesTwice (pricesOf (editsFor Asks m)))) ≡ false
       at true k = let e = a .once (a-snapshot (m .kind) k) in neither _ _ (e .0) (e .1)
       at false k = refl
 

@@ -15,23 +15,24 @@ use Rattle.json.specs.Json.{Span, Pair}
 use Rattle.entries.specs.Places.{andThen, all, arrayAt, objectAt, valuesOf, wholeAt}
 use Rattle.entries.specs.declared.Form.the-variants.{Triple}
 use Rattle.settings.specs.Rules.{rulesOf}
-use Rattle.layout.specs.Layout.{unprinted, laid}
+use Rattle.layout.specs.Layout.{unprinted, memberEntries, entriesIn, laid}
 use Rattle.layout.specs.declared.Kind.the-variants.{Snapshot}
-use Rattle.message_k.specs.LayoutK.{Frame, frameOf, escapedK, oursK, times, together, isSnapshot, listedOf, listedIn, objectsLayout, layoutK, envelopeK}
-use Rattle.message.specs.Meaning.{envelopeIn, decode, decodes}
+use Rattle.message_k.specs.LayoutK.{Frame, frameOf, escapedK, oursK, times, together, isSnapshot, entriesK, objectsLayout, layoutK, envelopeK}
+use Rattle.message.specs.Meaning.{SidedEdit, envelopeIn, decode, decodes}
 use Rattle.settings.specs.Settings.{Config, good}
 use Rattle.settings.specs.declared.Dialect.the-variants.{K}
 use Rattle.edit.specs.Edit.{PriceLevel}
+use Rattle.edit.specs.declared.Side.the-variants.{Bids, Asks}
 use Rattle.writer.specs.Snapshot.{quoted, commaJoined, array, kEntry, kSnapshot}
-use Rattle.round_trip.specs.Claims.{Each, each-none, each-more, ValidLevel, Valid, levelChangeOf}
+use Rattle.round_trip.specs.Claims.{Each, each-none, each-more, ValidLevel, Valid, setting}
 use Rattle.round_trip.proofs.Places.{Is, part-is}
 use Rattle.round_trip.proofs.Tokens.{plain, length-quoted}
 use Rattle.round_trip.proofs.Lists.{Matched, both-none, both-more}
 use Rattle.round_trip.proofs.Values.{Reads, IsText, itself, string-reads, zero-reads, array-reads, Field, fieldText, object, GoodField, IsField, object-reads}
-use Rattle.round_trip.proofs.Readers.{Gives, array-at, object-at, is-string, no-backslash, means-it, same, named, values-named, matched-length, One, the-one}
-use Rattle.round_trip.proofs.Rows.{digits-plain, plain-append, k-entry, side-reads, SideAt, listed-at}
+use Rattle.round_trip.proofs.Readers.{Gives, array-at, object-at, is-string, no-backslash, means-it, means-same, same, named, values-named, matched-length}
+use Rattle.round_trip.proofs.Rows.{digits-plain, plain-append, k-entry, side-reads, IsEdit, sided-at, also, no-more}
 use Rattle.round_trip.proofs.Sizes.{maxSide, length-k, length-side}
-use Rattle.round_trip.proofs.Whole.{laidAs, HeardAs, says-tree}
+use Rattle.round_trip.proofs.Whole.{laidAs, HeardAs, asks-first, says-tree}
 use Rattle.round_trip.proofs.Settings.{name-plain, name-short, depth-short}
 
 -- ---- the text as a tree of values
@@ -96,6 +97,9 @@ module _ (s : List ℕ) (bids asks : List PriceLevel) (fine-bids : Each ValidLev
   abbrev the-fields : List Field
   the-fields = fields (side asks) (side bids)
 
+  abbrev the-edits : List SidedEdit
+  the-edits = map (setting Asks) asks ++ map (setting Bids) bids
+
   module _ (ms : List Pair) (m : Matched (IsField s) ms the-fields) where
     alone : together (ms ∷ []) ≡ ms
     unfolding together
@@ -112,21 +116,17 @@ module _ (s : List ℕ) (bids asks : List PriceLevel) (fine-bids : Each ValidLev
     unfolding isSnapshot named same
     a-snapshot = rw (times-are (ascii "as"), times-are (ascii "bs"), times-are (ascii "a"), times-are (ascii "b"), times-are (ascii "c"))
 
-    side-in : (name : List ℕ) (levels : List PriceLevel) → Each ValidLevel levels → One (Is s) (valuesOf s name (together (ms ∷ []))) (side levels) → SideAt s levels (listedIn s name (ms ∷ []))
-    unfolding listedIn listedOf
-    side-in name levels each o = rw (o .alone, listedOf) (listed-at kEntry Triple k-entry s (o .the) levels each (o .is-it))
+    laid-out : (g : Gives (IsEdit s) the-edits (entriesIn Triple 14 s (ascii "bs") (ascii "as") ms)) → objectsLayout s (ms ∷ []) ≡ reads (laidAs (g .found) unprinted 0)
+    unfolding objectsLayout entriesK laid andThen
+    laid-out g = rw (a-snapshot, alone, g .gives)
 
-    bids-at : SideAt s bids (listedIn s (ascii "bs") (ms ∷ []))
-    unfolding named same
-    bids-at = side-in (ascii "bs") bids fine-bids (the-one (values (ascii "bs")))
-
-    asks-at : SideAt s asks (listedIn s (ascii "as") (ms ∷ []))
-    unfolding named same
-    asks-at = side-in (ascii "as") asks fine-asks (the-one (values (ascii "as")))
-
-    laid-out : objectsLayout s (ms ∷ []) ≡ reads (laidAs (bids-at .listed) (asks-at .listed) unprinted 0)
-    unfolding objectsLayout laid andThen
-    laid-out = rw (a-snapshot, bids-at .is-listed, asks-at .is-listed)
+  -- the first member holds the asks, the second the bids
+  entries-in : (ms : List Pair) → Matched (IsField s) ms the-fields → Gives (IsEdit s) the-edits (entriesIn Triple 14 s (ascii "bs") (ascii "as") ms)
+  unfolding entriesIn memberEntries same
+  entries-in ms (both-more {a = a} h (both-more {a = b} k both-none)) =
+      rw (means-same (ascii "as") (h .name-is) (ascii "bs"), means-same (ascii "as") (h .name-is) (ascii "as"), means-same (ascii "bs") (k .name-is) (ascii "bs"))
+      (also (sided-at kEntry Triple k-entry Asks s (a .value) asks fine-asks (h .value-is))
+      (no-more (sided-at kEntry Triple k-entry Bids s (b .value) bids fine-bids (k .value-is))))
 
   -- ---- what is read of the message: its four values lie at n, o, c and p
   module _ (depth : ℕ) (name : List ℕ) (name-is : plain name ≡ true) where
@@ -149,30 +149,25 @@ module _ (s : List ℕ) (bids asks : List PriceLevel) (fine-bids : Each ValidLev
       the-object : Gives (IsField s) the-fields (objectAt 15 s o)
       the-object = object-at 14 the-fields (fields-good bids asks) s o ho
 
-      the-bids : SideAt s bids (listedIn s (ascii "bs") (the-object .found ∷ []))
-      the-bids = bids-at (the-object .found) (the-object .matches)
+      the-entries : Gives (IsEdit s) the-edits (entriesIn Triple 14 s (ascii "bs") (ascii "as") (the-object .found))
+      the-entries = entries-in (the-object .found) (the-object .matches)
 
-      the-asks : SideAt s asks (listedIn s (ascii "as") (the-object .found ∷ []))
-      the-asks = asks-at (the-object .found) (the-object .matches)
+      layout : layoutK s frame ≡ reads (laidAs (the-entries .found) unprinted 0)
+      unfolding layoutK andThen all
+      layout = rw (whole, the-object .gives) (laid-out (the-object .found) (the-object .matches) the-entries)
 
-      layout : layoutK s frame ≡ reads (laidAs (the-bids .listed) (the-asks .listed) unprinted 0)
-      unfolding layoutK andThen all the-bids the-asks
-      layout = rw (whole, the-object .gives) (laid-out (the-object .found) (the-object .matches))
-
-      heard : (a : Span) → arrayAt 16 s a ≡ reads (n ∷ (o ∷ (c ∷ (p ∷ [])))) → HeardAs s bids asks unprinted 0 (envelopeK depth name s a)
+      heard : (a : Span) → arrayAt 16 s a ≡ reads (n ∷ (o ∷ (c ∷ (p ∷ [])))) → HeardAs s the-edits unprinted 0 (envelopeK depth name s a)
       unfolding envelopeK andThen frameOf
       heard a e = record {
-        the-bids = the-bids .listed;
-        the-asks = the-asks .listed;
+        entries = the-entries .found;
         is-heard = rw (e, not-escaped, ours, layout);
-        bids-are = the-bids .rows-are;
-        asks-are = the-asks .rows-are;
+        carries = the-entries .matches;
       }
 
-    heard-in : (a : Span) (found : List Span) → arrayAt 16 s a ≡ reads found → Matched (IsText itself s) found (tree bids asks depth name) → HeardAs s bids asks unprinted 0 (envelopeK depth name s a)
+    heard-in : (a : Span) (found : List Span) → arrayAt 16 s a ≡ reads found → Matched (IsText itself s) found (tree bids asks depth name) → HeardAs s the-edits unprinted 0 (envelopeK depth name s a)
     heard-in a found e (both-more {a = n} hn (both-more {a = o} ho (both-more {a = c} hc (both-more {a = p} hp both-none)))) = heard n o c p hn ho hc hp a e
 
-    heard-tree : (a : Span) → Is s a (array (tree bids asks depth name)) → HeardAs s bids asks unprinted 0 (envelopeK depth name s a)
+    heard-tree : (a : Span) → Is s a (array (tree bids asks depth name)) → HeardAs s the-edits unprinted 0 (envelopeK depth name s a)
     heard-tree a h = let g = array-at 15 itself (tree bids asks depth name) (elements-read bids asks depth name name-is) s a h in heard-in a (g .found) (g .gives) (g .matches)
 
 -- ---- the claim
@@ -197,12 +192,12 @@ module _ (depth : ℕ) (name : List ℕ) (bids asks : List PriceLevel) (g : good
       (omega (arith, length-quoted name, name-short terms g))
 
   pub said-k : decode terms (kSnapshot depth name bids asks)
-      ≡ decodes (record { kind = Snapshot; bids = map levelChangeOf bids; asks = map levelChangeOf asks; checksum = unprinted; number = 0 })
+      ≡ decodes (record { kind = Snapshot; edits = map (setting Asks) asks ++ map (setting Bids) bids; checksum = unprinted; number = 0 })
   unfolding envelopeIn rulesOf
   said-k =
       ap (decode terms) snapshot-spelled
       ∙ says-tree terms the-text (array (tree bids asks depth name))
       (spelled-tree (side asks) (side bids) (quoted (channel depth)) (quoted name)) short
-      (tree-reads bids asks depth name (name-plain terms g)) bids asks unprinted 0
+      (tree-reads bids asks depth name (name-plain terms g)) (map (setting Asks) asks ++ map (setting Bids) bids) unprinted 0
       (heard-tree the-text bids asks (fine-bids .each) (fine-asks .each) depth name (name-plain terms g))
-      (fine-bids .few) (fine-asks .few)
+      (asks-first 100 bids asks (fine-bids .few) (fine-asks .few))

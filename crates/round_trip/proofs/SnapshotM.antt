@@ -16,23 +16,24 @@ use Rattle.json.specs.Json.{Span, Pair}
 use Rattle.entries.specs.Places.{andThen, objectAt, valuesOf, only, wholeAt, checksumAt}
 use Rattle.entries.specs.declared.Form.the-variants as forms
 use Rattle.settings.specs.Rules.{rulesOf}
-use Rattle.layout.specs.Layout.{printed, laid}
+use Rattle.layout.specs.Layout.{printed, memberEntries, entriesIn, laid}
 use Rattle.layout.specs.declared.Kind.the-variants.{Snapshot}
-use Rattle.message_m.specs.LayoutM.{someName, someString, escapedM, someMeans, oursM, kindAt, listedIn, layoutM, envelopeM}
-use Rattle.message.specs.Meaning.{envelopeIn, decode, decodes}
+use Rattle.message_m.specs.LayoutM.{someName, someString, escapedM, someMeans, oursM, kindAt, layoutM, envelopeM}
+use Rattle.message.specs.Meaning.{SidedEdit, envelopeIn, decode, decodes}
 use Rattle.settings.specs.Settings.{Config, good}
 use Rattle.settings.specs.declared.Dialect.the-variants.{M}
 use Rattle.edit.specs.Edit.{PriceLevel}
+use Rattle.edit.specs.declared.Side.the-variants.{Bids, Asks}
 use Rattle.writer.specs.Snapshot.{quoted, commaJoined, array, mEntry, mSnapshot}
-use Rattle.round_trip.specs.Claims.{Each, each-none, each-more, ValidLevel, Valid, levelChangeOf}
+use Rattle.round_trip.specs.Claims.{Each, each-none, each-more, ValidLevel, Valid, setting}
 use Rattle.round_trip.proofs.Places.{Is, part-is}
 use Rattle.round_trip.proofs.Tokens.{plain, length-quoted}
 use Rattle.round_trip.proofs.Lists.{Matched, both-none, both-more}
 use Rattle.round_trip.proofs.Values.{Reads, string-reads, number-reads, Field, fieldText, object, GoodField, IsField, object-reads}
-use Rattle.round_trip.proofs.Readers.{Gives, object-at, is-string, no-backslash, means-it, same, named, values-named, One, the-one}
-use Rattle.round_trip.proofs.Rows.{m-entry, side-reads, SideAt, listed-at}
+use Rattle.round_trip.proofs.Readers.{Gives, object-at, is-string, no-backslash, means-it, means-same, same, named, values-named, One, the-one}
+use Rattle.round_trip.proofs.Rows.{m-entry, side-reads, IsEdit, sided-at, also, no-more}
 use Rattle.round_trip.proofs.Sizes.{maxSide, length-m, length-side}
-use Rattle.round_trip.proofs.Whole.{laidAs, HeardAs, says-tree}
+use Rattle.round_trip.proofs.Whole.{laidAs, HeardAs, bids-first, says-tree}
 use Rattle.round_trip.proofs.Settings.{name-plain, name-short}
 
 -- ---- the text as a tree of values
@@ -121,10 +122,6 @@ module _ (s : List ℕ) where
   unfolding someMeans
   means-one t o = rw (o .alone, someMeans, means-it t (o .is-it))
 
-  side-in : (name : List ℕ) (ms : List Pair) (levels : List PriceLevel) → Each ValidLevel levels → One (Is s) (valuesOf s name ms) (side levels) → SideAt s levels (listedIn s name ms)
-  unfolding listedIn andThen
-  side-in name ms levels each o = rw (only-one o) (listed-at mEntry forms.Pair m-entry s (o .the) levels each (o .is-it))
-
 -- ---- what is read of the message
 module _ (s : List ℕ) (bids asks : List PriceLevel) (fine-bids : Each ValidLevel bids) (fine-asks : Each ValidLevel asks) (name : List ℕ) (name-is : plain name ≡ true) (checksum number : ℕ)
     (low : checksum ≤ 4294967295) (few : number < 10 ^ 19) where
@@ -133,6 +130,17 @@ module _ (s : List ℕ) (bids asks : List PriceLevel) (fine-bids : Each ValidLev
 
   abbrev the-sides : List Field
   the-sides = sides (side bids) (side asks)
+
+  abbrev the-edits : List SidedEdit
+  the-edits = map (setting Bids) bids ++ map (setting Asks) asks
+
+  -- the first member holds the bids, the second the asks
+  entries-in : (ds : List Pair) → Matched (IsField s) ds the-sides → Gives (IsEdit s) the-edits (entriesIn forms.Pair 14 s (ascii "bids") (ascii "asks") ds)
+  unfolding entriesIn memberEntries same
+  entries-in ds (both-more {a = b} h (both-more {a = a} k both-none)) =
+      rw (means-same (ascii "bids") (h .name-is) (ascii "bids"), means-same (ascii "asks") (k .name-is) (ascii "bids"), means-same (ascii "asks") (k .name-is) (ascii "asks"))
+      (also (sided-at mEntry forms.Pair m-entry Bids s (b .value) bids fine-bids (h .value-is))
+      (no-more (sided-at mEntry forms.Pair m-entry Asks s (a .value) asks fine-asks (k .value-is))))
 
   module _ (ms : List Pair) (m : Matched (IsField s) ms the-tree) where
     channel : One (Is s) (valuesOf s (ascii "channel") ms) (quoted (ascii "book"))
@@ -186,15 +194,18 @@ module _ (s : List ℕ) (bids asks : List PriceLevel) (fine-bids : Each ValidLev
     the-data : Gives (IsField s) the-sides (objectAt 15 s (data-in .the))
     the-data = object-at 14 the-sides (sides-good bids asks) s (data-in .the) (data-in .is-it)
 
-    bids-at : SideAt s bids (listedIn s (ascii "bids") (the-data .found))
+    the-bids : One (Is s) (valuesOf s (ascii "bids") (the-data .found)) (side bids)
     unfolding named same
-    bids-at = side-in s (ascii "bids") (the-data .found) bids fine-bids (the-one (values-named s (ascii "bids") (the-data .matches)))
+    the-bids = the-one (values-named s (ascii "bids") (the-data .matches))
 
-    asks-at : SideAt s asks (listedIn s (ascii "asks") (the-data .found))
+    the-asks : One (Is s) (valuesOf s (ascii "asks") (the-data .found)) (side asks)
     unfolding named same
-    asks-at = side-in s (ascii "asks") (the-data .found) asks fine-asks (the-one (values-named s (ascii "asks") (the-data .matches)))
+    the-asks = the-one (values-named s (ascii "asks") (the-data .matches))
 
-    layout : layoutM s ms ≡ reads (laidAs (bids-at .listed) (asks-at .listed) (printed checksum) number)
+    the-entries : Gives (IsEdit s) the-edits (entriesIn forms.Pair 14 s (ascii "bids") (ascii "asks") (the-data .found))
+    the-entries = entries-in (the-data .found) (the-data .matches)
+
+    layout : layoutM s ms ≡ reads (laidAs (the-entries .found) (printed checksum) number)
     unfolding layoutM andThen laid
     layout =
         rw (
@@ -204,25 +215,24 @@ module _ (s : List ℕ) (bids asks : List PriceLevel) (fine-bids : Each ValidLev
           a-snapshot,
           only-one data-in,
           the-data .gives,
+          only-one the-bids,
+          only-one the-asks,
           only-one sum-in,
           the-sum,
           only-one number-in,
           the-number,
-          bids-at .is-listed,
-          asks-at .is-listed,
+          the-entries .gives,
         )
 
-    heard : (a : Span) → objectAt 16 s a ≡ reads ms → HeardAs s bids asks (printed checksum) number (envelopeM name s a)
+    heard : (a : Span) → objectAt 16 s a ≡ reads ms → HeardAs s the-edits (printed checksum) number (envelopeM name s a)
     unfolding envelopeM andThen
     heard a e = record {
-      the-bids = bids-at .listed;
-      the-asks = asks-at .listed;
+      entries = the-entries .found;
       is-heard = rw (e, not-escaped, ours, layout);
-      bids-are = bids-at .rows-are;
-      asks-are = asks-at .rows-are;
+      carries = the-entries .matches;
     }
 
-  heard-tree : (a : Span) → Is s a (object the-tree) → HeardAs s bids asks (printed checksum) number (envelopeM name s a)
+  heard-tree : (a : Span) → Is s a (object the-tree) → HeardAs s the-edits (printed checksum) number (envelopeM name s a)
   heard-tree a h = let g = object-at 15 the-tree (fields-good bids asks name name-is checksum number) s a h in heard (g .found) (g .matches) a (g .gives)
 
 -- ---- the claim
@@ -248,12 +258,12 @@ module _ (name : List ℕ) (bids asks : List PriceLevel) (checksum number : ℕ)
       (length-written 18 number few)
 
   pub said-m : decode terms (mSnapshot name bids asks checksum number)
-      ≡ decodes (record { kind = Snapshot; bids = map levelChangeOf bids; asks = map levelChangeOf asks; checksum = printed checksum; number = number })
+      ≡ decodes (record { kind = Snapshot; edits = map (setting Bids) bids ++ map (setting Asks) asks; checksum = printed checksum; number = number })
   unfolding envelopeIn rulesOf
   said-m =
       ap (decode terms) snapshot-spelled
       ∙ says-tree terms the-text (object (tree bids asks name checksum number))
       (spelled-tree (quoted name) (side bids) (side asks) (written checksum) (written number)) short
-      (tree-reads bids asks name (name-plain terms g) checksum number) bids asks (printed checksum) number
+      (tree-reads bids asks name (name-plain terms g) checksum number) (map (setting Bids) bids ++ map (setting Asks) asks) (printed checksum) number
       (heard-tree the-text bids asks (fine-bids .each) (fine-asks .each) name (name-plain terms g) checksum number low few)
-      (fine-bids .few) (fine-asks .few)
+      (bids-first 100 bids asks (fine-bids .few) (fine-asks .few))

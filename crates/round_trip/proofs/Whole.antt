@@ -2,9 +2,10 @@
 use Prim.Native.Nat.{ℕ, _+_, _≤_}
 use mathlib.Core.Path.{_≡_, refl, sym, ap, _∙_, subst}
 use mathlib.Core.Bool.{Bool, true, false, cond}
-use mathlib.Core.List.{List, [], map, append-nil}
+use mathlib.Core.List.{List, [], _++_, map, append-nil}
 use native.Mathlib.Omega.{arith}
 use borrow.Author.Tests.{eq-eqb, le-ltb}
+use lib.Dec.{ltb}
 use lib.ListN.{length}
 use lib.Seq.{drop-length}
 use Rattle.decimal.specs.Digits.{Reading, reads}
@@ -16,17 +17,19 @@ use Rattle.json.proofs.Laws.{text-ends}
 use Rattle.settings.specs.Rules.{rulesOf}
 use Rattle.settings.specs.Settings.{Config}
 use Rattle.entries.specs.Places.{top}
-use Rattle.layout.specs.Layout.{isSnapshot, Printed, Listed, Layout, Envelope}
+use Rattle.entries.specs.Rows.{Entry}
+use Rattle.layout.specs.Layout.{isSnapshot, Printed, Layout, Envelope}
 use Rattle.layout.specs.declared.Kind.the-variants.{Snapshot}
-use Rattle.message.specs.Meaning.{fails, passes, decodes, tooMany, counted, laidOut, addressed, envelopeIn, framed, bad, decimals, alsoDecimals, checked, messageOf, decodedOf, decode}
+use Rattle.message.specs.Meaning.{SidedEdit, fails, passes, decodes, tooMany, counted, laidOut, addressed, envelopeIn, framed, bad, decimals, alsoDecimals, checked, messageOf, decodedOf, decode}
 use Rattle.answer.specs.declared.Answer.the-variants.{TooManyEntries}
-use Rattle.edit.specs.Edit.{PriceLevel}
-use Rattle.round_trip.specs.Claims.{levelChangeOf}
+use Rattle.edit.specs.Edit.{PriceLevel, isSame, forSide}
+use Rattle.edit.specs.declared.Side.{Side}
+use Rattle.edit.specs.declared.Side.the-variants.{Bids, Asks}
+use Rattle.round_trip.specs.Claims.{setting}
 use Rattle.round_trip.proofs.Places.{no-blanks, nothing-stops, Is}
 use Rattle.round_trip.proofs.Lists.{Matched}
 use Rattle.round_trip.proofs.Values.{Reads}
-use Rattle.round_trip.proofs.Readers.{matched-length}
-use Rattle.round_trip.proofs.Rows.{IsLevel, quotes-are, none-bad}
+use Rattle.round_trip.proofs.Rows.{IsEdit, edits-are, none-bad, editSide, count-is, count-append, count-own, count-other}
 
 -- ---- the text is its own value
 module _ (s : List ℕ) (r : Reads 16 s) where
@@ -55,28 +58,44 @@ module _ (s : List ℕ) (r : Reads 16 s) where
 
 -- ---- the checks, in their order
 
-abbrev pub laidAs : Listed → Listed → Printed → ℕ → Layout
-laidAs bids asks sum number = record { kind = Snapshot; bids = bids; asks = asks; checksum = sum; number = number }
+abbrev pub laidAs : List Entry → Printed → ℕ → Layout
+laidAs entries sum number = record { kind = Snapshot; entries = entries; checksum = sum; number = number }
 
--- it is this book's, and has the layout of a snapshot of these levels
-pub record HeardAs (s : List ℕ) (bids asks : List PriceLevel) (sum : Printed) (number : ℕ) (x : Reading Envelope) : Type 0 where
-  pub the-bids : Listed
-  pub the-asks : Listed
-  pub is-heard : x ≡ reads (record { escaped = false; ours = true; layout = reads (laidAs the-bids the-asks sum number) })
-  pub bids-are : Matched (IsLevel s) (the-bids .rows) bids
-  pub asks-are : Matched (IsLevel s) (the-asks .rows) asks
+-- it is this book's, and has the layout of a snapshot that carries these edits
+pub record HeardAs (s : List ℕ) (edits : List SidedEdit) (sum : Printed) (number : ℕ) (x : Reading Envelope) : Type 0 where
+  pub entries : List Entry
+  pub is-heard : x ≡ reads (record { escaped = false; ours = true; layout = reads (laidAs entries sum number) })
+  pub carries : Matched (IsEdit s) entries edits
 
-module _ (t : Config) (s : List ℕ) (short : length s ≤ rulesOf (t .dialect) .longest) (r : Reads 16 s) (bids asks : List PriceLevel) (sum : Printed) (number : ℕ)
-    (h : HeardAs s bids asks sum number (envelopeIn (t .dialect) t s (top s))) (few-bids : length bids ≤ rulesOf (t .dialect) .entries) (few-asks : length asks ≤ rulesOf (t .dialect) .entries) where
+-- no more of them for a side than a message may have
+abbrev pub Few : ℕ → List SidedEdit → Type 0
+Few most edits = (side : Side) → length (forSide editSide side edits) ≤ most
+
+-- the levels of the one side and of the other
+pub asks-first : (most : ℕ) (bids asks : List PriceLevel) → length bids ≤ most → length asks ≤ most → Few most (map (setting Asks) asks ++ map (setting Bids) bids)
+unfolding isSame
+asks-first most bids asks b a Bids = omega (arith, count-append Bids (map (setting Asks) asks) (map (setting Bids) bids), count-other Bids Asks asks refl, count-own Bids bids refl)
+asks-first most bids asks b a Asks = omega (arith, count-append Asks (map (setting Asks) asks) (map (setting Bids) bids), count-own Asks asks refl, count-other Asks Bids bids refl)
+
+pub bids-first : (most : ℕ) (bids asks : List PriceLevel) → length bids ≤ most → length asks ≤ most → Few most (map (setting Bids) bids ++ map (setting Asks) asks)
+unfolding isSame
+bids-first most bids asks b a Bids = omega (arith, count-append Bids (map (setting Bids) bids) (map (setting Asks) asks), count-own Bids bids refl, count-other Bids Asks asks refl)
+bids-first most bids asks b a Asks = omega (arith, count-append Asks (map (setting Bids) bids) (map (setting Asks) asks), count-other Asks Bids bids refl, count-own Asks asks refl)
+
+module _ (t : Config) (s : List ℕ) (short : length s ≤ rulesOf (t .dialect) .longest) (r : Reads 16 s) (edits : List SidedEdit) (sum : Printed) (number : ℕ)
+    (h : HeardAs s edits sum number (envelopeIn (t .dialect) t s (top s))) (few : Few (rulesOf (t .dialect) .entries) edits) where
   l : Layout
-  l = laidAs (h .the-bids) (h .the-asks) sum number
+  l = laidAs (h .entries) sum number
+
+  few-for : (side : Side) → ltb (rulesOf (t .dialect) .entries) (length (forSide (λ (e : Entry). e .side) side (h .entries))) ≡ false
+  few-for side =
+      let e = count-is side (h .carries) in
+      let f = few side in
+      le-ltb (rulesOf (t .dialect) .entries) (length (forSide (λ (e : Entry). e .side) side (h .entries))) (omega arith)
 
   not-many : tooMany (rulesOf (t .dialect) .entries) l ≡ false
   unfolding tooMany l
-  not-many =
-      let b = matched-length (h .bids-are) in
-      let a = matched-length (h .asks-are) in
-      rw (le-ltb (rulesOf (t .dialect) .entries) (length (h .the-bids .rows)) (omega arith), le-ltb (rulesOf (t .dialect) .entries) (length (h .the-asks .rows)) (omega arith))
+  not-many = rw (few-for Bids, few-for Asks)
 
   is-framed : framed t s ≡ passes l
   unfolding framed addressed laidOut counted l
@@ -84,20 +103,20 @@ module _ (t : Config) (s : List ℕ) (short : length s ≤ rulesOf (t .dialect) 
 
   no-bad : bad s l ≡ []
   unfolding bad l isSnapshot
-  no-bad = rw (none-bad (h .bids-are), none-bad (h .asks-are))
+  no-bad = none-bad (h .carries)
 
   is-checked : checked t s ≡ passes l
   unfolding checked alsoDecimals decimals
   is-checked = ap (alsoDecimals s) is-framed ∙ rw (no-bad, decimals)
 
-  says-them : decode t s ≡ decodes (record { kind = Snapshot; bids = map levelChangeOf bids; asks = map levelChangeOf asks; checksum = sum; number = number })
+  says-them : decode t s ≡ decodes (record { kind = Snapshot; edits = edits; checksum = sum; number = number })
   unfolding decode decodedOf messageOf l
-  says-them = ap (decodedOf s) is-checked ∙ rw (quotes-are (h .bids-are), quotes-are (h .asks-are))
+  says-them = ap (decodedOf s) is-checked ∙ rw (edits-are (h .carries))
 
 -- the same of a text that is a tree of values
-pub says-tree : (t : Config) (s tree : List ℕ) → s ≡ tree → length s ≤ rulesOf (t .dialect) .longest → Reads 16 tree → (bids asks : List PriceLevel) (sum : Printed) (number : ℕ)
-    → ((a : Span) → Is s a tree → HeardAs s bids asks sum number (envelopeIn (t .dialect) t s a)) → length bids ≤ rulesOf (t .dialect) .entries → length asks ≤ rulesOf (t .dialect) .entries
-    → decode t s ≡ decodes (record { kind = Snapshot; bids = map levelChangeOf bids; asks = map levelChangeOf asks; checksum = sum; number = number })
-says-tree t s tree e short r bids asks sum number h few-bids few-asks =
+pub says-tree : (t : Config) (s tree : List ℕ) → s ≡ tree → length s ≤ rulesOf (t .dialect) .longest → Reads 16 tree → (edits : List SidedEdit) (sum : Printed) (number : ℕ)
+    → ((a : Span) → Is s a tree → HeardAs s edits sum number (envelopeIn (t .dialect) t s a)) → Few (rulesOf (t .dialect) .entries) edits
+    → decode t s ≡ decodes (record { kind = Snapshot; edits = edits; checksum = sum; number = number })
+says-tree t s tree e short r edits sum number h few =
     let q : Reads 16 s = subst (Reads 16) (sym e) r in
-    says-them t s short q bids asks sum number (h (top s) (subst (Is s (top s)) e (top-is s q))) few-bids few-asks
+    says-them t s short q edits sum number (h (top s) (subst (Is s (top s)) e (top-is s q))) few

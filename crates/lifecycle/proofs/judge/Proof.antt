@@ -1,5 +1,6 @@
 -- `judge` meets its contract: a shut book, the checks of the text, then those of an update.
 use mathlib.Core.Path.{_≡_, sym, ap, _∙_}
+use mathlib.Core.Bool.{true≢false}
 use denote.Ref.{now}
 use native.Mathlib.Omega.{arith}
 use lib.ListN.{length-take}
@@ -15,12 +16,13 @@ use Rattle.lifecycle.proofs.judge.Tie as tie
 returns : tie.Need-returns
 returns c =
     let a = c .before .before .before .args in
-    judged-shut (a .settings) (a .lifecycle) (a .number) (now (a .s)) (sym (c .before .is-shut .ensures) ∙ c .if1 .taken)
+    let shut = sym (c .before .is-shut .ensures) ∙ c .if1 .taken in
+    record { told = judged-shut (a .settings) (a .lifecycle) (a .number) (now (a .s)) shut; kept = λ u. absurd (true≢false (sym shut ∙ u)) }
 
 slice-aggregate-read-open : tie.Need-slice-aggregate-read-open
 slice-aggregate-read-open c =
     let a = c .before .before .before .before .before .args in
-    let g = c .before .before .before .before .before .pre in
+    let g = c .before .before .before .before .before .pre .0 in
     let r = g .room in
     let s = g .short in
     let l = length-take (a .settings .length) (a .settings .name) in
@@ -29,38 +31,37 @@ slice-aggregate-read-open c =
 read-open-requires : tie.Need-read-open-requires
 unfolding configOf
 read-open-requires c κs =
-    c .before .before .before .before .before .pre .config (sym (c .before .before .before .is-shut .ensures) ∙ c .before .before .if1 .left)
+    let p = c .before .before .before .before .before .before .pre in
+    (p .0 .config (sym (c .before .before .before .before .is-shut .ensures) ∙ c .before .before .before .if1 .left), p .1)
 
 returns-2 : tie.Need-returns-2
 unfolding configOf afterText
 returns-2 c =
-    let a = c .before .before .before .before .before .before .before .before .before .args in
-    let u = sym (c .before .before .before .before .before .before .before .is-shut .ensures) ∙ c .before .before .before .before .before .before .if1 .left in
+    let a = c .before .before .before .before .before .before .before .before .before .before .args in
+    let u = sym (c .before .before .before .before .before .before .before .before .is-shut .ensures) ∙ c .before .before .before .before .before .before .before .if1 .left in
     let r = c .before .before .before .read-open in
-    judged-open (a .settings) (a .lifecycle) (a .number) (now (a .s)) u _ (sym (r .ensures) ∙ c .before .answer .given .1)
+    record {
+      told = judged-open (a .settings) (a .lifecycle) (a .number) (now (a .s)) u _ (sym (r .ensures .told) ∙ c .before .answer .given .1);
+      kept = λ v. r .ensures .kept;
+    }
 
 returns-3 : tie.Need-returns-3
 unfolding configOf afterText
 returns-3 c =
-    let a = c .before .before .before .before .before .before .before .before .before .before .before .args in
-    let u = sym (c .before .before .before .before .before .before .before .before .before .is-shut .ensures) ∙ c .before .before .before .before .before .before .before .before .if1 .left in
+    let a = c .before .before .before .before .before .before .before .before .before .before .before .before .args in
+    let u = sym (c .before .before .before .before .before .before .before .before .before .before .is-shut .ensures) ∙ c .before .before .before .before .before .before .before .before .before .if1 .left in
     let r = c .before .before .before .before .before .read-open in
     let o = c .before .before .before .outline .given in
-    c .judge-update .ensures ∙ ap (λ (x : Rules). judgedUpdate (a .lifecycle .state) (x .numbered) (a .number) (o .0 .0)) (c .before .rules-of .ensures)
-    ∙ judged-open (a .settings) (a .lifecycle) (a .number) (now (a .s)) u _ (sym (r .ensures) ∙ o .1)
+    record {
+      told =
+          c .judge-update .ensures ∙ ap (λ (x : Rules). judgedUpdate (a .lifecycle .state) (x .numbered) (a .number) (o .0 .0)) (c .before .rules-of .ensures)
+          ∙ judged-open (a .settings) (a .lifecycle) (a .number) (now (a .s)) u _ (sym (r .ensures .told) ∙ o .1);
+      kept = λ v. r .ensures .kept;
+    }
 
 pub judge-spec : {M : Type 1} → statement M
 judge-spec =
     tie.close
     (tie.spec
-    (λ c κs. search needs)
-    returns
-    (λ c. search needs)
-    slice-aggregate-read-open
-    read-open-requires
-    (λ c. search needs)
-    (λ c. search needs)
-    (λ c κs. search needs)
-    (λ c κs. search needs)
-    returns-2
-    returns-3)
+    (λ c κs. search needs) returns (λ c. search needs) slice-aggregate-read-open read-open-requires (λ c. search needs) (λ c. search needs) (λ c κs. search needs) (λ c κs. search needs)
+    returns-2 returns-3)

@@ -16,7 +16,8 @@ use Rattle.edit.specs.declared.Side.the-variants.{Bids, Asks}
 use Rattle.sides.specs.Worked.{Sound}
 use Rattle.lifecycle.specs.Lifecycle.{statusOf}
 use Rattle.reference.specs.Reference.{isShut, Reference, opened, After, receive, Question, howMany, levelAt, write, counts, level, amount, question, does}
-use Rattle.settings.specs.Kept.{isM}
+use Rattle.settings.specs.Rules.{rulesOf}
+use Rattle.settings.specs.declared.SumText.{SumText}
 use Rattle.reference.specs.declared.Scope.{Scope}
 use Rattle.book.specs.declared.Book.{Book}
 use Rattle.book.specs.declared.Header.{Header}
@@ -67,14 +68,18 @@ partsOf b = record { bids = b .bids .words; asks = b .asks .words; header = head
 abbrev pub stepOf : List ℕ → List ℕ → Answered → Step
 stepOf bids asks r = record { book = bookOf bids asks (r .header); answer = r .answer }
 
+-- The text that the book's checksum is made of.
+abbrev pub textOf : Book → SumText
+textOf b = rulesOf (b .settings .dialect) .text
+
 -- What holds of every book that `open` or a method hands out.
 pub record Good (b : Book) : Type 0 where
   pub room : length (b .settings .name) ≡ 16
   pub short : b .settings .length ≤ 16
   -- a book that is not shut has good settings
   pub config : isShut (statusOf (b .lifecycle .state)) ≡ false → good (configOf (b .settings)) ≡ true
-  pub bids : Sound (isM (b .settings .dialect)) Bids (b .bids)
-  pub asks : Sound (isM (b .settings .dialect)) Asks (b .asks)
+  pub bids : Sound (textOf b) Bids (b .bids)
+  pub asks : Sound (textOf b) Asks (b .asks)
   pub few-bids : length (held (b .bids)) ≤ b .settings .depth
   pub few-asks : length (held (b .asks)) ≤ b .settings .depth
   -- a sequence number has at most 19 digits
@@ -92,13 +97,16 @@ pub record Received (a : After) (r : Step) : Type 0 where
 
 -- The same in words that are lent: of a message that is taken, the words past the levels that are left stay as they were, and a refusal leaves every
 -- word as it was.
-pub record ReceivedIn (b : Book) (s bids asks : List ℕ) (r : Answered) : Type 0 where
-  pub received : Received (receive (shows b) s) (stepOf bids asks r)
+pub record ReceivedAs (b : Book) (a : After) (bids asks : List ℕ) (r : Answered) : Type 0 where
+  pub received : Received a (stepOf bids asks r)
   pub settings : r .header .settings ≡ b .settings
   pub bids-past : isTaken (r .answer) ≡ true → wordsPast (r .header .bids) bids ≡ wordsPast (r .header .bids) (b .bids .words)
   pub asks-past : isTaken (r .answer) ≡ true → wordsPast (r .header .asks) asks ≡ wordsPast (r .header .asks) (b .asks .words)
   pub bids-back : isTaken (r .answer) ≡ false → bids ≡ b .bids .words
   pub asks-back : isTaken (r .answer) ≡ false → asks ≡ b .asks .words
+
+abbrev pub ReceivedIn : Book → List ℕ → List ℕ → List ℕ → Answered → Type 0
+ReceivedIn b s bids asks r = ReceivedAs b (receive (shows b) s) bids asks r
 
 -- ---- questions and the writer: the book is handed back as it was
 

@@ -1,44 +1,60 @@
 -- What the functions that take a message give, in terms of the code's book. Assumes nothing: these are definitions.
-use Prim.Native.Nat.{ℕ, _≤_}
+use Prim.Native.Nat.{ℕ, _+_, _≤_, _<_, _^_}
 use mathlib.Core.Path.{_≡_}
 use mathlib.Core.Bool.{Bool, true, false, _&&_, _||_, not, cond}
 use mathlib.Core.List.{List, map}
 use lib.Dec.{eqb, ltb}
-use lib.ListN.{length}
+use lib.ListN.{length, take}
 use Rattle.lifecycle.specs.Lifecycle.{statusOf, liveLifecycle, refusedLifecycle, judgedUpdate}
 use Rattle.answer.specs.Answers.{isTaken}
-use Rattle.decimal.specs.Digits.{reads}
-use Rattle.settings.specs.Kept.{isM}
+use Rattle.decimal.specs.Decimal.{isZero}
 use Rattle.settings.specs.Rules.{rulesOf}
-use Rattle.settings.specs.Kept.{configOf}
 use Rattle.settings.specs.declared.Dialect.{Dialect}
-use Rattle.level.specs.Words.{shown}
-use Rattle.level.specs.Kept.{keptIn, held}
+use Rattle.edit.specs.Edit.{Numbers, forSide, sideOf}
+use Rattle.edit.specs.Buffer.{entriesIn}
 use Rattle.edit.specs.declared.Side.the-variants.{Bids, Asks}
-use Rattle.sides.specs.Worked.{SideAfter, editsAt, Worked}
+use Rattle.level.specs.Words.{shown}
+use Rattle.level.specs.Ranked.{All}
+use Rattle.level.specs.Kept.{keptIn, held}
 use Rattle.level.specs.declared.Levels.{Levels}
-use Rattle.layout.specs.Layout.{isSnapshot, Layout}
-use Rattle.layout.specs.Scan.{outlineOf}
+use Rattle.side.specs.Applying.{Given}
+use Rattle.sides.specs.Worked.{SideAfter, editsFor, Worked}
+use Rattle.layout.specs.Layout.{isSnapshot, Printed, printed, unprinted}
 use Rattle.layout.specs.declared.Outline.{Outline}
-use Rattle.message.specs.Meaning.{passes, checked}
+use Rattle.message.specs.Meaning.{Message, sidedEdit}
 use Rattle.answer.specs.declared.Answer.{Answer}
 use Rattle.answer.specs.declared.Answer.the-variants.{Taken, PriceTwice, TooManyLevels, WrongChecksum}
 use Rattle.message.specs.declared.Verdict.{Verdict}
 use Rattle.message.specs.declared.Verdict.the-variants.{Fails, Passes}
-use Rattle.reference.specs.Reference.{isShut, checksumOf, oneMore, receive}
-use Rattle.book.specs.Shown.{shows, Good, Received, ReceivedIn}
+use Rattle.reference.specs.Reference.{isShut, checksumOf, oneMore, verdict, After, answered, receive}
+use Rattle.book.specs.Shown.{shows, textOf, Good, Received, ReceivedAs}
 use Rattle.book.specs.declared.Book.{Book}
 use Rattle.book.specs.declared.Header.{Header}
 use Rattle.book.specs.declared.Answered.{Answered}
 use Rattle.book.specs.declared.Step.{Step}
 
--- A message that passes checks 2 to 8, with its layout in numbers.
-pub record Passed (b : Book) (s : List ℕ) (o : Outline) : Type 0 where
+-- ---- a message that passes checks 2 to 8, as its reader hands it on: an outline, and its entries in a buffer
+
+abbrev pub entriesOf : Outline → List ℕ → List Numbers
+entriesOf o buffer = take (o .bids + o .asks) (entriesIn buffer)
+
+abbrev pub printedOf : Outline → Printed
+printedOf o = cond (o .printed) (printed (o .checksum)) unprinted
+
+abbrev pub messageIn : Outline → List ℕ → Message
+messageIn o buffer = record { kind = o .kind; edits = map sidedEdit (entriesOf o buffer); checksum = printedOf o; number = o .number }
+
+pub record Passed (b : Book) (o : Outline) (buffer : List ℕ) : Type 0 where
   pub good : Good b
   pub unshut : isShut (statusOf (b .lifecycle .state)) ≡ false
-  pub layout : Layout
-  pub checked-as : checked (configOf (b .settings)) s ≡ passes layout
-  pub outlined : o ≡ outlineOf s (reads layout)
+  pub bids-given : Given Bids buffer (o .bids + o .asks)
+  pub asks-given : Given Asks buffer (o .bids + o .asks)
+  pub bids-own : o .bids ≡ length (forSide sideOf Bids (entriesOf o buffer))
+  pub asks-own : o .asks ≡ length (forSide sideOf Asks (entriesOf o buffer))
+  -- a snapshot removes nothing
+  pub sets : isSnapshot (o .kind) ≡ true → All (λ e. isZero (e .size) ≡ false) (entriesOf o buffer)
+  -- a sequence number has at most 19 digits
+  pub small : o .number < 10 ^ 19
 
 abbrev pub refusedHeader : Header → Answer → Header
 refusedHeader h a =
@@ -78,19 +94,28 @@ takenHeader h o bids asks =
       lifecycle = liveLifecycle (h .lifecycle) (o .kind);
     }
 
+-- The book after it, by the checks from 9 on.
+abbrev pub afterIn : Book → Outline → List ℕ → After
+afterIn b o buffer = answered (shows b) (messageIn o buffer) (verdict (shows b) (messageIn o buffer))
+
+-- What checks 10 and 11 leave.
+pub record Ready (b : Book) (o : Outline) (buffer : List ℕ) : Type 0 where
+  pub passed : Passed b o buffer
+  pub updates : judgedUpdate (b .lifecycle .state) (rulesOf (b .settings .dialect) .numbered) (b .number) o ≡ Passes o
+
 -- What checks 1 to 8, 10 and 11 find.
-unfoldable pub Judged : Book → List ℕ → Verdict → Type 0
-Judged b s (Fails a) = Received (receive (shows b) s) (refusedStep b a)
-Judged b s (Passes o) = Passed b s o × (judgedUpdate (b .lifecycle .state) (rulesOf (b .settings .dialect) .numbered) (b .number) o ≡ Passes o)
+unfoldable pub Judged : Book → List ℕ → List ℕ → Verdict → Type 0
+Judged b s buffer (Fails a) = Received (receive (shows b) s) (refusedStep b a)
+Judged b s buffer (Passes o) = Ready b o buffer × (receive (shows b) s ≡ afterIn b o buffer)
 
 -- A side before the entries: the book's own, and with no level before those of a snapshot.
 abbrev pub sideBefore : Outline → Levels → Levels
 sideBefore o kept = keptIn (kept .words) (cond (isSnapshot (o .kind)) 0 (kept .count))
 
 -- What the entries of a message make of the sides of a book.
-pub record SidesAfter (b : Book) (s : List ℕ) (o : Outline) (bids asks : SideAfter) : Type 0 where
-  pub bids-worked : Worked (isM (b .settings .dialect)) Bids (b .settings .depth) (editsAt (isM (b .settings .dialect)) s (o .«bids_at») (o .bids)) (sideBefore o (b .bids)) bids
-  pub asks-worked : Worked (isM (b .settings .dialect)) Asks (b .settings .depth) (editsAt (isM (b .settings .dialect)) s (o .«asks_at») (o .asks)) (sideBefore o (b .asks)) asks
+pub record SidesAfter (b : Book) (o : Outline) (buffer : List ℕ) (bids asks : SideAfter) : Type 0 where
+  pub bids-worked : Worked (textOf b) Bids (b .settings .depth) (editsFor Bids (entriesOf o buffer)) (sideBefore o (b .bids)) bids
+  pub asks-worked : Worked (textOf b) Asks (b .settings .depth) (editsFor Asks (entriesOf o buffer)) (sideBefore o (b .asks)) asks
   pub bids-stay : o .bids ≡ 0 → bids .levels .words ≡ b .bids .words
   pub asks-stay : o .asks ≡ 0 → asks .levels .words ≡ b .asks .words
 
@@ -108,8 +133,8 @@ weighedSides o d bids asks =
 
 -- A message that passes the checks of its text is tried: where it is taken, the words are those of the book after it; where it is refused, those of the
 -- book before it are to be put back. A side without entries keeps its words.
-pub record Tried (b : Book) (s : List ℕ) (o : Outline) (bids asks : List ℕ) (r : Answered) : Type 0 where
-  pub taken : isTaken (r .answer) ≡ true → ReceivedIn b s bids asks r
-  pub refused : isTaken (r .answer) ≡ false → ReceivedIn b s (b .bids .words) (b .asks .words) r
+pub record Tried (b : Book) (o : Outline) (buffer bids asks : List ℕ) (r : Answered) : Type 0 where
+  pub taken : isTaken (r .answer) ≡ true → ReceivedAs b (afterIn b o buffer) bids asks r
+  pub refused : isTaken (r .answer) ≡ false → ReceivedAs b (afterIn b o buffer) (b .bids .words) (b .asks .words) r
   pub bids-stay : o .bids ≡ 0 → bids ≡ b .bids .words
   pub asks-stay : o .asks ≡ 0 → asks ≡ b .asks .words

@@ -8,17 +8,16 @@ ghost use Rattle.crc32.specs.Table.{ShiftTable};
 ghost use Rattle.level.specs.Words.{shown};
 ghost use Rattle.level.specs.Kept.{keptIn, held};
 ghost use Rattle.edit.specs.declared.Side.the-variants.{Bids, Asks};
-ghost use Rattle.settings.specs.Kept.{isM};
 ghost use Rattle.settings.specs.Rules.{rulesOf};
 ghost use Rattle.sides.specs.Worked.{Sound, sideAfter};
 ghost use Rattle.reference.specs.Reference.{checksumOf};
-ghost use Rattle.book.specs.Shown.{bookOf, Good, ReceivedIn};
-ghost use Rattle.message.specs.declared.Verdict.the-variants.{Passes};
-ghost use Rattle.book.specs.Taking.{Passed, SidesAfter, Tried, Judged, weighedSides, takenHeader, refusedHeader};
+ghost use Rattle.book.specs.Shown.{bookOf, Good, ReceivedIn, ReceivedAs};
+ghost use Rattle.book.specs.Taking.{Passed, Ready, SidesAfter, Tried, afterIn, weighedSides, takenHeader, refusedHeader};
 use crate::Answered;
 use crate::Header;
 use answer::Answer;
 use answer::is_taken;
+use edit::BUFFER_WORDS;
 use edit::Side;
 use layout::Outline;
 use layout::is_snapshot;
@@ -31,7 +30,6 @@ use lifecycle::refused;
 use lifecycle::updates_after;
 use message::Verdict;
 use settings::Dialect;
-use settings::is_m;
 use settings::rules_of;
 use side::Applied;
 use sides::apply_entries;
@@ -75,14 +73,14 @@ fn take_asks(
     outline: Outline,
     bids: &mut [u64; MAX_WORDS],
     asks: &mut [u64; MAX_WORDS],
-    s: &[u8],
+    buffer: &[u64; BUFFER_WORDS],
     table: &[u32],
 ) -> Answered
-    requires { ⌜ Judged (bookOf (now bids) (now asks) header) (now s) (Passes outline) × ShiftTable (now table) × (outline .bids ≡ 0) ⌝ }
-    ensures { λ r. ⌜ ReceivedIn (bookOf (now (bids .entry)) (now (asks .entry)) header) (now (s .entry)) (now (bids .exit)) (now (asks .exit)) r ⌝ }
+    requires { ⌜ Ready (bookOf (now bids) (now asks) header) outline (now buffer) × ShiftTable (now table) × (outline .bids ≡ 0) ⌝ }
+    ensures { λ r. ⌜ ReceivedAs (bookOf (now (bids .entry)) (now (asks .entry)) header) (afterIn (bookOf (now (bids .entry)) (now (asks .entry)) header) outline (now (buffer .entry))) (now (bids .exit)) (now (asks .exit)) r ⌝ }
 {
     let last = *asks;
-    let answered = try_entries(header, outline, bids, asks, s, table);
+    let answered = try_entries(header, outline, bids, asks, buffer, table);
     let answer = answered.answer;
     if is_taken(answer) {
         return answered;
@@ -97,14 +95,14 @@ fn take_bids(
     outline: Outline,
     bids: &mut [u64; MAX_WORDS],
     asks: &mut [u64; MAX_WORDS],
-    s: &[u8],
+    buffer: &[u64; BUFFER_WORDS],
     table: &[u32],
 ) -> Answered
-    requires { ⌜ Judged (bookOf (now bids) (now asks) header) (now s) (Passes outline) × ShiftTable (now table) × (outline .asks ≡ 0) ⌝ }
-    ensures { λ r. ⌜ ReceivedIn (bookOf (now (bids .entry)) (now (asks .entry)) header) (now (s .entry)) (now (bids .exit)) (now (asks .exit)) r ⌝ }
+    requires { ⌜ Ready (bookOf (now bids) (now asks) header) outline (now buffer) × ShiftTable (now table) × (outline .asks ≡ 0) ⌝ }
+    ensures { λ r. ⌜ ReceivedAs (bookOf (now (bids .entry)) (now (asks .entry)) header) (afterIn (bookOf (now (bids .entry)) (now (asks .entry)) header) outline (now (buffer .entry))) (now (bids .exit)) (now (asks .exit)) r ⌝ }
 {
     let last = *bids;
-    let answered = try_entries(header, outline, bids, asks, s, table);
+    let answered = try_entries(header, outline, bids, asks, buffer, table);
     let answer = answered.answer;
     if is_taken(answer) {
         return answered;
@@ -119,15 +117,15 @@ fn take_both(
     outline: Outline,
     bids: &mut [u64; MAX_WORDS],
     asks: &mut [u64; MAX_WORDS],
-    s: &[u8],
+    buffer: &[u64; BUFFER_WORDS],
     table: &[u32],
 ) -> Answered
-    requires { ⌜ Judged (bookOf (now bids) (now asks) header) (now s) (Passes outline) × ShiftTable (now table) ⌝ }
-    ensures { λ r. ⌜ ReceivedIn (bookOf (now (bids .entry)) (now (asks .entry)) header) (now (s .entry)) (now (bids .exit)) (now (asks .exit)) r ⌝ }
+    requires { ⌜ Ready (bookOf (now bids) (now asks) header) outline (now buffer) × ShiftTable (now table) ⌝ }
+    ensures { λ r. ⌜ ReceivedAs (bookOf (now (bids .entry)) (now (asks .entry)) header) (afterIn (bookOf (now (bids .entry)) (now (asks .entry)) header) outline (now (buffer .entry))) (now (bids .exit)) (now (asks .exit)) r ⌝ }
 {
     let last_bids = *bids;
     let last_asks = *asks;
-    let answered = try_entries(header, outline, bids, asks, s, table);
+    let answered = try_entries(header, outline, bids, asks, buffer, table);
     let answer = answered.answer;
     if is_taken(answer) {
         return answered;
@@ -144,15 +142,15 @@ fn try_entries(
     outline: Outline,
     bids: &mut [u64; MAX_WORDS],
     asks: &mut [u64; MAX_WORDS],
-    s: &[u8],
+    buffer: &[u64; BUFFER_WORDS],
     table: &[u32],
 ) -> Answered
-    requires { ⌜ Judged (bookOf (now bids) (now asks) header) (now s) (Passes outline) × ShiftTable (now table) ⌝ }
-    ensures { λ r. ⌜ Tried (bookOf (now (bids .entry)) (now (asks .entry)) header) (now (s .entry)) outline (now (bids .exit)) (now (asks .exit)) r ⌝ }
+    requires { ⌜ Ready (bookOf (now bids) (now asks) header) outline (now buffer) × ShiftTable (now table) ⌝ }
+    ensures { λ r. ⌜ Tried (bookOf (now (bids .entry)) (now (asks .entry)) header) outline (now (buffer .entry)) (now (bids .exit)) (now (asks .exit)) r ⌝ }
 {
     let settings = header.settings;
     let dialect = settings.dialect;
-    let entered = enter(header, outline, bids, asks, s);
+    let entered = enter(header, outline, bids, asks, buffer);
     let bid_side = entered.bids;
     let ask_side = entered.asks;
     let answer = weigh(outline, dialect, bid_side, ask_side, bids, asks, table);
@@ -180,15 +178,17 @@ fn enter(
     outline: Outline,
     bids: &mut [u64; MAX_WORDS],
     asks: &mut [u64; MAX_WORDS],
-    s: &[u8],
+    buffer: &[u64; BUFFER_WORDS],
 ) -> Entered
-    requires { ⌜ Passed (bookOf (now bids) (now asks) header) (now s) outline ⌝ }
-    ensures { λ r. ⌜ SidesAfter (bookOf (now (bids .entry)) (now (asks .entry)) header) (now (s .entry)) outline (sideAfter (now (bids .exit)) (r .bids)) (sideAfter (now (asks .exit)) (r .asks)) ⌝ }
+    requires { ⌜ Passed (bookOf (now bids) (now asks) header) outline (now buffer) ⌝ }
+    ensures { λ r. ⌜ SidesAfter (bookOf (now (bids .entry)) (now (asks .entry)) header) outline (now (buffer .entry)) (sideAfter (now (bids .exit)) (r .bids)) (sideAfter (now (asks .exit)) (r .asks)) ⌝ }
 {
     let settings = header.settings;
     let depth = settings.depth;
     let dialect = settings.dialect;
-    let m = is_m(dialect);
+    let rules = rules_of(dialect);
+    let text = rules.text;
+    let count = outline.bids + outline.asks;
     let kind = outline.kind;
     let bids_before = count_before(kind, header.bids);
     let bid_side = apply_entries(
@@ -196,10 +196,10 @@ fn enter(
         bids_before,
         Side::Bids,
         depth,
-        m,
-        s,
-        outline.bids_at,
+        text,
+        buffer,
         outline.bids,
+        count,
     );
     let asks_before = count_before(kind, header.asks);
     let ask_side = apply_entries(
@@ -207,10 +207,10 @@ fn enter(
         asks_before,
         Side::Asks,
         depth,
-        m,
-        s,
-        outline.asks_at,
+        text,
+        buffer,
         outline.asks,
+        count,
     );
     Entered {
         bids: bid_side,
@@ -255,7 +255,7 @@ fn weigh<'a>(
     asks: &'a [u64; MAX_WORDS],
     table: &'a [u32],
 ) -> Answer
-    requires { ⌜ Sound (isM dialect) Bids (keptIn (now bids) («bid_side» .left)) × Sound (isM dialect) Asks (keptIn (now asks) («ask_side» .left)) × ShiftTable (now table) ⌝ }
+    requires { ⌜ Sound (rulesOf dialect .text) Bids (keptIn (now bids) («bid_side» .left)) × Sound (rulesOf dialect .text) Asks (keptIn (now asks) («ask_side» .left)) × ShiftTable (now table) ⌝ }
     ensures { λ r. ⌜ r ≡ weighedSides outline dialect (sideAfter (now (bids .entry)) «bid_side») (sideAfter (now (asks .entry)) «ask_side») ⌝ }
 {
     let kind = outline.kind;
@@ -288,7 +288,7 @@ fn checksum_of<'a>(
     ask_count: usize,
     table: &'a [u32],
 ) -> u32
-    requires { ⌜ Sound (isM dialect) Bids (keptIn (now bids) «bid_count») × Sound (isM dialect) Asks (keptIn (now asks) «ask_count») × ShiftTable (now table) ⌝ }
+    requires { ⌜ Sound (rulesOf dialect .text) Bids (keptIn (now bids) «bid_count») × Sound (rulesOf dialect .text) Asks (keptIn (now asks) «ask_count») × ShiftTable (now table) ⌝ }
     ensures { λ r. ⌜ r ≡ checksumOf (rulesOf dialect) (record { bids = map shown (held (keptIn (now (bids .entry)) «bid_count»)); asks = map shown (held (keptIn (now (asks .entry)) «ask_count»)) }) ⌝ }
 {
     match dialect {

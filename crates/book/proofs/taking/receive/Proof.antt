@@ -1,9 +1,14 @@
 -- `receive` meets its contract: a message that is judged to pass is taken or refused by what it has entries for.
-use mathlib.Core.Path.{refl, sym, subst}
+use Prim.Native.Nat.{ℕ}
+use mathlib.Core.Path.{_≡_, refl, sym, subst}
+use mathlib.Core.List.{List}
 use denote.Ref.{now}
-use Rattle.message.specs.declared.Verdict.the-variants.{Passes}
-use Rattle.book.specs.Shown.{bookOf, ReceivedIn}
-use Rattle.book.specs.Taking.{Judged, refusedStep}
+use Rattle.lifecycle.specs.Lifecycle.{JudgedAs}
+use Rattle.message.specs.declared.Verdict.the-variants.{Fails, Passes}
+use Rattle.reference.specs.Reference.{After, receive}
+use Rattle.book.specs.Shown.{shows, bookOf, ReceivedAs, ReceivedIn}
+use Rattle.book.specs.Taking.{Judged, Ready, afterIn, refusedStep}
+use Rattle.book.specs.declared.Answered.{Answered}
 use Rattle.book.specs.declared.Book.{Book}
 use Rattle.book.specs.declared.Header.{Header}
 use Rattle.book.proofs.Judging.{judged-by}
@@ -11,34 +16,75 @@ use borrow.Author.Needs.{needs}
 use Rattle.book.proofs.taking.receive.Statement.{statement}
 use Rattle.book.proofs.taking.receive.Tie as tie
 
+abbrev bookAt : tie.Start → Book
+bookAt s = bookOf (now (s .args .bids)) (now (s .args .asks)) (s .args .header)
+
+abbrev textAt : tie.Start → List ℕ
+textAt s = now (s .args .s)
+
+-- the buffer that the reader of the message leaves
+abbrev bufferAt : tie.After-judge → List ℕ
+bufferAt c = c .judge .last .1 .1 .1 .1 .0
+
+abbrev startOf : tie.After-judge → tie.Start
+startOf c = c .before .before .before .before .before .before
+
+judge-requires : tie.Need-judge-requires
+judge-requires c κs = let s = c .before .before .before .before .before in (record { room = s .pre .0 .room; short = s .pre .0 .short; config = s .pre .0 .config }, refl)
+
+judged : (c : tie.After-judge) → Judged (bookAt (startOf c)) (textAt (startOf c)) (bufferAt c) (c .judge .result)
+judged c = judged-by (bookAt (startOf c)) (textAt (startOf c)) (bufferAt c) (startOf c .pre .0) (c .judge .result) (c .judge .ensures)
+
 -- ---- a message that passes the checks of its text
 
-abbrev bookAt : tie.After-outline → Book
-bookAt c = let a = c .before .before .before .before .before .before .before .args in bookOf (now (a .bids)) (now (a .asks)) (a .header)
+module _ (c : tie.After-outline) where
+  abbrev at : tie.After-judge
+  at = c .before .before
 
-judged : (c : tie.After-outline) → Judged (bookAt c) (now (c .before .before .before .before .before .before .before .args .s)) (Passes (c .outline .given .0 .0))
-judged c =
-    let s = c .before .before .before .before .before .before .before in
-    subst (Judged (bookAt c) (now (s .args .s))) (c .outline .given .1) (judged-by (bookAt c) (now (s .args .s)) (s .pre .0) (c .before .before .judge .result) (c .before .before .judge .ensures))
+  abbrev book : Book
+  book = bookAt (startOf at)
+
+  passed : Judged book (textAt (startOf at)) (bufferAt at) (Passes (c .outline .given .0 .0))
+  passed = subst (Judged book (textAt (startOf at)) (bufferAt at)) (c .outline .given .1) (judged at)
+
+  ready : Ready book (c .outline .given .0 .0) (bufferAt at)
+  unfolding Judged
+  ready = passed .0
+
+  answered : (bids asks : List ℕ) (r : Answered) → ReceivedAs book (afterIn book (c .outline .given .0 .0) (bufferAt at)) bids asks r → ReceivedIn book (textAt (startOf at)) bids asks r
+  unfolding Judged
+  answered bids asks r h = subst (λ (a : After). ReceivedAs book a bids asks r) (sym (passed .1)) h
 
 take-asks-requires : tie.Need-take-asks-requires
-take-asks-requires c κs = (judged (c .before .before .before .before .before), c .before .before .before .before .before .before .before .before .before .before .before .before .pre .1, c .before .before .if1 .taken)
+take-asks-requires c κs = (ready (c .before .before .before .before .before .before), startOf (at (c .before .before .before .before .before .before)) .pre .1, c .before .before .before .if1 .taken)
 
 take-bids-requires : tie.Need-take-bids-requires
-take-bids-requires c κs = (judged (c .before .before .before .before .before .before .before), c .before .before .before .before .before .before .before .before .before .before .before .before .before .before .pre .1, c .before .before .if2 .taken)
+take-bids-requires c κs = (ready (c .before .before .before .before .before .before .before .before), startOf (at (c .before .before .before .before .before .before .before .before)) .pre .1, c .before .before .before .if2 .taken)
 
 take-both-requires : tie.Need-take-both-requires
-take-both-requires c κs = (judged (c .before .before .before .before .before .before .before), c .before .before .before .before .before .before .before .before .before .before .before .before .before .before .pre .1)
+take-both-requires c κs = (ready (c .before .before .before .before .before .before .before .before), startOf (at (c .before .before .before .before .before .before .before .before)) .pre .1)
+
+returns : tie.Need-returns
+returns c = answered (c .before .before .before .before .before .before .before) _ _ (c .take-asks .result) (c .take-asks .ensures)
+
+returns-2 : tie.Need-returns-2
+returns-2 c = answered (c .before .before .before .before .before .before .before .before .before) _ _ (c .take-bids .result) (c .take-bids .ensures)
+
+returns-4 : tie.Need-returns-4
+returns-4 c = answered (c .before .before .before .before .before .before .before .before .before) _ _ (c .take-both .result) (c .take-both .ensures)
+
+-- ---- a refusal
 
 returns-3 : tie.Need-returns-3
 unfolding Judged refusedStep
 returns-3 c =
-    let a = c .before .before .before .before .before .before .before .before .before .args in
-    let b = bookOf (now (a .bids)) (now (a .asks)) (a .header) in
+    let j = c .before .before .before .before in
+    let s = startOf j in
+    let b = bookAt s in
     let x = c .before .before .refusal .given .0 .0 in
-    subst (λ (h : Header). ReceivedIn b (now (a .s)) (now (a .bids)) (now (a .asks)) (record { header = h; answer = x })) (sym (c .refuse .ensures))
+    subst (λ (h : Header). ReceivedIn b (textAt s) (now (s .args .bids)) (now (s .args .asks)) (record { header = h; answer = x })) (sym (c .refuse .ensures))
     (record {
-      received = subst (Judged b (now (a .s))) (c .before .before .refusal .given .1) (judged-by b (now (a .s)) (c .before .before .before .before .before .before .before .before .before .pre .0) (c .before .before .before .before .judge .result) (c .before .before .before .before .judge .ensures));
+      received = subst (Judged b (textAt s) (bufferAt j)) (c .before .before .refusal .given .1) (judged j);
       settings = refl;
       bids-past = λ y. refl;
       asks-past = λ y. refl;
@@ -50,14 +96,14 @@ pub receive-spec : {M : Type 1} → statement M
 receive-spec =
     tie.close
     (tie.spec
-    (λ c κs. search needs)
+    judge-requires
     (λ c. search needs)
     (λ c κs. search needs)
     (λ c. search needs)
     take-asks-requires
-    (λ c. search needs)
+    returns
     take-bids-requires
-    (λ c. search needs)
+    returns-2
     take-both-requires
     returns-3
-    (λ c. search needs))
+    returns-4)

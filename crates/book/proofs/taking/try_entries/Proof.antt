@@ -9,8 +9,8 @@ use Rattle.settings.specs.Rules.{rulesOf}
 use Rattle.sides.specs.Worked.{SideAfter, sideAfter}
 use Rattle.layout.specs.declared.Outline.{Outline}
 use Rattle.message.specs.declared.Verdict.the-variants.{Passes}
-use Rattle.book.specs.Shown.{bookOf, ReceivedIn}
-use Rattle.book.specs.Taking.{Passed, Judged, refusedStep, keptStep}
+use Rattle.book.specs.Shown.{bookOf, ReceivedAs}
+use Rattle.book.specs.Taking.{Passed, afterIn, refusedStep, keptStep}
 use Rattle.book.specs.declared.Book.{Book}
 use Rattle.book.specs.declared.Header.{Header}
 use Rattle.book.proofs.Settling.{kept-told, left-told}
@@ -21,19 +21,11 @@ use Rattle.book.proofs.taking.try_entries.Tie as tie
 abbrev bookAt : tie.Start → Book
 bookAt s = bookOf (now (s .args .bids)) (now (s .args .asks)) (s .args .header)
 
-abbrev textAt : tie.Start → List ℕ
-textAt s = now (s .args .s)
+abbrev bufferAt : tie.Start → List ℕ
+bufferAt s = now (s .args .buffer)
 
 abbrev outlineAt : tie.Start → Outline
 outlineAt s = s .args .outline
-
-passed : (s : tie.Start) → Passed (bookAt s) (textAt s) (outlineAt s)
-unfolding Judged
-passed s = s .pre .0 .0
-
-early : (s : tie.Start) → judgedUpdate (bookAt s .lifecycle .state) (rulesOf (bookAt s .settings .dialect) .numbered) (bookAt s .number) (outlineAt s) ≡ Passes (outlineAt s)
-unfolding Judged
-early s = s .pre .0 .1
 
 -- the sides after the entries
 abbrev bidsOf : tie.After-enter → SideAfter
@@ -43,22 +35,22 @@ abbrev asksOf : tie.After-enter → SideAfter
 asksOf c = sideAfter (c .enter .last .1 .1 .1 .0) (c .enter .result .asks)
 
 enter-requires : tie.Need-enter-requires
-enter-requires c κs = passed (c .before .before .before .before .before)
+enter-requires c κs = c .before .before .before .before .pre .0 .passed
 
 returns : tie.Need-returns
 unfolding keptStep
 returns c =
     let n = c .before .before .before .before .before .before .before .before in
-    let s = n .before .before .before .before .before .before in
+    let s = n .before .before .before .before .before in
     let answer = c .before .before .before .weigh .result in
     let is = sym (c .before .before .is-taken .ensures) ∙ c .before .if1 .taken in
     let bids = n .enter .ensures .bids-worked in
     let asks = n .enter .ensures .asks-worked in
     record {
       taken = λ t.
-          subst (λ (h : Header). ReceivedIn (bookAt s) (textAt s) (bidsOf n .levels .words) (asksOf n .levels .words) (record { header = h; answer = answer })) (sym (c .renew .ensures))
+          subst (λ (h : Header). ReceivedAs (bookAt s) (afterIn (bookAt s) (outlineAt s) (bufferAt s)) (bidsOf n .levels .words) (asksOf n .levels .words) (record { header = h; answer = answer })) (sym (c .renew .ensures))
           (record {
-            received = kept-told (bookAt s) (textAt s) (outlineAt s) (passed s) (early s) (bidsOf n) (asksOf n) bids asks answer (c .before .before .before .weigh .ensures) is;
+            received = kept-told (bookAt s) (outlineAt s) (bufferAt s) (s .pre .0 .passed) (s .pre .0 .updates) (bidsOf n) (asksOf n) bids asks answer (c .before .before .before .weigh .ensures) is;
             settings = refl;
             bids-past = λ y. bids .past;
             asks-past = λ y. asks .past;
@@ -74,15 +66,15 @@ returns-2 : tie.Need-returns-2
 unfolding refusedStep
 returns-2 c =
     let n = c .before .before .before .before .before .before .before .before in
-    let s = n .before .before .before .before .before .before in
+    let s = n .before .before .before .before .before in
     let answer = c .before .before .before .weigh .result in
     let is = sym (c .before .before .is-taken .ensures) ∙ c .before .if1 .left in
     record {
       taken = λ t. absurd (true≢false (sym t ∙ is));
       refused = λ t.
-          subst (λ (h : Header). ReceivedIn (bookAt s) (textAt s) (bookAt s .bids .words) (bookAt s .asks .words) (record { header = h; answer = answer })) (sym (c .refuse .ensures))
+          subst (λ (h : Header). ReceivedAs (bookAt s) (afterIn (bookAt s) (outlineAt s) (bufferAt s)) (bookAt s .bids .words) (bookAt s .asks .words) (record { header = h; answer = answer })) (sym (c .refuse .ensures))
           (record {
-            received = left-told (bookAt s) (textAt s) (outlineAt s) (passed s) (early s) (bidsOf n) (asksOf n) (n .enter .ensures .bids-worked) (n .enter .ensures .asks-worked) answer (c .before .before .before .weigh .ensures) is;
+            received = left-told (bookAt s) (outlineAt s) (bufferAt s) (s .pre .0 .passed) (s .pre .0 .updates) (bidsOf n) (asksOf n) (n .enter .ensures .bids-worked) (n .enter .ensures .asks-worked) answer (c .before .before .before .weigh .ensures) is;
             settings = refl;
             bids-past = λ y. refl;
             asks-past = λ y. refl;

@@ -3,7 +3,7 @@
 use mathlib.Core.Path.{_≡_, refl, sym, ap, _∙_, subst}
 use mathlib.Core.List.{List, [], _∷_}
 use mathlib.Core.Bool.{Bool, true, false, true≢false, _&&_, not, cond}
-use Prim.Native.Nat.{ℕ, _≤_, _<_, _^_}
+use Prim.Native.Nat.{ℕ, _+_, _≤_, _<_, _^_}
 use borrow.Author.Tests.{eqb-true, leb-true}
 use native.Mathlib.Omega.{arith}
 use Rattle.text.specs.Text.{ascii}
@@ -15,6 +15,7 @@ use Rattle.decimal.proofs.Scan.{leading-whole}
 use Rattle.json.specs.Names.{part, means}
 use Rattle.edit.specs.declared.Side.the-variants.{Bids, Asks}
 use Rattle.json.specs.Json.{Span, Pair, text}
+use Rattle.json.specs.Claims.{In-order, Is-element}
 use Rattle.settings.specs.Settings.{Config}
 use Rattle.settings.specs.Rules.{rulesOf}
 use Rattle.settings.specs.declared.Dialect.{Dialect}
@@ -32,6 +33,7 @@ use Rattle.message_m.specs.LayoutM.{kindAt, layoutM, envelopeM}
 use lib.Dec.{leb, ltb, eqb, lit<}
 use lib.ListN.{length, getD}
 use Rattle.message.specs.Bad.{formOf}
+use Rattle.message.proofs.Members.{Follow, Collected, object-follows, objects-follow, array-objects}
 use Rattle.message.specs.Meaning.{fails, passes, tooMany, counted, laidOut, addressed, envelopeIn, framed}
 use Rattle.answer.specs.declared.Answer.{Answer}
 use Rattle.answer.specs.declared.Answer.the-variants.{TooLong, NotJson, Escaped, NotOurs, BadLayout, TooManyEntries}
@@ -39,6 +41,8 @@ use Rattle.answer.specs.declared.Answer.the-variants.{TooLong, NotJson, Escaped
 -- The entries stand in the text, the sequence number has at most 19 digits, and a checksum is within its bound.
 pub record LieIn (form : Form) (s : List ℕ) (l : Layout) : Type 0 where
   pub entries : AllHere form 13 s (l .entries)
+  -- .. one after another
+  pub collected : Collected form s (l .entries)
   pub small : l .number < 10 ^ 19
   pub low : (n : ℕ) → l .checksum ≡ printed n → n ≤ 4294967295
 
@@ -126,22 +130,25 @@ module _ (form : Form) (s : List ℕ) where
   members-here bids asks (m ∷ ms) es h =
       here-also (memberEntries form 14 s bids asks m) (entriesIn form 14 s bids asks ms) (member-here bids asks m) (members-here bids asks ms) es h
 
-  laid-lies : (kind : Kind) (p : Printed) (n : ℕ) (x : Reading (List Entry)) → ((es : List Entry) → x ≡ reads es → AllHere form 13 s es)
+  collected-here : (es : List Entry) → Collected form s es → AllHere form 13 s es
+  collected-here es c = members-here (c .bids) (c .asks) (c .members) es (c .collects)
+
+  laid-lies : (kind : Kind) (p : Printed) (n : ℕ) (x : Reading (List Entry)) → ((es : List Entry) → x ≡ reads es → Collected form s es)
       → n < 10 ^ 19 → ((k : ℕ) → p ≡ printed k → k ≤ 4294967295) → (l : Layout) → laid kind p n x ≡ reads l → LieIn form s l
   unfolding laid andThen
   laid-lies kind p n (reads es) f small low l h =
       let e : l ≡ record { kind = kind; entries = es; checksum = p; number = n } = sym (reads-same h) in
-      rw e (record { entries = f es refl; small = small; low = low })
+      rw e (record { entries = collected-here es (f es refl); collected = f es refl; small = small; low = low })
   laid-lies kind p n refused f small low l h = no-reading h
 
 -- ---- K
 module _ (s : List ℕ) where
-  k-objects-lie : (o : List (List Pair)) (l : Layout) → objectsLayout s o ≡ reads l → LieIn forms.Triple s l
+  k-objects-lie : (o : List (List Pair)) (hi lo : ℕ) → Follow s hi lo (together o) → (l : Layout) → objectsLayout s o ≡ reads l → LieIn forms.Triple s l
   unfolding objectsLayout entriesK
-  k-objects-lie o l h = at (isSnapshot s o) (isUpdate s o) h
+  k-objects-lie o hi lo f l h = at (isSnapshot s o) (isUpdate s o) h
     where
-      here : (bids asks : List ℕ) (es : List Entry) → entriesK s bids asks o ≡ reads es → AllHere forms.Triple 13 s es
-      here bids asks = members-here forms.Triple s bids asks (together o)
+      here : (bids asks : List ℕ) (es : List Entry) → entriesK s bids asks o ≡ reads es → Collected forms.Triple s es
+      here bids asks es g = record { bids = bids; asks = asks; members = together o; lo = lo; hi = hi; in-order = f; collects = g }
 
       at : (x y : Bool)
           → cond x (laid Snapshot unprinted 0 (entriesK s (ascii "bs") (ascii "as") o))
@@ -157,12 +164,12 @@ module _ (s : List ℕ) where
           laid-lies forms.Triple s Update (printed (d .0)) 0 _ (here (ascii "b") (ascii "a")) (lit< tt) (λ k e. subst (λ (x : ℕ). x ≤ 4294967295) (printed-same e) (quoted-low s (c .0) (d .0) (d .2))) l (d .1)
       at false false g = no-reading g
 
-  k-lies : (f : Frame) (l : Layout) → layoutK s f ≡ reads l → LieIn forms.Triple s l
+  k-lies : (f : Frame) (hi lo : ℕ) → In-order (Is-element 15 s) hi lo (f .objects) → (l : Layout) → layoutK s f ≡ reads l → LieIn forms.Triple s l
   unfolding layoutK
-  k-lies f l h =
+  k-lies f hi lo e l h =
       let n = then-reads (wholeAt s (f .first)) _ l h in
       let o = then-reads (all (objectAt 15 s) (f .objects)) _ l (n .1) in
-      k-objects-lie (o .0) l (o .1)
+      k-objects-lie (o .0) hi lo (objects-follow s hi lo (f .objects) (o .0) e (o .2)) l (o .1)
 
   -- ---- M
   m-lies : (ms : List Pair) (l : Layout) → layoutM s ms ≡ reads l → LieIn forms.Pair s l
@@ -180,7 +187,8 @@ module _ (s : List ℕ) where
       let n = then-reads (checksumAt s (k .0)) _ l (k .1) in
       let g = then-reads (only (valuesOf s (ascii "gsn") ms)) _ l (n .1) in
       let w = then-reads (wholeAt s (g .0)) _ l (g .1) in
-      laid-lies forms.Pair s (t .0) (printed (n .0)) (w .0) _ (members-here forms.Pair s (ascii "bids") (ascii "asks") (o .0)) (whole-small (part s (g .0)) (w .0) (w .2)) (λ i e. subst (λ (x : ℕ). x ≤ 4294967295) (printed-same e) (checksum-low (part s (k .0)) (n .0) (n .2))) l (w .1)
+      let e = object-follows s (d .0) (o .0) (o .2) in
+      laid-lies forms.Pair s (t .0) (printed (n .0)) (w .0) _ (λ es g. record { bids = ascii "bids"; asks = ascii "asks"; members = o .0; lo = d .0 .from + 1; hi = e .0; in-order = e .1; collects = g }) (whole-small (part s (g .0)) (w .0) (w .2)) (λ i e. subst (λ (x : ℕ). x ≤ 4294967295) (printed-same e) (checksum-low (part s (k .0)) (n .0) (n .2))) l (w .1)
 
 -- ---- the whole: a message that passes checks 2 to 7, and one that passes 8 too
 no-pass : {A : Type 0} (a : Answer) (l : Layout) → fails a ≡ passes l → A
@@ -212,7 +220,8 @@ unfolding envelopeIn formOf envelopeK envelopeM
 heard-lies K t s a x h y g =
     let f = then-reads (andThen (arrayAt 16 s a) frameOf) _ x h in
     let e = reads-same (f .1) in
-    k-lies s (f .0) y (ap (λ (z : Envelope). z .layout) e ∙ g)
+    let o = array-objects s a (f .0) (f .2) in
+    k-lies s (f .0) (o .0) (o .1) (o .2) y (ap (λ (z : Envelope). z .layout) e ∙ g)
 heard-lies M t s a x h y g =
     let f = then-reads (objectAt 16 s a) _ x h in
     let e = reads-same (f .1) in

@@ -229,7 +229,8 @@ fn tell_first(buffer: &[u64; BUFFER_WORDS], n: usize)
             return;
         }
         let entry = edit::entry_in(buffer, k);
-        write_letter(entry.side);
+        let side = entry.side;
+        write_letter(side);
         write_decimal(entry.price);
         write_decimal(entry.size);
         k += 1;

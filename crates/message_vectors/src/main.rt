@@ -191,21 +191,18 @@ fn tell(dialect: Dialect, depth: usize, name: &[u8], text: &[u8]) {
         Verdict::Fails(answer) => write_number(number_of(answer)),
         Verdict::Passes(outline) => tell_outline(outline),
     }
-    if settings::is_good(dialect, depth, name) {
-        let mut buffer: [u64; BUFFER_WORDS] = [0; BUFFER_WORDS];
-        let verdict = message::read_open(dialect, depth, name, text, &mut buffer);
-        tell_entries(verdict, &buffer);
-    }
+    tell_entries(dialect, depth, name, text);
     tell_bad(dialect, depth, name, text);
 }
 
-// The entries of a message that passes.
-fn tell_entries(verdict: Verdict, buffer: &[u64; BUFFER_WORDS])
-    requires { ⌜ length (now buffer) ≡ bufferWords ⌝ }
-{
-    match verdict {
-        Verdict::Fails(_) => {}
-        Verdict::Passes(outline) => tell_both(buffer, outline.bids, outline.asks),
+// The entries of a message that passes, as the buffer has them.
+fn tell_entries(dialect: Dialect, depth: usize, name: &[u8], text: &[u8]) {
+    if settings::is_good(dialect, depth, name) {
+        let mut buffer = [0; BUFFER_WORDS];
+        match message::read_open(dialect, depth, name, text, &mut buffer) {
+            Verdict::Fails(_) => {}
+            Verdict::Passes(outline) => tell_both(&buffer, outline.bids, outline.asks),
+        }
     }
 }
 

@@ -6,10 +6,10 @@ use Rattle.message_vectors.proofs.tell_first.Statement.{statement}
 use Rattle.message_vectors.proofs.tell_first.Tie as tie
 
 abbrev Inv-loop : tie.InvT-loop
-Inv-loop buffer n k₀ t5 t6 k = Unit {0}
+Inv-loop buffer n k₀ k = Unit {0}
 
 abbrev μ-loop : tie.MeasureT-loop
-μ-loop buffer n k₀ t5 t6 k = n - k
+μ-loop buffer n k₀ k = n - k
 
 pub tell-first-spec : {M : Type 1} → statement M
 tell-first-spec =
@@ -20,10 +20,7 @@ tell-first-spec =
     (λ c. search needs)
     (λ c. search needs)
     (λ c κs. search needs)
-    (λ c. search needs)
     (λ c κs. search needs)
-    (λ c κs. search needs)
-    (λ c. search needs)
     (λ c κs. search needs)
     (λ c κs. search needs)
     (λ c. search needs)

@@ -234,8 +234,16 @@ def check(dialect, depth, name, text):
     return said
 
 
-def side_line(label, side, listed):
-    return b" %s %d %d" % (label, side.start if side else 0, len(listed))
+def digits(text):
+    """The digits as one whole number, and how many of them are decimals."""
+    return b"%d/%d" % (int(text.replace(b".", b"")), len(text.partition(b".")[2]))
+
+
+def entry_texts(rows):
+    """The entries of both sides in the order in which they stand in the message."""
+    listed = [(letter, *row) for letter, side in zip((b"b", b"a"), rows) for row in side]
+    listed.sort(key=lambda entry: entry[1].start)
+    return [b" %s %s %s" % (letter, digits(price.inside()), digits(size.inside())) for letter, price, size in listed]
 
 
 def answer(settings, text):
@@ -248,10 +256,11 @@ def answer(settings, text):
         place = b"%d %d %s" % (bad.start, bad.end, bad.text) if bad else b"0 0"
         return refused.number, b"%d bad %s" % (refused.number, place)
     line = b"0 snapshot" if said.snapshot else b"0 update"
-    line += side_line(b"bids", said.bids, said.rows[0]) + side_line(b"asks", said.asks, said.rows[1])
+    line += b" bids %d asks %d" % tuple(map(len, said.rows))
     if said.checksum is not None:
         line += b" checksum %d" % said.checksum
-    return 0, line + b" number %d bad 0 0" % said.number
+    line += b" number %d" % said.number
+    return 0, b"".join([line, *entry_texts(said.rows), b" bad 0 0"])
 
 
 # ---- messages

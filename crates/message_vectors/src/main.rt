@@ -4,11 +4,16 @@
 //     < MESSAGE               a message
 //     + LENGTH MESSAGE        a message with blanks at its end up to a length
 //
-// Of a message it writes the number of the first of checks 1 to 8 that fails, or 0 and where the entries lie, the checksum and the
-// sequence number; then where the first bad decimal lies, and its text. Other lines are written as they are. What is to come was
-// worked out apart from the crate, by tools/message_vectors.py.
+// Of a message it writes the number of the first of checks 1 to 8 that fails, or 0, how many entries there are for each side, the checksum,
+// the sequence number and the entries in message order: the side's letter, then digits and decimals of the price and of the size. Then
+// where the first bad decimal lies, and its text. Other lines are written as they are. What is to come was worked out apart from the
+// crate, by tools/message_vectors.py.
 use answer::number_of;
+use decimal::Decimal;
 use decimal::ParsedWhole;
+use edit::BUFFER_WORDS;
+use edit::MAX_BUFFERED;
+use edit::Side;
 use layout::Outline;
 use layout::is_snapshot;
 use libc::STDIN_FILENO;
@@ -20,6 +25,7 @@ use settings::Dialect;
 ghost use mathlib.Core.Path.{_≡_};
 ghost use Prim.Native.Nat.{_≤_};
 ghost use lib.ListN.{length};
+ghost use Rattle.edit.specs.Buffer.{bufferWords};
 
 const BLANK: u8 = 32;
 
@@ -185,7 +191,61 @@ fn tell(dialect: Dialect, depth: usize, name: &[u8], text: &[u8]) {
         Verdict::Fails(answer) => write_number(number_of(answer)),
         Verdict::Passes(outline) => tell_outline(outline),
     }
+    tell_entries(dialect, depth, name, text);
     tell_bad(dialect, depth, name, text);
+}
+
+// The entries of a message that passes, as the buffer has them.
+fn tell_entries(dialect: Dialect, depth: usize, name: &[u8], text: &[u8]) {
+    if settings::is_good(dialect, depth, name) {
+        let mut buffer = [0; BUFFER_WORDS];
+        match message::read_open(dialect, depth, name, text, &mut buffer) {
+            Verdict::Fails(_) => {}
+            Verdict::Passes(outline) => tell_both(&buffer, outline.bids, outline.asks),
+        }
+    }
+}
+
+fn tell_both(buffer: &[u64; BUFFER_WORDS], bids: usize, asks: usize)
+    requires { ⌜ length (now buffer) ≡ bufferWords ⌝ }
+{
+    if bids <= MAX_BUFFERED {
+        if asks <= MAX_BUFFERED {
+            tell_first(buffer, bids + asks);
+        }
+    }
+}
+
+// The first n entries of the buffer, or all that it has.
+fn tell_first(buffer: &[u64; BUFFER_WORDS], n: usize)
+    requires { ⌜ length (now buffer) ≡ bufferWords ⌝ }
+{
+    let mut k = 0;
+    while k < n {
+        if MAX_BUFFERED <= k {
+            return;
+        }
+        let entry = edit::entry_in(buffer, k);
+        let side = entry.side;
+        write_letter(side);
+        write_decimal(entry.price);
+        write_decimal(entry.size);
+        k += 1;
+    }
+}
+
+fn write_letter(side: Side) {
+    match side {
+        Side::Bids => write(b" b"),
+        Side::Asks => write(b" a"),
+    }
+}
+
+fn write_decimal(a: Decimal) {
+    write(b" ");
+    write_number(decimal::digits_of(a));
+    write(b"/");
+    write_number(decimal::decimals_of(a));
 }
 
 // Where the first bad decimal lies, and its text.
@@ -209,22 +269,16 @@ fn tell_outline(outline: Outline) {
     } else {
         write(b"0 update");
     }
-    tell_side(b" bids ", outline.bids_at, outline.bids);
-    tell_side(b" asks ", outline.asks_at, outline.asks);
+    write(b" bids ");
+    write_number(outline.bids as u64);
+    write(b" asks ");
+    write_number(outline.asks as u64);
     if outline.printed {
         write(b" checksum ");
         write_number(outline.checksum as u64);
     }
     write(b" number ");
     write_number(outline.number);
-}
-
-// Where the array of a side's entries begins, and how many there are.
-fn tell_side(label: &[u8], at: usize, count: usize) {
-    write(label);
-    write_number(at as u64);
-    write(b" ");
-    write_number(count as u64);
 }
 
 fn write(s: &[u8]) {

@@ -35,7 +35,6 @@ use Rattle.answer.specs.declared.Answer.the-variants.{Taken, Shut, NoSnapshot, 
 use Rattle.decimal.specs.Buffer.{overlaid}
 use Rattle.reference.specs.Reference as r·
 use Rattle.reference.specs.Reference.{Status, shut as shut′, waiting, live, isShut, Reference, opened, stands, noLevel, sideOf, Question, howMany, levelAt, whichNumber, howManyUpdates, counts, level, amount, zeros, Response, respond, refusal, replied, question, does}
-use Rattle.settings.specs.Kept.{isM}
 use Rattle.book.specs.Shown.{shows, bookOf, Good, Opened, AnswersCounts, AnswersLevel, AnswersAmount}
 use Rattle.book.specs.Asking.{levelIn, WithoutLevel}
 use Rattle.reference.specs.declared.Scope.{Scope}

@@ -27,7 +27,8 @@ use Rattle.edit.specs.declared.Side.{Side}
 use Rattle.edit.specs.declared.Side.the-variants.{Bids, Asks}
 use Rattle.level.specs.Words.{shown}
 use Rattle.level.specs.Side.{namesTwice, applyAll, ranked}
-use Rattle.level.specs.Ranked.{All, IsSet, named, Sorted, afterMessage, replaced}
+use Rattle.level.specs.Ranked.{All, IsSet, Sorted, afterMessage, replaced}
+use Rattle.edit.specs.Edit.{named}
 use Rattle.level.specs.Kept.{keptIn, held}
 use Rattle.level.specs.Kept as kept·
 use Rattle.piece.specs.Piece.{kPiece, mPiece}

@@ -18,6 +18,11 @@ pub data Edit (A : Type 0) : Type 0 where
   sets : A → Edit A
   removes : Number → Edit A
 
+-- The price that it names; `priceOf` is the price of a level.
+unfoldable pub named : {A : Type 0} → (A → Number) → Edit A → Number
+named priceOf (sets x) = priceOf x
+named priceOf (removes p) = p
+
 -- What an entry says in numbers.
 pub record Numbers : Type 0 where
   pub side : Side

@@ -5,7 +5,8 @@ use mathlib.Core.Bool.{Bool, true, false, cond}
 use Rattle.decimal.specs.Decimal.{Number, isZero}
 use Rattle.edit.specs.Edit.{Edit, sets, removes, Numbers, editOf}
 use Rattle.level.specs.declared.Level.{Level}
-use Rattle.level.specs.Ranked.{named, mapEdit, IfSet}
+use Rattle.level.specs.Ranked.{mapEdit, IfSet}
+use Rattle.edit.specs.Edit.{named}
 use Rattle.level.specs.Words.{levelMade, levelPrice, levelSize, levelSum, levelLength, shown, changeOf}
 
 -- ---- a level that was made

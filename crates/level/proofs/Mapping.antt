@@ -13,7 +13,8 @@ use Rattle.edit.specs.Edit.{PriceLevel, shownPrice}
 use Rattle.level.specs.Words.{levelPrice, shown}
 use Rattle.edit.specs.Edit.{Edit, sets, removes}
 use Rattle.level.specs.Side.{nearer, without, apply, applyAll, place, ranked}
-use Rattle.level.specs.Ranked.{standing, afterMessage, named, replaces, replaced, mapEdit}
+use Rattle.level.specs.Ranked.{standing, afterMessage, replaces, replaced, mapEdit}
+use Rattle.edit.specs.Edit.{named}
 
 map-take : {A B : Type 0} (f : A → B) (n : ℕ) (s : List A) → map f (take n s) ≡ take n (map f s)
 map-take f zero s = refl

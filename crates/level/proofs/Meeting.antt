@@ -12,7 +12,8 @@ use Rattle.decimal.specs.Decimal.{Number, value}
 use Rattle.edit.specs.declared.Side.{Side}
 use Rattle.edit.specs.Edit.{Edit, sets, removes}
 use Rattle.level.specs.Side.{nearer, names, namesTwice, without, apply, place, ranked}
-use Rattle.level.specs.Ranked.{All, standing, named, replaces, replaced, IsSet}
+use Rattle.level.specs.Ranked.{All, standing, replaces, replaced, IsSet}
+use Rattle.edit.specs.Edit.{named}
 use Rattle.level.proofs.Ranking.{applyRanked, commute}
 
 or-swap : (a b c : Bool) → (a || (b || c)) ≡ (b || (a || c))

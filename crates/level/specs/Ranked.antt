@@ -32,11 +32,6 @@ module _ {A : Type 0} (priceOf : A → Number) where
   rankedEach side [] s = ranked priceOf side s
   rankedEach side (e ∷ es) s = rankedEach side es (ranked priceOf side (apply priceOf e s))
 
-  -- The price that an entry names.
-  unfoldable pub named : Edit A → Number
-  named (sets x) = priceOf x
-  named (removes p) = p
-
   -- Does some entry set a level at a price where one stands by then?
   unfoldable pub replaces : Edit A → List A → Bool
   replaces (sets x) s = standing (valueAt priceOf x) s

@@ -11,7 +11,7 @@ ghost use mathlib.Core.Path.{_≡_};
 ghost use Prim.Native.Nat.{_≤_};
 ghost use Rattle.decimal.specs.Decimal.{number};
 ghost use Rattle.decimal.specs.Limits.{Within};
-ghost use Rattle.level.specs.Ranked.{named};
+ghost use Rattle.edit.specs.Edit.{named};
 ghost use Rattle.level.specs.Order.{aheadOf, equalOf};
 ghost use Rattle.level.specs.Words.{maxLength, levelMade, levelPrice, levelSize, levelSum, levelLength, edit, EntryOf};
 ghost use Rattle.level.specs.Kept.{maxLevels, held, levelAt, Empty};

@@ -1,5 +1,5 @@
-// What a message says, from the settings and the text alone: the first refusal of checks 1 to 8 that fits, or where its entries
-// lie, its checksum and its sequence number. One walk over the message finds out all of it.
+// What a message says, from the settings and the text alone: the first refusal of checks 1 to 8 that fits, or its entries, its
+// checksum and its sequence number. One walk over the message finds out all of it.
 mod bad;
 
 use answer::Answer;

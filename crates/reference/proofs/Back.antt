@@ -15,7 +15,6 @@ use Rattle.decimal.specs.Limits.{Within}
 use Rattle.decimal.proofs.RoundTrip.{read-within}
 use Rattle.json.specs.Json.{Span}
 use Rattle.settings.specs.Settings.{Config, good, kept}
-use Rattle.settings.specs.Kept.{isM}
 use Rattle.settings.specs.Rules.{rulesOf}
 use Rattle.settings.specs.declared.Dialect.{Dialect}
 use Rattle.settings.specs.declared.Dialect.the-variants.{K, M, Unknown}
@@ -23,7 +22,8 @@ use Rattle.entries.specs.Places.{inner}
 use Rattle.entries.specs.Rows.{Entry, isBadPrice, numberIn, numberAt, numbersAt, badPrice, badSize, badTexts}
 use Rattle.edit.specs.Edit.{PriceLevel, shownPrice, Edit, sets, removes, Numbers, editOf, isSame, forSide}
 use Rattle.level.specs.Side.{nearer, place, apply, applyAll, ranked, namesTwice}
-use Rattle.level.specs.Ranked.{All, IfSet, named, Sorted}
+use Rattle.level.specs.Ranked.{All, IfSet, Sorted}
+use Rattle.edit.specs.Edit.{named}
 use Rattle.edit.specs.declared.Side.{Side}
 use Rattle.edit.specs.declared.Side.the-variants.{Bids, Asks}
 use Rattle.level.proofs.All.{all-take}
@@ -441,12 +441,12 @@ module _ (t : Config) (p : Reference) (r : Reached t p) (h : Sane p) (g : good t
       read-back (map (setting Asks) asks ++ map (setting Bids) bids) (asks-first bids asks) unprinted q (carries-none refl)
 
   m-back : t .dialect ≡ M → ReadsBack t p
-  unfolding snapshotOf textIn isM
+  unfolding snapshotOf textIn
   m-back e =
       let bids : List PriceLevel = p .last .sides .bids in
       let asks : List PriceLevel = p .last .sides .asks in
       let i = in-dialect M e in
-      let d : t .depth ≡ 100 = good-depth t g .1 (ap isM e) in
+      let d : t .depth ≡ 100 = good-depth t g .1 e in
       let j : record { dialect = M; depth = 100; name = t .name } ≡ t = ap (λ (x : ℕ). record { dialect = M; depth = x; name = t .name }) (sym d) ∙ i in
       let g′ : good (record { dialect = M; depth = 100; name = t .name }) ≡ true = subst (λ (x : Config). good x ≡ true) (sym j) g in
       let sum : ℕ = checksumOf (rulesOf M) (p .last .sides) in

@@ -16,7 +16,7 @@ use Rattle.settings.specs.declared.SumText.{SumText}
 use Rattle.settings.specs.declared.SumText.the-variants.{Stripped, Interleaved}
 use Rattle.edit.specs.Edit.{PriceLevel, shownPrice, Edit, forSide}
 use Rattle.level.specs.Side.{namesTwice, applyAll, ranked}
-use Rattle.level.specs.Ranked.{named}
+use Rattle.edit.specs.Edit.{named}
 use Rattle.edit.specs.declared.Side.{Side}
 use Rattle.edit.specs.declared.Side.the-variants.{Bids, Asks}
 use Rattle.crc32_spec.specs.Crc.{crc}

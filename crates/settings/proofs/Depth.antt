@@ -6,7 +6,6 @@ use native.Mathlib.Omega.{arith}
 use borrow.Author.Tests.{leb-true, eqb-true}
 use lib.Dec.{leb}
 use Rattle.settings.specs.Settings.{Config, good, goodDepth, goodName}
-use Rattle.settings.specs.Kept.{isM}
 use Rattle.settings.specs.Rules.{rulesOf}
 use Rattle.settings.specs.declared.Dialect.{Dialect}
 use Rattle.settings.specs.declared.Dialect.the-variants.{K, M, Unknown}
@@ -19,13 +18,13 @@ and-second : (a b : Bool) → (a && b) ≡ true → b ≡ true
 and-second true b h = h
 and-second false b h = absurd (true≢false (sym h))
 
-depth-goes : (d : Dialect) (depth : ℕ) → goodDepth d depth ≡ true → (depth ≤ 100) × (isM d ≡ true → depth ≡ 100)
-unfolding goodDepth isM
-depth-goes K depth h = (leb-true depth 100 (and-second (leb 10 depth) (leb depth 100) h), λ e. absurd (true≢false (sym e)))
+depth-goes : (d : Dialect) (depth : ℕ) → goodDepth d depth ≡ true → (depth ≤ 100) × (d ≡ M → depth ≡ 100)
+unfolding goodDepth
+depth-goes K depth h = (leb-true depth 100 (and-second (leb 10 depth) (leb depth 100) h), λ e. let z : _≡_ {A = ℕ} 0 1 = cc in absurd (omega arith))
 depth-goes M depth h = let e : depth ≡ 100 = eqb-true depth 100 h in (omega arith, λ q. e)
 depth-goes Unknown depth h = absurd (true≢false (sym h))
 
-pub good-depth : (t : Config) → good t ≡ true → (t .depth ≤ 100) × (isM (t .dialect) ≡ true → t .depth ≡ 100)
+pub good-depth : (t : Config) → good t ≡ true → (t .depth ≤ 100) × (t .dialect ≡ M → t .depth ≡ 100)
 unfolding good
 good-depth t h = depth-goes (t .dialect) (t .depth) (and-first (goodDepth (t .dialect) (t .depth)) (goodName (t .name)) h)
 

@@ -31,9 +31,3 @@ pub record Copied (name copy : List ℕ) : Type 0 where
   pub is : copy ≡ padded name
   pub room : length copy ≡ 16
   pub front : take (length name) copy ≡ name
-
--- Whether the dialect is M.
-unfoldable pub isM : Dialect → Bool
-isM K = false
-isM M = true
-isM Unknown = false

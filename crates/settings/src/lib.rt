@@ -8,7 +8,6 @@ ghost use mathlib.Core.Path.{_≡_};
 ghost use Prim.Native.Nat.{_≤_};
 ghost use lib.ListN.{length, take};
 ghost use Rattle.settings.specs.Settings.{goodDepth, nameByte, nameBytes, goodName, good};
-ghost use Rattle.settings.specs.Kept.{isM};
 ghost use Rattle.settings.specs.Rules.{rulesOf};
 ghost use Rattle.settings.specs.Kept.{Chosen, Copied};
 
@@ -113,16 +112,6 @@ pub fn rules_of(dialect: Dialect) -> Rules
             cut: false,
             numbered: false,
         },
-    }
-}
-
-pub fn is_m(dialect: Dialect) -> bool
-    ensures { λ r. ⌜ r ≡ isM dialect ⌝ }
-{
-    match dialect {
-        Dialect::K => false,
-        Dialect::M => true,
-        Dialect::Unknown => false,
     }
 }
 

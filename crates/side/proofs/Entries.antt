@@ -21,7 +21,8 @@ use Rattle.edit.specs.Edit.{Edit, sets, removes, Numbers, isSame, forSide, side
 use Rattle.edit.specs.Buffer.{entryOf, entriesIn, noNumbers}
 use Rattle.settings.specs.declared.SumText.{SumText}
 use Rattle.level.specs.Side.{nearer, without, applyAll, ranked}
-use Rattle.level.specs.Ranked.{All, afterMessage, named, replaces, replaced, Sorted, mapEdit, IfSet}
+use Rattle.level.specs.Ranked.{All, afterMessage, replaces, replaced, Sorted, mapEdit, IfSet}
+use Rattle.edit.specs.Edit.{named}
 use Rattle.level.specs.Order.{aheadOf, equalOf}
 use Rattle.level.specs.Words.{noLevel, levelPlain, changeOf}
 use Rattle.checksum.specs.Carried.{levelFor}

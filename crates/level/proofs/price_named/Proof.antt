@@ -4,7 +4,7 @@ use borrow.Author.Needs.{needs}
 use Rattle.decimal.specs.Decimal.{Number}
 use Rattle.level.specs.declared.Change.{Change}
 use Rattle.level.specs.Words.{levelPrice}
-use Rattle.level.specs.Ranked.{named}
+use Rattle.edit.specs.Edit.{named}
 use Rattle.level.specs.Words.{edit}
 use Rattle.level.proofs.price_named.Statement.{statement}
 use Rattle.level.proofs.price_named.Tie as tie

@@ -20,7 +20,8 @@ use Rattle.edit.specs.Edit.{Edit, sets, removes, Numbers, isSame, sideOf}
 use Rattle.edit.specs.Buffer.{entriesIn, noNumbers}
 use Rattle.edit.specs.declared.Side.{Side}
 use Rattle.level.specs.Side.{nearer, without, applyAll}
-use Rattle.level.specs.Ranked.{All, standing, afterMessage, named, replaces, replaced, Sorted, mapEdit, IfSet}
+use Rattle.level.specs.Ranked.{All, standing, afterMessage, replaces, replaced, Sorted, mapEdit, IfSet}
+use Rattle.edit.specs.Edit.{named}
 use Rattle.level.specs.Words.{levelsIn, wordsPast, noLevel, edit, levelPlain, changeOf}
 use Rattle.level.specs.Kept.{maxWords, keptIn, held}
 use Rattle.side.specs.Applying.{EntryWithin, LevelWithin, Given, withSum, changesFor}

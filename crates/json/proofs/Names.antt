@@ -1,135 +1,130 @@
--- The laws of names and of backslashes.
+-- The laws of what strings mean.
 -- Assumes nothing.
-use mathlib.Core.Path.{_≡_, refl, sym, ap, _∙_}
-use mathlib.Core.List.{List, [], _∷_, _++_}
-use mathlib.Core.Bool.{Bool, true, false, _||_, true≢false}
-use Prim.Native.Nat.{ℕ, suc, _+_, _-_, _≤_, _<_}
+use mathlib.Core.Path.{_≡_, refl, sym, ap, ap₂, _∙_}
+use mathlib.Core.List.{List, [], _∷_}
+use mathlib.Core.Bool.{Bool, true, false, _&&_, _||_, cond, true≢false, and-eq-true-iff}
+use Prim.Native.Nat.{ℕ, zero, suc, _+_, _-_, _≤_, _<_}
 use native.Mathlib.Omega.{arith}
-use lib.ListN.{length, take, drop, drop-of-length-le, length-append, length-drop}
-use lib.Seq.{take-nil, length-take-le}
+use native.Mathlib.Numerals.{add-one}
+use lib.ListN.{length, take, drop, getD, drop-of-length-le}
+use lib.Seq.{drop-nil, drop-cons}
 use lib.Dec.{eqb}
 use borrow.Author.Tests.{eq-eqb, ne-eqb, eqb-true}
 use Rattle.text.specs.Text.{byteAt}
-use Rattle.json_tokens.specs.Tokens.{End, At, Broken, andThen, literal}
-use Rattle.json_tokens.proofs.Laws.{here, past, by-place, then-at, then-broken, word-nil, word-cons, word-other, word-append}
-use Rattle.json_tokens.proofs.Bounds.{bounds, word-from, word-is}
+use Rattle.json_tokens.specs.Bytes.{backslash}
+use Rattle.json_tokens.proofs.Laws.{here}
 use Rattle.json.specs.Json.{Span}
-use Rattle.json.specs.Names.{part, means, holds}
+use Rattle.json.specs.Names.{part, escapeMeaning, escapeLength, meaning, inner, same, means}
+use Rattle.json.specs.Claims.{holds, Plain-text}
 
--- ---- a backslash, one step at a time: what is left of the part at i
-module _ (s : List ℕ) (to i : ℕ) where
-  left : List ℕ
-  left = take (to - i) (drop i s)
+-- ---- what bytes mean
 
-  pub holds-end : (c : ℕ) → to ≤ i → holds c (take (to - i) (drop i s)) ≡ false
-  unfolding holds
-  holds-end c h = let z : to - i ≡ 0 = omega arith in rw z
+pub meaning-skip : (k : ℕ) (t : List ℕ) → meaning k t ≡ meaning 0 (drop k t)
+unfolding meaning
+meaning-skip k [] = sym (ap (meaning 0) (drop-nil k))
+meaning-skip zero (c ∷ t) = refl
+meaning-skip (suc k) (c ∷ t) = meaning-skip k t
 
-  module _ (c : ℕ) (pos : 0 < c) (h : i < to) where
-    more : to - i ≡ suc (to - (i + 1))
-    more = omega arith
+-- it is no longer than they are
+pub meaning-length : (k : ℕ) (t : List ℕ) → length (meaning k t) ≤ length t
+unfolding meaning
+meaning-length k [] = omega arith
+meaning-length (suc k) (c ∷ t) = let h = meaning-length k t in omega arith
+meaning-length zero (c ∷ t) = go (eqb c 92)
+  where
+    go : (b : Bool) → length (cond b (escapeMeaning t ∷ meaning (escapeLength t) t) (c ∷ meaning zero t)) ≤ suc (length t)
+    go true = let h = meaning-length (escapeLength t) t in omega arith
+    go false = let h = meaning-length zero t in omega arith
 
-    pub holds-here : byteAt s i ≡ c → holds c (take (to - i) (drop i s)) ≡ true
-    unfolding holds
-    holds-here e = by-place s i (λ l. rw (more, here s i l, eq-eqb _ _ e)) (λ g. absurd (omega (arith, past s i g)))
+-- one character at a time
+module _ (t : List ℕ) (i : ℕ) where
+  pub meaning-end : length t ≤ i → meaning 0 (drop i t) ≡ []
+  unfolding meaning
+  meaning-end h = ap (meaning 0) (drop-of-length-le t h)
 
-    pub holds-on : (byteAt s i ≡ c → ⊥) → holds c (take (to - i) (drop i s)) ≡ holds c (take (to - (i + 1)) (drop (i + 1) s))
-    unfolding holds
-    holds-on n = by-place s i
-        (λ l. rw (more, here s i l, ne-eqb _ _ n))
-        (λ g. let g′ : length s ≤ i + 1 = omega arith in rw (drop-of-length-le s g, drop-of-length-le s g′) (ap (holds c) (take-nil (to - i) ∙ sym (take-nil (to - (i + 1))))))
+  module _ (h : i < length t) where
+    pub meaning-plain : (byteAt t i ≡ 92 → ⊥) → meaning 0 (drop i t) ≡ byteAt t i ∷ meaning 0 (drop (i + 1) t)
+    unfolding meaning
+    meaning-plain n = rw (here t i h, meaning, ne-eqb (byteAt t i) 92 n)
 
--- ---- a name, one step at a time
-module _ (s : List ℕ) (from to : ℕ) (name : List ℕ) where
-  abbrev span : Span
-  span = record { from = from; to = to }
+    pub meaning-escape : byteAt t i ≡ 92 → meaning 0 (drop i t) ≡ escapeMeaning (drop (i + 1) t) ∷ meaning (escapeLength (drop (i + 1) t)) (drop (i + 1) t)
+    unfolding meaning
+    meaning-escape e = rw (here t i h, meaning, eq-eqb (byteAt t i) 92 e)
 
-  quoted : byteAt s from ≡ 34 → literal (34 ∷ (name ++ (34 ∷ []))) s from ≡ andThen (literal name s (from + 1)) (literal (34 ∷ []) s)
-  quoted q = word-cons s from 34 (name ++ (34 ∷ [])) (omega arith) q ∙ word-append name (34 ∷ []) s (from + 1)
+pub plain-text : Plain-text
+unfolding meaning holds
+plain-text [] h = refl
+plain-text (c ∷ t) h = go (eqb c 92) h (plain-text t)
+  where
+    go : (b : Bool) → (b || holds 92 t) ≡ false → (holds 92 t ≡ false → meaning 0 t ≡ t) → cond b (escapeMeaning t ∷ meaning (escapeLength t) t) (c ∷ meaning zero t) ≡ c ∷ t
+    go true h later = absurd (true≢false h)
+    go false h later = ap (λ (l : List ℕ). c ∷ l) (later h)
 
-  at-end : (e : ℕ) → byteAt s from ≡ 34 → literal name s (from + 1) ≡ At e → byteAt s e ≡ 34 → literal (34 ∷ (name ++ (34 ∷ []))) s from ≡ At (e + 1)
-  at-end e q h r = quoted q ∙ then-at (literal (34 ∷ []) s) h ∙ word-cons s e 34 [] (omega arith) r ∙ word-nil s (e + 1)
+-- ---- two texts are one
 
-  means-broken : literal (34 ∷ (name ++ (34 ∷ []))) s from ≡ Broken → means s (record { from = from; to = to }) name ≡ false
-  unfolding means
-  means-broken h = rw (h, means)
+pub same-is : (m n : List ℕ) → same m n ≡ true → m ≡ n
+same-is [] [] h = refl
+same-is [] (d ∷ n) h = absurd (true≢false (sym h))
+same-is (c ∷ m) [] h = absurd (true≢false (sym h))
+same-is (c ∷ m) (d ∷ n) h =
+    let p = and-eq-true-iff (eqb c d) (same m n) .0 h in
+    ap₂ (λ (x : ℕ) (l : List ℕ). x ∷ l) (eqb-true c d (p .0)) (same-is m n (p .1))
 
-  means-at : (e : ℕ) → literal (34 ∷ (name ++ (34 ∷ []))) s from ≡ At e → means s (record { from = from; to = to }) name ≡ eqb e to
-  unfolding means
-  means-at e h = rw (h, means)
+pub same-self : (t : List ℕ) → same t t ≡ true
+same-self [] = refl
+same-self (c ∷ t) = rw (eq-eqb c c refl, same-self t)
 
-  -- it has the bytes of the name and two quotes, in the text
-  pub means-long : (to ≡ from + (length name + 2) → to ≤ length s → ⊥) → means s (record { from = from; to = to }) name ≡ false
-  unfolding means
-  means-long n = go (literal (34 ∷ (name ++ (34 ∷ []))) s from) refl
+pub same-longer : (m n : List ℕ) → length m < length n → same m n ≡ false
+same-longer [] [] h = absurd (omega arith)
+same-longer [] (d ∷ n) h = refl
+same-longer (c ∷ m) [] h = absurd (omega arith)
+same-longer (c ∷ m) (d ∷ n) h = ap (λ (b : Bool). eqb c d && b) (same-longer m n (omega arith)) ∙ no (eqb c d)
+  where
+    no : (b : Bool) → (b && false) ≡ false
+    no true = refl
+    no false = refl
+
+-- a text and what is left of a name
+module _ (name : List ℕ) (k : ℕ) where
+  pub same-end : k ≤ length name → same [] (drop k name) ≡ eqb k (length name)
+  same-end h = go name k h
     where
-      go : (x : End) → literal (34 ∷ (name ++ (34 ∷ []))) s from ≡ x → elim x [ At e ↦ eqb e to | Broken ↦ false ] ≡ false
-      go (At e) p =
-          let b = bounds e (word-from s (34 ∷ (name ++ (34 ∷ []))) from) p in
-          let l = ap length (word-is (34 ∷ (name ++ (34 ∷ []))) s from e p) in
-          let k = length-take-le (e - from) (drop from s) (omega arith) in
-          let m = length-append name (34 ∷ []) in
-          let d = length-drop from s in
-          ne-eqb e to (λ z. n (omega arith) (omega arith))
-      go Broken p = refl
+      go : (l : List ℕ) (k : ℕ) → k ≤ length l → same [] (drop k l) ≡ eqb k (length l)
+      go [] k h = rw drop-nil (sym (eq-eqb k 0 (omega arith)))
+      go (d ∷ l) zero h = sym (ne-eqb 0 (suc (length l)) (λ e. omega arith))
+      go (d ∷ l) (suc k) h = go l k (omega arith) ∙ by-one k (length l)
+        where
+          by-one : (x y : ℕ) → eqb x y ≡ eqb (suc x) (suc y)
+          by-one x y = at (eqb x y) refl
+            where
+              at : (b : Bool) → eqb x y ≡ b → eqb x y ≡ eqb (suc x) (suc y)
+              at true p = p ∙ sym (eq-eqb (suc x) (suc y) (ap suc (eqb-true x y p)))
+              at false p = p ∙ sym (ne-eqb (suc x) (suc y) (λ e. true≢false (sym (eq-eqb x y (omega arith)) ∙ p)))
 
+  module _ (c : ℕ) (m : List ℕ) where
+    pub same-over : length name ≤ k → same (c ∷ m) (drop k name) ≡ false
+    same-over h = ap (same (c ∷ m)) (drop-of-length-le name h)
+
+    module _ (h : k < length name) where
+      pub same-on : c ≡ getD name k 0 → same (c ∷ m) (drop k name) ≡ same m (drop (k + 1) name)
+      same-on e = rw (add-one, drop-cons name k 0, eq-eqb c (getD name k 0) e)
+
+      pub same-off : (c ≡ getD name k 0 → ⊥) → same (c ∷ m) (drop k name) ≡ false
+      same-off n = rw (drop-cons name k 0, ne-eqb c (getD name k 0) n)
+
+-- ---- names
+
+module _ (s : List ℕ) (from to : ℕ) (name : List ℕ) where
   pub means-no-quote : (byteAt s from ≡ 34 → ⊥) → means s (record { from = from; to = to }) name ≡ false
-  means-no-quote n = means-broken (word-other s from 34 (name ++ (34 ∷ [])) n)
+  unfolding means
+  means-no-quote n = rw (ne-eqb (byteAt s from) 34 n)
 
   module _ (q : byteAt s from ≡ 34) where
-    pub means-other : literal name s (from + 1) ≡ Broken → means s (record { from = from; to = to }) name ≡ false
-    means-other h = means-broken (quoted q ∙ then-broken (literal (34 ∷ []) s) h)
+    pub means-quoted : means s (record { from = from; to = to }) name ≡ same (meaning 0 (take (to - from - 2) (drop (from + 1) s))) name
+    unfolding means inner
+    means-quoted = rw (eq-eqb (byteAt s from) 34 q)
 
-    module _ (e : ℕ) (h : literal name s (from + 1) ≡ At e) where
-      pub means-longer : (byteAt s e ≡ 34 → ⊥) → means s (record { from = from; to = to }) name ≡ false
-      means-longer n = means-broken (quoted q ∙ then-at (literal (34 ∷ []) s) h ∙ word-other s e 34 [] n)
-
-      pub means-yes : byteAt s e ≡ 34 → e + 1 ≡ to → means s (record { from = from; to = to }) name ≡ true
-      means-yes r t = means-at (e + 1) (at-end e q h r) ∙ eq-eqb (e + 1) to t
-
--- ---- a string that means a name is the name between quotes
-pub means-part : (s : List ℕ) (a : Span) (name : List ℕ) → means s a name ≡ true → part s a ≡ 34 ∷ (name ++ (34 ∷ []))
-unfolding means part
-means-part s a name h = go (literal (34 ∷ (name ++ (34 ∷ []))) s (a .from)) refl h
-  where
-    go : (x : End) → literal (34 ∷ (name ++ (34 ∷ []))) s (a .from) ≡ x → elim x [ At e ↦ eqb e (a .to) | Broken ↦ false ] ≡ true
-        → take (a .to - a .from) (drop (a .from) s) ≡ 34 ∷ (name ++ (34 ∷ []))
-    go (At e) p h = sym (word-is (34 ∷ (name ++ (34 ∷ []))) s (a .from) (a .to) (p ∙ ap At (eqb-true e (a .to) h)))
-    go Broken p h = absurd (true≢false (sym h))
-
-cons-is : (x y : ℕ) (l m : List ℕ) → (x ∷ l) ≡ (y ∷ m) → (x ≡ y) × (l ≡ m)
-cons-is x y l m h = (cc, cc)
-
--- a list with one more byte at its end says which list it is
-pub snoc-is : (c : ℕ) (m n : List ℕ) → m ++ (c ∷ []) ≡ n ++ (c ∷ []) → m ≡ n
-snoc-is c [] [] h = refl
-snoc-is c [] (y ∷ []) h = absurd (nothing h)
-  where
-    nothing : c ∷ [] ≡ y ∷ c ∷ [] → ⊥
-    nothing h = let z = cons-is c y [] (c ∷ []) h in let k = ap length (z .1) in omega arith
-snoc-is c [] (y ∷ z ∷ n) h = absurd (nothing h)
-  where
-    nothing : c ∷ [] ≡ y ∷ z ∷ (n ++ (c ∷ [])) → ⊥
-    nothing h = let q = cons-is c y [] (z ∷ (n ++ (c ∷ []))) h in let k = ap length (q .1) in omega arith
-snoc-is c (x ∷ []) [] h = absurd (nothing h)
-  where
-    nothing : x ∷ c ∷ [] ≡ c ∷ [] → ⊥
-    nothing h = let z = cons-is x c (c ∷ []) [] h in let k = ap length (z .1) in omega arith
-snoc-is c (x ∷ y ∷ m) [] h = absurd (nothing h)
-  where
-    nothing : x ∷ y ∷ (m ++ (c ∷ [])) ≡ c ∷ [] → ⊥
-    nothing h = let q = cons-is x c (y ∷ (m ++ (c ∷ []))) [] h in let k = ap length (q .1) in omega arith
-snoc-is c (x ∷ m) (y ∷ n) h =
-    let q = cons-is x y (m ++ (c ∷ [])) (n ++ (c ∷ [])) h in
-    let r = snoc-is c m n (q .1) in
-    let p = q .0 in
-    cc
-
-pub holds-append : (c : ℕ) (m n : List ℕ) → holds c m ≡ false → holds c n ≡ false → holds c (m ++ n) ≡ false
-unfolding holds
-holds-append c [] n p q = q
-holds-append c (x ∷ m) n p q = go (eqb x c) p (λ r. holds-append c m n r q)
-  where
-    go : (b : Bool) → (b || holds c m) ≡ false → (holds c m ≡ false → holds c (m ++ n) ≡ false) → (b || holds c (m ++ n)) ≡ false
-    go true p f = p
-    go false p f = f p
+-- a string means one name at the most
+pub means-meaning : (s : List ℕ) (a : Span) (name : List ℕ) → means s a name ≡ true → meaning 0 (inner s a) ≡ name
+unfolding means
+means-meaning s a name h = same-is (meaning 0 (inner s a)) name (and-eq-true-iff (eqb (byteAt s (a .from)) 34) (same (meaning 0 (inner s a)) name) .0 h .1)

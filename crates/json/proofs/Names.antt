@@ -6,16 +6,48 @@ use mathlib.Core.Bool.{Bool, true, false, _&&_, _||_, cond, true≢false, and-eq
 use Prim.Native.Nat.{ℕ, zero, suc, _+_, _-_, _≤_, _<_}
 use native.Mathlib.Omega.{arith}
 use native.Mathlib.Numerals.{add-one}
-use lib.ListN.{length, take, drop, getD, drop-of-length-le}
-use lib.Seq.{drop-nil, drop-cons}
-use lib.Dec.{eqb}
-use borrow.Author.Tests.{eq-eqb, ne-eqb, eqb-true}
-use Rattle.text.specs.Text.{byteAt}
+use lib.ListN.{length, take, drop, getD, drop-of-length-le, length-take, length-drop}
+use lib.Seq.{take-all, drop-nil, drop-cons, drop-drop, getD-drop}
+use lib.Dec.{leb, eqb}
+use borrow.Author.Tests.{eq-eqb, ne-eqb, eqb-true, leb-true, le-leb, lt-leb}
+use Rattle.text.specs.Text.{byteAt, isDigit}
 use Rattle.json_tokens.specs.Bytes.{backslash}
 use Rattle.json_tokens.proofs.Laws.{here}
 use Rattle.json.specs.Json.{Span}
-use Rattle.json.specs.Names.{part, escapeMeaning, escapeLength, meaning, inner, same, means}
+use Rattle.json.specs.Names.{part, shortMeaning, hexValue, longMeaning, escapeMeaning, escapeLength, meaning, inner, same, means}
+use Rattle.json.specs.Escapes.{PastEscape, Spelled}
 use Rattle.json.specs.Claims.{holds, Plain-text}
+
+-- a part from a place to the end
+pub part-all : (t : List ℕ) (n : ℕ) → take (length t - n) (drop n t) ≡ drop n t
+part-all t n = let l = length-drop n t in take-all (length t - n) (drop n t) (omega arith)
+
+-- ---- escapes
+
+module _ (c : ℕ) where
+  pub digit-low : isDigit c ≡ true → 48 ≤ c
+  unfolding isDigit
+  digit-low h = leb-true 48 c (and-eq-true-iff (leb 48 c) (leb c 57) .0 h .0)
+
+  pub hex-digit : isDigit c ≡ true → hexValue c ≡ c - 48
+  unfolding hexValue
+  hex-digit h = rw h
+
+  pub hex-small : isDigit c ≡ false → 97 ≤ c → hexValue c ≡ c - 87
+  unfolding hexValue
+  hex-small h l = rw (h, le-leb 97 c l)
+
+  pub hex-capital : isDigit c ≡ false → c < 97 → hexValue c ≡ c - 55
+  unfolding hexValue
+  hex-capital h l = rw (h, lt-leb 97 c l)
+
+pub escape-long : (t : List ℕ) → byteAt t 0 ≡ 117 → escapeMeaning t ≡ longMeaning t
+unfolding escapeMeaning
+escape-long t h = rw (eq-eqb (byteAt t 0) 117 h)
+
+pub escape-short : (t : List ℕ) → (byteAt t 0 ≡ 117 → ⊥) → escapeMeaning t ≡ shortMeaning (byteAt t 0)
+unfolding escapeMeaning
+escape-short t h = rw (ne-eqb (byteAt t 0) 117 h)
 
 -- ---- what bytes mean
 
@@ -25,16 +57,35 @@ meaning-skip k [] = sym (ap (meaning 0) (drop-nil k))
 meaning-skip zero (c ∷ t) = refl
 meaning-skip (suc k) (c ∷ t) = meaning-skip k t
 
+-- what follows the escape whose backslash stands at i; n is its length from there on
+module _ (t : List ℕ) (i n : ℕ) (is : n ≡ cond (eqb (byteAt t (i + 1)) 117) 5 1) where
+  length-is : escapeLength (drop (i + 1) t) ≡ n
+  unfolding escapeLength byteAt
+  length-is = ap (λ (x : ℕ). cond (eqb x 117) 5 1) (getD-drop (i + 1) t 0 0 ∙ ap (λ (k : ℕ). getD t k 0) (omega arith)) ∙ sym is
+
+  past-rest : meaning (escapeLength (drop (i + 1) t)) (drop (i + 1) t) ≡ meaning 0 (drop (i + 1 + n) t)
+  past-rest = ap (λ (k : ℕ). meaning k (drop (i + 1) t)) length-is ∙ meaning-skip n (drop (i + 1) t) ∙ ap (meaning 0) (drop-drop n (i + 1) t)
+
+  pub past-cut : length t - i ≤ n → i < length t → PastEscape t i (length t)
+  past-cut h l =
+      record {
+        later = l;
+        rest = past-rest ∙ ap (meaning 0) (drop-of-length-le t {i = i + 1 + n} (omega arith) ∙ sym (drop-of-length-le t {i = length t} (omega arith)));
+      }
+
+  pub past-whole : PastEscape t i (i + 1 + n)
+  past-whole = record { later = omega arith; rest = past-rest }
+
 -- it is no longer than they are
 pub meaning-length : (k : ℕ) (t : List ℕ) → length (meaning k t) ≤ length t
 unfolding meaning
 meaning-length k [] = omega arith
 meaning-length (suc k) (c ∷ t) = let h = meaning-length k t in omega arith
-meaning-length zero (c ∷ t) = go (eqb c 92)
+meaning-length zero (c ∷ t) = go (eqb c 92) (λ k. meaning-length k t)
   where
-    go : (b : Bool) → length (cond b (escapeMeaning t ∷ meaning (escapeLength t) t) (c ∷ meaning zero t)) ≤ suc (length t)
-    go true = let h = meaning-length (escapeLength t) t in omega arith
-    go false = let h = meaning-length zero t in omega arith
+    go : (b : Bool) → ((k : ℕ) → length (meaning k t) ≤ length t) → length (cond b (escapeMeaning t ∷ meaning (escapeLength t) t) (c ∷ meaning zero t)) ≤ suc (length t)
+    go true h = let l = h (escapeLength t) in omega arith
+    go false h = let l = h zero in omega arith
 
 -- one character at a time
 module _ (t : List ℕ) (i : ℕ) where
@@ -84,33 +135,69 @@ same-longer (c ∷ m) (d ∷ n) h = ap (λ (b : Bool). eqb c d && b) (same-longe
     no true = refl
     no false = refl
 
--- a text and what is left of a name
-module _ (name : List ℕ) (k : ℕ) where
-  pub same-end : k ≤ length name → same [] (drop k name) ≡ eqb k (length name)
-  same-end h = go name k h
-    where
-      go : (l : List ℕ) (k : ℕ) → k ≤ length l → same [] (drop k l) ≡ eqb k (length l)
-      go [] k h = rw drop-nil (sym (eq-eqb k 0 (omega arith)))
-      go (d ∷ l) zero h = sym (ne-eqb 0 (suc (length l)) (λ e. omega arith))
-      go (d ∷ l) (suc k) h = go l k (omega arith) ∙ by-one k (length l)
-        where
-          by-one : (x y : ℕ) → eqb x y ≡ eqb (suc x) (suc y)
-          by-one x y = at (eqb x y) refl
-            where
-              at : (b : Bool) → eqb x y ≡ b → eqb x y ≡ eqb (suc x) (suc y)
-              at true p = p ∙ sym (eq-eqb (suc x) (suc y) (ap suc (eqb-true x y p)))
-              at false p = p ∙ sym (ne-eqb (suc x) (suc y) (λ e. true≢false (sym (eq-eqb x y (omega arith)) ∙ p)))
+-- a character and what follows it
+module _ (c b : ℕ) (m n : List ℕ) where
+  pub same-on : c ≡ b → same (c ∷ m) (b ∷ n) ≡ same m n
+  same-on e = rw (eq-eqb c b e)
 
-  module _ (c : ℕ) (m : List ℕ) where
-    pub same-over : length name ≤ k → same (c ∷ m) (drop k name) ≡ false
-    same-over h = ap (same (c ∷ m)) (drop-of-length-le name h)
+  pub same-off : (c ≡ b → ⊥) → same (c ∷ m) (b ∷ n) ≡ false
+  same-off h = rw (ne-eqb c b h)
 
-    module _ (h : k < length name) where
-      pub same-on : c ≡ getD name k 0 → same (c ∷ m) (drop k name) ≡ same m (drop (k + 1) name)
-      same-on e = rw (add-one, drop-cons name k 0, eq-eqb c (getD name k 0) e)
+-- the character at i, and a name that begins with b
+module _ (t : List ℕ) (i b : ℕ) (l : i < length t) where
+  module _ (e : byteAt t i ≡ 92) where
+    pub spelled-escape : escapeMeaning (drop (i + 1) t) ≡ b → (r : ℕ) → PastEscape t i r → Spelled t i b r
+    spelled-escape h r p =
+        record {
+          other = λ z. absurd (let q = p .later in omega arith);
+          later = λ n. p .later;
+          rest = λ n m. ap (λ (x : List ℕ). same x (b ∷ m)) (meaning-escape t i l e) ∙ same-on (escapeMeaning (drop (i + 1) t)) b (meaning (escapeLength (drop (i + 1) t)) (drop (i + 1) t)) m h ∙ ap (λ (x : List ℕ). same x m) (p .rest);
+        }
 
-      pub same-off : (c ≡ getD name k 0 → ⊥) → same (c ∷ m) (drop k name) ≡ false
-      same-off n = rw (drop-cons name k 0, ne-eqb c (getD name k 0) n)
+    pub other-escape : (escapeMeaning (drop (i + 1) t) ≡ b → ⊥) → Spelled t i b 0
+    other-escape h =
+        record {
+          other = λ z m. ap (λ (x : List ℕ). same x (b ∷ m)) (meaning-escape t i l e) ∙ same-off (escapeMeaning (drop (i + 1) t)) b (meaning (escapeLength (drop (i + 1) t)) (drop (i + 1) t)) m h;
+          later = λ n. absurd (n refl);
+          rest = λ n. absurd (n refl);
+        }
+
+  module _ (n : byteAt t i ≡ 92 → ⊥) where
+    pub spelled-plain : byteAt t i ≡ b → Spelled t i b (i + 1)
+    spelled-plain h =
+        record {
+          other = λ z. absurd (omega arith);
+          later = λ z. omega arith;
+          rest = λ z m. ap (λ (x : List ℕ). same x (b ∷ m)) (meaning-plain t i l n) ∙ same-on (byteAt t i) b (meaning 0 (drop (i + 1) t)) m h;
+        }
+
+    pub other-plain : (byteAt t i ≡ b → ⊥) → Spelled t i b 0
+    other-plain h =
+        record {
+          other = λ z m. ap (λ (x : List ℕ). same x (b ∷ m)) (meaning-plain t i l n) ∙ same-off (byteAt t i) b (meaning 0 (drop (i + 1) t)) m h;
+          later = λ z. absurd (z refl);
+          rest = λ z. absurd (z refl);
+        }
+
+-- what is left of a name, from place k on
+pub name-left : (name : List ℕ) (k : ℕ) → k < length name → drop k name ≡ getD name k 0 ∷ drop (k + 1) name
+name-left name k h = rw (add-one, drop-cons name k 0)
+
+pub same-end : (name : List ℕ) (k : ℕ) → k ≤ length name → same [] (drop k name) ≡ eqb k (length name)
+same-end [] k h = rw drop-nil (sym (eq-eqb k 0 (omega arith)))
+same-end (d ∷ name) zero h = sym (ne-eqb 0 (suc (length name)) (λ e. omega arith))
+same-end (d ∷ name) (suc k) h = same-end name k (omega arith) ∙ by-one (eqb k (length name)) refl
+  where
+    by-one : (b : Bool) → eqb k (length name) ≡ b → eqb k (length name) ≡ eqb (suc k) (suc (length name))
+    by-one true p = p ∙ sym (eq-eqb (suc k) (suc (length name)) (ap suc (eqb-true k (length name) p)))
+    by-one false p = p ∙ sym (ne-eqb (suc k) (suc (length name)) (λ e. true≢false (sym (eq-eqb k (length name) (omega arith)) ∙ p)))
+
+pub same-over : (t name : List ℕ) (i k : ℕ) → i < length t → length name ≤ k → same (meaning 0 (drop i t)) (drop k name) ≡ false
+same-over t name i k l h = rw (drop-of-length-le name h) (at (eqb (byteAt t i) 92) refl)
+  where
+    at : (b : Bool) → eqb (byteAt t i) 92 ≡ b → same (meaning 0 (drop i t)) [] ≡ false
+    at true p = rw (meaning-escape t i l (eqb-true (byteAt t i) 92 p))
+    at false p = rw (meaning-plain t i l (λ e. true≢false (sym (eq-eqb (byteAt t i) 92 e) ∙ p)))
 
 -- ---- names
 
@@ -123,6 +210,32 @@ module _ (s : List ℕ) (from to : ℕ) (name : List ℕ) where
     pub means-quoted : means s (record { from = from; to = to }) name ≡ same (meaning 0 (take (to - from - 2) (drop (from + 1) s))) name
     unfolding means inner
     means-quoted = rw (eq-eqb (byteAt s from) 34 q)
+
+    -- nothing stands between the quotes
+    pub means-empty : to ≤ from + 1 → eqb (length name) 0 ≡ means s (record { from = from; to = to }) name
+    unfolding meaning
+    means-empty h = let z : to - from - 2 ≡ 0 = omega arith in sym (means-quoted ∙ rw z (none name))
+      where
+        none : (n : List ℕ) → same [] n ≡ eqb (length n) 0
+        none [] = refl
+        none (d ∷ n) = sym (ne-eqb (suc (length n)) 0 (λ e. omega arith))
+
+    -- too little stands there
+    pub means-short : to - 1 - (from + 1) < length name → false ≡ means s (record { from = from; to = to }) name
+    means-short h =
+        let t = take (to - from - 2) (drop (from + 1) s) in
+        let a = meaning-length 0 t in
+        let b = length-take (to - from - 2) (drop (from + 1) s) in
+        sym (means-quoted ∙ same-longer (meaning 0 t) name (omega arith))
+
+    -- what stands there, up to the end of the text or to the last quote
+    pub means-cut : length s < to - 1 → same (meaning 0 (drop (from + 1) s)) name ≡ means s (record { from = from; to = to }) name
+    means-cut h =
+        let b = length-drop (from + 1) s in
+        sym (means-quoted ∙ ap (λ (x : List ℕ). same (meaning 0 x) name) (take-all (to - from - 2) (drop (from + 1) s) (omega arith)))
+
+    pub means-between : same (meaning 0 (take (to - 1 - (from + 1)) (drop (from + 1) s))) name ≡ means s (record { from = from; to = to }) name
+    means-between = let e : to - from - 2 ≡ to - 1 - (from + 1) = omega arith in sym (means-quoted ∙ ap (λ (k : ℕ). same (meaning 0 (take k (drop (from + 1) s))) name) e)
 
 -- a string means one name at the most
 pub means-meaning : (s : List ℕ) (a : Span) (name : List ℕ) → means s a name ≡ true → meaning 0 (inner s a) ≡ name

@@ -32,13 +32,15 @@ use text::byte_at;
 use text::is_digit;
 use text::wide;
 ghost use mathlib.Core.Path.{_≡_};
+ghost use mathlib.Core.Bool.{cond};
+ghost use lib.Dec.{eqb};
 ghost use Prim.Native.Nat.{_<_};
 ghost use lib.ListN.{length};
 ghost use Rattle.json_tokens.specs.Ends.{endOf};
 ghost use Rattle.json.specs.Json.{itemsEnd, elements, members, value};
 ghost use Rattle.json.specs.Ends.{memberEnd};
 ghost use Rattle.json.specs.Names.{shortMeaning, hexValue, escapeMeaning, meaning, same, means};
-ghost use Rattle.json.specs.Escapes.{PastEscape};
+ghost use Rattle.json.specs.Escapes.{PastEscape, Spelled};
 
 // How deep arrays and objects may nest in a text, the outermost counting as one.
 pub const MAX_DEPTH: usize = 16;
@@ -157,21 +159,31 @@ fn spells(t: &[u8], name: &[u8]) -> bool
         if name.len() <= k {
             return false;
         }
-        if t[i] == BACKSLASH {
-            let escape = &t[i + 1..];
-            if escape_meaning(escape) != wide(name[k]) {
-                return false;
-            }
-            i = past_escape(t, i);
-        } else {
-            if t[i] != name[k] {
-                return false;
-            }
-            i += 1;
+        let next = past_character(t, i, name[k]);
+        if next == 0 {
+            return false;
         }
+        i = next;
         k += 1;
     }
     k == name.len()
+}
+
+// Past the character at i if it means b, and 0 if it does not.
+fn past_character(t: &[u8], i: usize, b: u8) -> usize
+    requires { ⌜ i < length (now t) ⌝ }
+    ensures { λ r. ⌜ Spelled (now (t .entry)) i b r ⌝ }
+{
+    if t[i] == BACKSLASH {
+        if escape_meaning(&t[i + 1..]) == wide(b) {
+            return past_escape(t, i);
+        }
+        return 0;
+    }
+    if t[i] == b {
+        return i + 1;
+    }
+    0
 }
 
 // What an escape means, from past its backslash on.
@@ -190,13 +202,18 @@ fn escape_meaning(t: &[u8]) -> u64
 fn short_meaning(c: u8) -> u64
     ensures { λ r. ⌜ r ≡ shortMeaning c ⌝ }
 {
-    match c {
-        98 => 8,
-        102 => 12,
-        110 => 10,
-        114 => 13,
-        116 => 9,
-        _ => wide(c),
+    if c == b'b' {
+        8
+    } else if c == b'f' {
+        12
+    } else if c == b'n' {
+        10
+    } else if c == b'r' {
+        13
+    } else if c == b't' {
+        9
+    } else {
+        wide(c)
     }
 }
 
@@ -223,12 +240,16 @@ fn past_escape(t: &[u8], i: usize) -> usize
     ensures { λ r. ⌜ PastEscape (now (t .entry)) i r ⌝ }
 {
     let left = t.len() - i;
-    let mut n = 2;
-    if byte_at(t, i + 1) == LONG_ESCAPE {
-        n = 6;
-    }
-    if left < n {
+    let n = escape_length(byte_at(t, i + 1));
+    if left <= n {
         return t.len();
     }
-    i + n
+    i + 1 + n
+}
+
+// How many bytes an escape has past its backslash, by the first of them.
+fn escape_length(c: u8) -> usize
+    ensures { λ r. ⌜ r ≡ cond (eqb c 117) 5 1 ⌝ }
+{
+    if c == LONG_ESCAPE { 5 } else { 1 }
 }

@@ -16,7 +16,7 @@ use Rattle.message_k.proofs.framed.Tie as tie
 returns : tie.Need-returns
 unfolding oursBy
 returns c =
-    let a = c .before .before .before .args in
+    let a = c .before .before .before .before .before .args in
     let t = a .outer in
     let s = now (a .s) in
     let x : Span = record { from = t .«channel_from»; to = t .«channel_to» } in

@@ -1,7 +1,7 @@
 -- What the buffer has once `data`, and once the message, was read. Assumes nothing.
 use Prim.Native.Nat.{ℕ, _+_, _≤_, _<_}
 use mathlib.Core.Path.{_≡_, refl, sym, ap, _∙_, subst}
-use mathlib.Core.Bool.{Bool, true, false}
+use mathlib.Core.Bool.{Bool, true, false, cond}
 use mathlib.Core.List.{List, [], _∷_}
 use native.Mathlib.Omega.{arith}
 use lib.ListN.{length}
@@ -154,13 +154,13 @@ unfolding layoutIn linkedTo
 linked-held false s ms l h = layout-held s ms l h
 linked-held true s ms l h =
     let p = then-reads (layoutM s ms) _ l h in
-    layout-held s ms (p .0) (p .1) ∙ ap reads (at (isSnapshot (p .0 .kind)) (p .2))
+    layout-held s ms (p .0) (p .1) ∙ ap reads (at (p .0) (isSnapshot (p .0 .kind)) (p .2))
   where
-    at : {k : Layout} (b : Bool)
+    at : (k : Layout) (b : Bool)
         → cond b (reads k) (andThen (andThen (only (valuesOf s (ascii "prev_gsn") ms)) (wholeAt s)) (λ n. reads (record { kind = k .kind; entries = k .entries; checksum = k .checksum; number = k .number; previous = n }))) ≡ reads l
         → k .entries ≡ l .entries
-    at {k} true g = ap (λ (x : Layout). x .entries) (same-reads g)
-    at {k} false g = let q = then-reads (andThen (only (valuesOf s (ascii "prev_gsn") ms)) (wholeAt s)) _ l g in ap (λ (x : Layout). x .entries) (same-reads (q .2))
+    at k true g = ap (λ (x : Layout). x .entries) (same-reads g)
+    at k false g = let q = then-reads (andThen (only (valuesOf s (ascii "prev_gsn") ms)) (wholeAt s)) _ l g in ap (λ (x : Layout). x .entries) (same-reads (q .2))
 
 module _ (linked : Bool) (name s : List ℕ) (at : ℕ) (buffer : List ℕ) (r : Scan) (told : r ≡ scanAt (envelopeM linked name) s at) where
   pub message-other : (byteAt s at ≡ 123 → ⊥) → Scanned (envelopeM linked name) s at buffer r

@@ -182,6 +182,14 @@ module _ (s : List ℕ) where
   times-once (a ∷ []) = refl
   times-once (a ∷ (b ∷ l)) = ap (λ (n : ℕ). eqb n 1) (count-times (a ∷ (b ∷ l)))
 
+-- the outline of a layout that names the sequence number before its own
+named-before : (s : List ℕ) (l : Layout) (x : Reading ℕ)
+    → outlineOf s (andThen x (λ n. reads (record { kind = l .kind; entries = l .entries; checksum = l .checksum; number = l .number; previous = n })))
+    ≡ outlineWhere x (λ n. following n (outlineOf s (reads l)))
+unfolding andThen outlineOf outlineWhere
+named-before s l (reads n) = refl
+named-before s l refused = refl
+
 -- the members that were met, of which ms are all
 module _ (name s : List ℕ) (ms : List Pair) where
   abbrev met : Members
@@ -354,39 +362,34 @@ module _ (name s : List ℕ) (ms : List Pair) where
       (only-is (values (ascii "channel")) (met .channel) channel-is)
       (λ c q. channel-out c)
 
-  -- where updates are linked, one that names the sequence number before its own
+  -- where updates are linked, one names the sequence number before its own
+  before-is : andThen (only (values (ascii "prev_gsn"))) (wholeAt s) ≡ andThen (onceAt (met .previous)) (wholeAt s)
+  before-is = ap (λ (x : Reading Span). andThen x (wholeAt s)) (only-is (values (ascii "prev_gsn")) (met .previous) previous-is)
+
+  linked-reads : (l : Layout) → outlineOf s (linkedTo s (values (ascii "prev_gsn")) l) ≡ linkedOutline true s (met .previous) (outlineOf s (reads l))
+  unfolding linkedTo linkedOutline
+  linked-reads l =
+      at (isSnapshot (l .kind))
+      ∙ sym (ap₂ (λ (f b : Bool). cond f (cond b named-all (outlineWhere (andThen (onceAt (met .previous)) (wholeAt s)) (λ n. following n named-all))) named-all)
+      (outline-reads s l) (ap isSnapshot (outline-kind s l)))
+    where
+      named-all : Outline
+      named-all = outlineOf s (reads l)
+
+      at : (b : Bool) → outlineOf s (cond b (reads l) (andThen (andThen (only (values (ascii "prev_gsn"))) (wholeAt s)) (λ n. reads (record { kind = l .kind; entries = l .entries; checksum = l .checksum; number = l .number; previous = n }))))
+          ≡ cond b named-all (outlineWhere (andThen (onceAt (met .previous)) (wholeAt s)) (λ n. following n named-all))
+      at true = refl
+      at false = named-before s l (andThen (only (values (ascii "prev_gsn"))) (wholeAt s)) ∙ ap (λ (x : Reading ℕ). outlineWhere x (λ n. following n named-all)) before-is
+
+  linked-all : (x : Reading Layout) → outlineOf s (andThen x (linkedTo s (values (ascii "prev_gsn")))) ≡ linkedOutline true s (met .previous) (outlineOf s x)
+  unfolding andThen outlineOf linkedOutline
+  linked-all (reads l) = linked-reads l
+  linked-all refused = refl
+
   linked-out : (linked : Bool) → outlineOf s (layoutIn linked s ms) ≡ linkedOutline linked s (met .previous) (outlineIn s met)
   unfolding layoutIn linkedOutline
   linked-out false = layout-out
-  linked-out true = go (layoutM s ms) ∙ ap (linkedOutline true s (met .previous)) layout-out
-    where
-      before : andThen (only (values (ascii "prev_gsn"))) (wholeAt s) ≡ andThen (onceAt (met .previous)) (wholeAt s)
-      before = ap (λ (x : Reading Span). andThen x (wholeAt s)) (only-is (values (ascii "prev_gsn")) (met .previous) previous-is)
-
-      named : (l : Layout) (x : Reading ℕ) → outlineOf s (andThen x (λ n. reads (record { kind = l .kind; entries = l .entries; checksum = l .checksum; number = l .number; previous = n })))
-          ≡ outlineWhere x (λ n. following n (outlineOf s (reads l)))
-      unfolding andThen outlineOf outlineWhere
-      named l (reads n) = refl
-      named l refused = refl
-
-      update : (l : Layout) → isSnapshot (l .kind) ≡ false → outlineOf s (linkedTo s (values (ascii "prev_gsn")) l) ≡ linkedOutline true s (met .previous) (outlineOf s (reads l))
-      unfolding linkedTo linkedOutline
-      update l k =
-          rw (k, linkedTo) (named l (andThen (only (values (ascii "prev_gsn"))) (wholeAt s)) ∙ ap (λ (x : Reading ℕ). outlineWhere x (λ n. following n (outlineOf s (reads l)))) before)
-          ∙ sym (rw (outline-reads s l, outline-kind s l, k))
-
-      snapshot : (l : Layout) → isSnapshot (l .kind) ≡ true → outlineOf s (linkedTo s (values (ascii "prev_gsn")) l) ≡ linkedOutline true s (met .previous) (outlineOf s (reads l))
-      unfolding linkedTo linkedOutline
-      snapshot l k = rw (k, linkedTo, outline-reads s l, outline-kind s l, k)
-
-      go : (x : Reading Layout) → outlineOf s (andThen x (linkedTo s (values (ascii "prev_gsn")))) ≡ linkedOutline true s (met .previous) (outlineOf s x)
-      unfolding andThen outlineOf linkedOutline
-      go (reads l) = at (isSnapshot (l .kind)) refl
-        where
-          at : (b : Bool) → isSnapshot (l .kind) ≡ b → outlineOf s (linkedTo s (values (ascii "prev_gsn")) l) ≡ linkedOutline true s (met .previous) (outlineOf s (reads l))
-          at true k = snapshot l k
-          at false k = update l k
-      go refused = refl
+  linked-out true = linked-all (layoutM s ms) ∙ ap (linkedOutline true s (met .previous)) layout-out
 
   -- ---- check 5
   some-is : (get : Members → Bool) (n text : List ℕ)

@@ -97,7 +97,7 @@ m-carries v s ms =
 
 -- .. also where an update names the sequence number before its own
 linked-carries : (v : Edition) (linked : Bool) (s : List ℕ) (ms : List Pair) → Read (Carrying (M v)) (layoutIn linked s ms)
-unfolding layoutIn linkedTo
+unfolding layoutIn linkedTo andThen
 linked-carries v false s ms = m-carries v s ms
 linked-carries v true s ms = go (layoutM s ms) (m-carries v s ms)
   where
@@ -110,7 +110,6 @@ linked-carries v true s ms = go (layoutM s ms) (m-carries v s ms)
     at l false h = then-read (Carrying (M v)) before _ (λ n. record { compared = h .compared; none = h .none; number = h .number })
 
     go : (x : Reading Layout) → Read (Carrying (M v)) x → Read (Carrying (M v)) (andThen x (linkedTo s (valuesOf s (ascii "prev_gsn") ms)))
-    unfolding andThen before
     go (reads l) h = at l (isSnapshot·l (l .kind)) h
     go refused h = tt
 

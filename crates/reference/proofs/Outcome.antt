@@ -157,8 +157,8 @@ module _ (p : Reference) (m : Message) where
       record {
         ready = ready-from u (f .1);
         once = λ k. or-none (namesTwice (pricesOf (editsFor Bids m))) (namesTwice (pricesOf (editsFor Asks m))) (rw (of-snapshot k) at (f .0));
-        newer = λ e k. leb-false (m .number) (p .last .number) (or-none _ _ (new-update (f .2) e k) .0);
-        follows = λ e l k. eqb-true (m .previous) (p .last .number) (not-false _ (where-rule (rules p .linked) _ (or-none _ _ (new-update (f .2) e k) .1) l));
+        newer = λ e k. leb-false (m .number) (p .last .number) (or-none (leb (m .number) (p .last .number)) (rules p .linked && not (eqb (m .previous) (p .last .number))) (new-update (f .2) e k) .0);
+        follows = λ e l k. eqb-true (m .previous) (p .last .number) (not-false _ (where-rule (rules p .linked) (not (eqb (m .previous) (p .last .number))) (or-none (leb (m .number) (p .last .number)) (rules p .linked && not (eqb (m .previous) (p .last .number))) (new-update (f .2) e k) .1) l));
         few =
             let o = or-none (ltb (rules p .levels) (length (sidesAfter p m .bids))) (ltb (rules p .levels) (length (sidesAfter p m .asks))) (f .3) in
             (ltb-false (rules p .levels) (length (sidesAfter p m .bids)) (o .0), ltb-false (rules p .levels) (length (sidesAfter p m .asks)) (o .1));

@@ -9,6 +9,7 @@ use Rattle.answer.specs.declared.Answer.{Answer}
 use Rattle.answer.specs.declared.Answer.the-variants.{NoSnapshot, OldNumber}
 use Rattle.answer.specs.declared.Answer.the-variants as answer·
 use Rattle.settings.specs.Rules.{rulesOf}
+use Rattle.settings.specs.declared.Rules.{Rules}
 use Rattle.layout.specs.Layout.{isSnapshot}
 use Rattle.settings.specs.Kept.{configOf}
 use Rattle.settings.specs.declared.Settings.{Settings}

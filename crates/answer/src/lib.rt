@@ -11,7 +11,7 @@ pub enum Answer {
     TooLong,
     // It is not JSON, or nested too deep.
     NotJson,
-    // A backslash stands where the book's name could be written with one.
+    // Given no more: a name is compared by what it means, escapes included.
     Escaped,
     // It is not this book's.
     NotOurs,

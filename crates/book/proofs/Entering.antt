@@ -17,7 +17,7 @@ use Rattle.edit.specs.declared.Side.{Side}
 use Rattle.edit.specs.declared.Side.the-variants.{Bids, Asks}
 use Rattle.level.specs.Ranked.{All}
 use Rattle.side.specs.Applying.{EntryWithin, Given}
-use Rattle.entries.specs.Places.{inner}
+use Rattle.json.specs.Names.{inner}
 use Rattle.entries.specs.Rows.{Entry, numberIn, isBadSize, badPrice, badSize, badTexts, numberAt, numbersAt}
 use Rattle.entries.specs.Tally.{Kept}
 use Rattle.entries.proofs.Numbers.{number-within}

@@ -19,7 +19,7 @@ use Rattle.decimal.proofs.Scan.{prefix-refused, prefix-pointed, pointed-plain, 
 use Rattle.decimal.proofs.RoundTrip.{Shape, plain, with-point, read-shape, prefix-stop}
 use Rattle.json_tokens.specs.Tokens.{At, blanks, chars, separator, stringRest, string}
 use Rattle.json_tokens.proofs.Laws.{here, in-byte, string-yes}
-use Rattle.entries.specs.Places.{inner}
+use Rattle.json.specs.Names.{inner}
 use Rattle.entries.specs.Rows.{isBadPrice, isBadSize, badPrice, badSize, isBad, numberIn, numberAt}
 use Rattle.entries.specs.Found.{entryPlaceOf, priceSpan, sizeSpan, rowFrom, entryPlaceAt}
 use Rattle.entries.specs.Front.{EntryEnd}

@@ -12,7 +12,7 @@ use Rattle.json_tokens.proofs.Laws.{end-at}
 use Rattle.json_tokens.proofs.Bounds.{bounds, end-broken}
 use Rattle.json.specs.Json.{Span, value}
 use Rattle.json.proofs.Bounds.{value-in}
-use Rattle.entries.specs.Places.{inner}
+use Rattle.json.specs.Names.{inner}
 use Rattle.entries.specs.Rows.{Row, entryOf}
 use Rattle.entries.specs.Found.{entryPlaceOf, priceSpan, sizeSpan, entryPlaceAt, Laid}
 use Rattle.entries.specs.declared.Form.{Form}

@@ -9,7 +9,7 @@ use Rattle.decimal.specs.Decimal.{Number, read}
 use Rattle.decimal.specs.Limits.{Within}
 use Rattle.decimal.proofs.RoundTrip.{read-within}
 use Rattle.json.specs.Json.{Span}
-use Rattle.entries.specs.Places.{inner}
+use Rattle.json.specs.Names.{inner}
 use Rattle.entries.specs.Rows.{numberIn, numberAt}
 
 pub number-within : (s : List ℕ) (a : Span) → Within (numberAt s a)

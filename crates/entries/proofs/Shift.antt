@@ -22,7 +22,8 @@ use Rattle.json.specs.Json.{Span, Items, elements, value}
 use Rattle.json.specs.Fold.{foldFrom}
 use Rattle.json.proofs.Bounds.{value-in}
 use Rattle.json.proofs.Shift.{shiftedSpan, ItemsShifts, both-items, no-items, value-shifts, elements-shift}
-use Rattle.entries.specs.Places.{andThen, all, isString, contents, arrayAt, inner}
+use Rattle.entries.specs.Places.{andThen, all, isString, contents, arrayAt}
+use Rattle.json.specs.Names.{inner}
 use Rattle.entries.specs.Rows.{Row, Entry, sided, rowK, rowM, rowOf, entryOf, entriesAt, sidedAt, isBadPrice, isBadSize, badPrice, badSize, isBad, numberIn, numberAt, numbersAt}
 use Rattle.entries.specs.Tally.{toldNot, oneMore, orNot, oneSpan, spansTally, arrayTally, toldAt, met, Met}
 use Rattle.entries.specs.declared.Form.{Form}

@@ -6,7 +6,7 @@ use mathlib.Core.Path.{_≡_}
 use Rattle.decimal.specs.Digits.{reads}
 use Rattle.decimal.specs.Decimal.{number, read}
 use Rattle.json_tokens.specs.Tokens.{At, string}
-use Rattle.entries.specs.Places.{inner}
+use Rattle.json.specs.Names.{inner}
 use Rattle.entries.specs.Found.{priceSpan, sizeSpan}
 use Rattle.entries.specs.Front.{Two}
 use Rattle.entries.specs.declared.EntryPlace.{EntryPlace}

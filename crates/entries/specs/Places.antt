@@ -1,17 +1,16 @@
 -- Where things lie in a message: what the arrays and objects of it hold, members by name, strings and whole numbers.
 -- Assumes nothing: these are definitions.
-use Prim.Native.Nat.{ℕ, zero, suc, _+_, _-_}
+use Prim.Native.Nat.{ℕ, zero, suc, _+_}
 use mathlib.Core.Bool.{Bool, cond}
 use mathlib.Core.List.{List, [], _∷_, _++_}
 use lib.Dec.{eqb}
-use lib.ListN.{take, drop}
 use Rattle.text.specs.Text.{byteAt}
 use Rattle.decimal.specs.Digits.{Reading, reads, refused}
 use Rattle.decimal.specs.Whole.{readWhole, readChecksum}
 use Rattle.json_tokens.specs.Bytes.{quote, openArray, openObject}
 use Rattle.json_tokens.specs.Tokens.{At, Broken, blanks}
 use Rattle.json.specs.Json.{Span, Pair, Items, items, noItems, elements, members, value, maxDepth}
-use Rattle.json.specs.Names.{part, means}
+use Rattle.json.specs.Names.{part, inner, means}
 
 -- What was read, and then what is read of it.
 unfoldable pub andThen : {A B : Type 0} → Reading A → (A → Reading B) → Reading B
@@ -60,10 +59,6 @@ only (a ∷ []) = reads a
 only (a ∷ (b ∷ l)) = refused
 
 -- ---- whole numbers: a JSON number written as one, and a string holding one
-
--- What stands between the quotes of a string.
-unfoldable pub inner : List ℕ → Span → List ℕ
-inner s a = take (a .to - a .from - 2) (drop (a .from + 1) s)
 
 unfoldable pub wholeAt : List ℕ → Span → Reading ℕ
 wholeAt s a = readWhole (part s a)

@@ -8,7 +8,8 @@ use Rattle.decimal.specs.Decimal.{Number, read, isZero}
 use Rattle.edit.specs.Edit.{Numbers}
 use Rattle.edit.specs.declared.Side.{Side}
 use Rattle.json.specs.Json.{Span}
-use Rattle.entries.specs.Places.{andThen, all, isString, inner, arrayAt}
+use Rattle.entries.specs.Places.{andThen, all, isString, arrayAt}
+use Rattle.json.specs.Names.{inner}
 use Rattle.entries.specs.declared.Form.{Form}
 use Rattle.entries.specs.declared.Form.the-variants.{Triple, Pair}
 

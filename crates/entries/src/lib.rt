@@ -37,7 +37,7 @@ ghost use Rattle.edit.specs.Buffer.{bufferWords};
 ghost use Rattle.json_tokens.specs.Bytes.{openArray};
 ghost use Rattle.json_tokens.specs.Ends.{endOf};
 ghost use Rattle.json.specs.Json.{value};
-ghost use Rattle.entries.specs.Places.{inner};
+ghost use Rattle.json.specs.Names.{inner};
 ghost use Rattle.entries.specs.Rows.{isBadPrice, isBadSize, numberIn};
 ghost use Rattle.entries.specs.Found.{entryPlaceOf, entryPlaceAt, Quoted, Laid};
 ghost use Rattle.entries.specs.Tally.{noneYet, toldNot, earliest, withEntry, Counted, Met};

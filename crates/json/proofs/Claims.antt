@@ -1,7 +1,7 @@
 -- The laws that `specs/Claims` states.
 -- Assumes nothing.
 use mathlib.Core.Path.{_≡_, refl, sym, ap, _∙_}
-use mathlib.Core.List.{List, [], _∷_, _++_}
+use mathlib.Core.List.{List, [], _∷_}
 use mathlib.Core.Bool.{Bool, true, false, true≢false}
 use Prim.Native.Nat.{ℕ, zero, suc, _≤_, _<_}
 use native.Mathlib.Omega.{arith}
@@ -10,11 +10,10 @@ use borrow.Author.Tests.{eqb-true, eq-eqb}
 use Rattle.json_tokens.specs.Tokens.{End, At, Broken, blanks, closing, separator, string, ended}
 use Rattle.json_tokens.proofs.Bounds.{bounds, blanks-in, closing-in, separator-in, string-in}
 use Rattle.json.specs.Json.{Next, item, ends, wrong, Items, items, noItems, next, prepended, onward, list, listOf, element, member, elements, members, value, maxDepth, text}
-use Rattle.json.specs.Names.{means, holds, hasBackslash}
-use Rattle.json.specs.Claims.{Ends-within, In-order, end, then, Is-element, Is-member, Elements-in-order, Members-in-order, Reading, One-reading, One-name, Backslash-no-name}
+use Rattle.json.specs.Claims.{Ends-within, In-order, end, then, Is-element, Is-member, Elements-in-order, Members-in-order, Reading, One-reading, One-name}
 use Rattle.json.proofs.Laws.{text-ends, text-broken}
 use Rattle.json.proofs.Bounds.{value-in}
-use Rattle.json.proofs.Names.{means-part, snoc-is, holds-append}
+use Rattle.json.proofs.Names.{means-meaning}
 
 pub ends-within : Ends-within
 ends-within d s i e h = let b = bounds e (value-in d s i) h in (omega arith, b .1)
@@ -144,14 +143,4 @@ one-reading s = (reads, is-text, same)
 
 -- ---- names
 pub one-name : One-name
-one-name s a m n p q =
-    let h : _≡_ {A = List ℕ} (34 ∷ (m ++ (34 ∷ []))) (34 ∷ (n ++ (34 ∷ []))) = sym (means-part s a m p) ∙ means-part s a n q in
-    snoc-is 34 m n (cc)
-
-pub backslash-no-name : Backslash-no-name
-unfolding hasBackslash holds
-backslash-no-name s a n h p = go (means s a n) refl
-  where
-    go : (b : Bool) → means s a n ≡ b → b ≡ false
-    go true q = absurd (true≢false (sym h ∙ ap (holds 92) (means-part s a n q) ∙ holds-append 92 n (34 ∷ []) p refl))
-    go false q = refl
+one-name s a m n p q = sym (means-meaning s a m p) ∙ means-meaning s a n q

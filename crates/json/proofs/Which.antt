@@ -8,13 +8,10 @@ use borrow.Author.Tests.{eq-eqb, ne-eqb, not-true}
 use lib.Dec.{eqb}
 use lib.ListN.{length, getD}
 use Rattle.json.specs.Json.{Span}
-use Rattle.json.specs.Names.{means, holds, hasBackslash}
-use Rattle.json.specs.Which.{which, same, isNew, allDiffer, allPlain}
-use Rattle.json.proofs.Claims.{one-name, backslash-no-name}
-
-same-self : (t : List ℕ) → same t t ≡ true
-same-self [] = refl
-same-self (c ∷ t) = rw (eq-eqb c c refl, same-self t)
+use Rattle.json.specs.Names.{same, means}
+use Rattle.json.specs.Which.{which, isNew, allDiffer}
+use Rattle.json.proofs.Claims.{one-name}
+use Rattle.json.proofs.Names.{same-self}
 
 -- none of the names
 abbrev noneOf : List (List ℕ) → List Bool
@@ -91,17 +88,3 @@ module _ (s : List ℕ) (a : Span) where
           → numbered (cond b k (which s a (suc k) ns)) k (n ∷ ns) ≡ b ∷ meant ns
       go true h e = ap₂ (λ c t. c ∷ t) (eq-eqb k k refl) (numbered-past ns k (suc k) (omega arith) ∙ sym (none-meant n ns (q .0) h))
       go false h e = ap₂ (λ c t. c ∷ t) (which-past ns (suc k) k p (omega arith)) e
-
-  -- a string with a number has no backslash, if the names have none
-  pub which-plain : (ns : List (List ℕ)) → allPlain ns ≡ true → (k : ℕ) → (which s a k ns ≡ 0 → ⊥) → hasBackslash s a ≡ false
-  which-plain [] p k some = absurd (some refl)
-  which-plain (n ∷ ns) p k some = go (means s a n) refl (hasBackslash s a) refl some (which-plain ns (q .1) (suc k))
-    where
-      q : (not (holds 92 n) ≡ true) × (allPlain ns ≡ true)
-      q = and-eq-true-iff (not (holds 92 n)) (allPlain ns) .0 p
-
-      go : (b : Bool) → means s a n ≡ b → (x : Bool) → hasBackslash s a ≡ x → (cond b k (which s a (suc k) ns) ≡ 0 → ⊥)
-          → ((which s a (suc k) ns ≡ 0 → ⊥) → hasBackslash s a ≡ false) → x ≡ false
-      go true h true e some later = absurd (true≢false (sym h ∙ backslash-no-name s a n e (not-true _ (q .0))))
-      go b h false e some later = refl
-      go false h true e some later = sym e ∙ later some

@@ -2,12 +2,14 @@
 use Prim.Native.Nat.{ℕ, _≤_, _<_}
 use mathlib.Core.Path.{_≡_}
 use mathlib.Core.List.{List, [], _∷_}
-use mathlib.Core.Bool.{true, false}
+use mathlib.Core.Bool.{Bool, true, false, _||_}
 use lib.ListN.{length}
+use lib.Dec.{eqb}
 use Rattle.text.specs.Text.{colon}
 use Rattle.json_tokens.specs.Tokens.{At, blanks, separator, string}
 use Rattle.json.specs.Json.{Span, Pair, items, elements, members, value, maxDepth, text}
-use Rattle.json.specs.Names.{means, hasBackslash, holds}
+use Rattle.json_tokens.specs.Bytes.{backslash}
+use Rattle.json.specs.Names.{meaning, means}
 
 -- A value is not empty and ends within the text.
 abbrev pub Ends-within : Type 0
@@ -58,6 +60,11 @@ One-reading = (s : List ℕ)
 abbrev pub One-name : Type 0
 One-name = (s : List ℕ) (a : Span) (m n : List ℕ) → means s a m ≡ true → means s a n ≡ true → m ≡ n
 
--- A string with a backslash means no name that has none.
-abbrev pub Backslash-no-name : Type 0
-Backslash-no-name = (s : List ℕ) (a : Span) (n : List ℕ) → hasBackslash s a ≡ true → holds 92 n ≡ false → means s a n ≡ false
+-- c is one of the bytes
+unfoldable pub holds : ℕ → List ℕ → Bool
+holds c [] = false
+holds c (d ∷ t) = eqb d c || holds c t
+
+-- A text without a backslash means its bytes.
+abbrev pub Plain-text : Type 0
+Plain-text = (t : List ℕ) → holds backslash t ≡ false → meaning 0 t ≡ t

@@ -2,6 +2,7 @@
 pub mod Json
 pub mod Fold
 pub mod Names
+pub mod Escapes
 pub mod Which
 pub mod Ends
 pub mod Claims

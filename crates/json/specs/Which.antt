@@ -1,11 +1,9 @@
 -- Which of some names a string means. Assumes nothing: these are definitions.
 use Prim.Native.Nat.{ℕ, suc}
-use mathlib.Core.Bool.{Bool, true, false, _&&_, not, cond}
+use mathlib.Core.Bool.{Bool, true, _&&_, not, cond}
 use mathlib.Core.List.{List, [], _∷_}
-use lib.Dec.{eqb}
-use Rattle.json_tokens.specs.Bytes.{backslash}
 use Rattle.json.specs.Json.{Span}
-use Rattle.json.specs.Names.{means, holds}
+use Rattle.json.specs.Names.{means, same}
 
 -- The number of the first name that it means, if the first of the list has the number k; 0 where it means none of them.
 abbrev pub which : List ℕ → Span → ℕ → List (List ℕ) → ℕ
@@ -14,12 +12,6 @@ which s a k (n ∷ ns) = cond (means s a n) k (which s a (suc k) ns)
 
 -- ---- tests that are computed of names that are written out
 
-abbrev pub same : List ℕ → List ℕ → Bool
-same [] [] = true
-same [] (d ∷ t) = false
-same (c ∷ s) [] = false
-same (c ∷ s) (d ∷ t) = eqb c d && same s t
-
 abbrev pub isNew : List ℕ → List (List ℕ) → Bool
 isNew n [] = true
 isNew n (m ∷ ns) = not (same n m) && isNew n ns
@@ -27,8 +19,3 @@ isNew n (m ∷ ns) = not (same n m) && isNew n ns
 abbrev pub allDiffer : List (List ℕ) → Bool
 allDiffer [] = true
 allDiffer (n ∷ ns) = isNew n ns && allDiffer ns
-
--- No name has a backslash.
-abbrev pub allPlain : List (List ℕ) → Bool
-allPlain [] = true
-allPlain (n ∷ ns) = not (holds backslash n) && allPlain ns

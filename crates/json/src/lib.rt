@@ -29,18 +29,24 @@ use json_tokens::scalar_end;
 use json_tokens::skip_blanks;
 use json_tokens::string_end;
 use text::byte_at;
+use text::is_digit;
+use text::wide;
 ghost use mathlib.Core.Path.{_≡_};
 ghost use mathlib.Core.Bool.{cond};
-ghost use Prim.Native.Nat.{_+_, _≤_};
+ghost use lib.Dec.{eqb};
+ghost use Prim.Native.Nat.{_<_};
 ghost use lib.ListN.{length};
-ghost use Rattle.json_tokens.specs.Tokens.{At, Broken, literal};
 ghost use Rattle.json_tokens.specs.Ends.{endOf};
 ghost use Rattle.json.specs.Json.{itemsEnd, elements, members, value};
 ghost use Rattle.json.specs.Ends.{memberEnd};
-ghost use Rattle.json.specs.Names.{means, hasBackslash};
+ghost use Rattle.json.specs.Names.{shortMeaning, hexValue, escapeMeaning, meaning, same, means};
+ghost use Rattle.json.specs.Escapes.{PastEscape, Spelled};
 
 // How deep arrays and objects may nest in a text, the outermost counting as one.
 pub const MAX_DEPTH: usize = 16;
+
+// The letter of an escape that has four hex digits.
+const LONG_ESCAPE: u8 = 117;
 
 // Past the value at `at`.
 pub fn value_end(s: &[u8], at: usize, depth: usize) -> usize
@@ -121,60 +127,129 @@ pub fn object_end(s: &[u8], at: usize, depth: usize) -> usize
     }
 }
 
-// Whether the string from `from` to `to`, quotes included, means the name. Most of those that do not are told by their length.
+// Whether the string from `from` to `to`, quotes included, means the name. What it means is no longer than its bytes, so most strings that
+// do not are told by their length or their first byte.
 pub fn is_name(s: &[u8], from: usize, to: usize, name: &[u8]) -> bool
     ensures { λ r. ⌜ r ≡ means (now (s .entry)) (record { from = from; to = to }) (now (name .entry)) ⌝ }
 {
-    if to < from {
+    if byte_at(s, from) != QUOTE {
         return false;
     }
-    let length = to - from;
-    if length < 2 {
+    let first = from + 1;
+    if to <= first {
+        return name.len() == 0;
+    }
+    let last = to - 1;
+    if last - first < name.len() {
         return false;
     }
-    if length - 2 != name.len() {
-        return false;
+    if s.len() < last {
+        return spells(&s[first..], name);
     }
-    if s.len() < to {
-        return false;
-    }
-    if s[from] != QUOTE {
-        return false;
-    }
-    if is_at(s, from + 1, name) {
-        if s[to - 1] == QUOTE {
-            return true;
-        }
-        return false;
-    }
-    false
+    spells(&s[first..last], name)
 }
 
-// Whether the bytes of a name stand at a position, from which on the text is long enough for them.
-fn is_at(s: &[u8], at: usize, name: &[u8]) -> bool
-    requires { ⌜ at + length (now name) ≤ length (now s) ⌝ }
-    ensures { λ r. ⌜ literal (now (name .entry)) (now (s .entry)) at ≡ cond r (At (at + length (now (name .entry)))) Broken ⌝ }
+// Whether the bytes between two quotes mean the name.
+fn spells(t: &[u8], name: &[u8]) -> bool
+    ensures { λ r. ⌜ r ≡ same (meaning 0 (now (t .entry))) (now (name .entry)) ⌝ }
 {
+    let mut i = 0;
     let mut k = 0;
-    while k < name.len() {
-        if s[at + k] != name[k] {
+    while i < t.len() {
+        if name.len() <= k {
             return false;
         }
+        let next = past_character(t, i, name[k]);
+        if next == 0 {
+            return false;
+        }
+        i = next;
         k += 1;
     }
-    true
+    k == name.len()
 }
 
-// Whether a backslash stands from `from` to `to`.
-pub fn has_backslash(s: &[u8], from: usize, to: usize) -> bool
-    ensures { λ r. ⌜ r ≡ hasBackslash (now (s .entry)) (record { from = from; to = to }) ⌝ }
+// Past the character at i if it means b, and 0 if it does not.
+fn past_character(t: &[u8], i: usize, b: u8) -> usize
+    requires { ⌜ i < length (now t) ⌝ }
+    ensures { λ r. ⌜ Spelled (now (t .entry)) i b r ⌝ }
 {
-    let mut i = from;
-    while i < to {
-        if byte_at(s, i) == BACKSLASH {
-            return true;
+    if t[i] == BACKSLASH {
+        if escape_meaning(&t[i + 1..]) == wide(b) {
+            return past_escape(t, i);
         }
-        i += 1;
+        return 0;
     }
-    false
+    if t[i] == b {
+        return i + 1;
+    }
+    0
+}
+
+// What an escape means, from past its backslash on.
+fn escape_meaning(t: &[u8]) -> u64
+    ensures { λ r. ⌜ r ≡ escapeMeaning (now (t .entry)) ⌝ }
+{
+    let c = byte_at(t, 0);
+    if c == LONG_ESCAPE {
+        let upper = hex_value(byte_at(t, 1)) * 16 + hex_value(byte_at(t, 2));
+        return (upper * 16 + hex_value(byte_at(t, 3))) * 16 + hex_value(byte_at(t, 4));
+    }
+    short_meaning(c)
+}
+
+// What a two-character escape means, by its second character.
+fn short_meaning(c: u8) -> u64
+    ensures { λ r. ⌜ r ≡ shortMeaning c ⌝ }
+{
+    if c == b'b' {
+        8
+    } else if c == b'f' {
+        12
+    } else if c == b'n' {
+        10
+    } else if c == b'r' {
+        13
+    } else if c == b't' {
+        9
+    } else {
+        wide(c)
+    }
+}
+
+// The value of a hex digit, of either case.
+fn hex_value(c: u8) -> u64
+    ensures { λ r. ⌜ (r ≡ hexValue c) × (r < 256) ⌝ }
+{
+    let n = wide(c);
+    if is_digit(c) {
+        return n - 48;
+    }
+    if 97 <= n {
+        return n - 87;
+    }
+    if n < 55 {
+        return 0;
+    }
+    n - 55
+}
+
+// Past the escape whose backslash stands at i, or past the end where the text ends within it.
+fn past_escape(t: &[u8], i: usize) -> usize
+    requires { ⌜ i < length (now t) ⌝ }
+    ensures { λ r. ⌜ PastEscape (now (t .entry)) i r ⌝ }
+{
+    let left = t.len() - i;
+    let n = escape_length(byte_at(t, i + 1));
+    if left <= n {
+        return t.len();
+    }
+    i + 1 + n
+}
+
+// How many bytes an escape has past its backslash, by the first of them.
+fn escape_length(c: u8) -> usize
+    ensures { λ r. ⌜ r ≡ cond (eqb c 117) 5 1 ⌝ }
+{
+    if c == LONG_ESCAPE { 5 } else { 1 }
 }

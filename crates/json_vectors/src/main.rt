@@ -3,12 +3,15 @@
 //     + TEXT    is JSON by RFC 8259's grammar and the limit on nesting
 //     - TEXT    is not
 //     e TEXT    an array: its elements are written on a line of their own
-//     m TEXT    an object: its members are, and which of their names are `as`
+//     m TEXT    an object: its members are, and which of their names mean `as`
+//     = STRING NAME    the string means the name
+//     ! STRING NAME    it does not
 //
-// Other lines are headings. The answer stands in front of each `+` and `-`, so a wrong one shows as two signs that differ. After the
+// Other lines are headings. The answer stands in front of each `+` and `-`, `=` and `!`, so a wrong one shows as two signs that differ. After the
 // table come rows of 256 answers, one for each byte at one place of a text.
 use json::MAX_DEPTH;
 use json::array_end;
+use json::is_name;
 use json::object_end;
 use json::value_end;
 use json_tokens::OPEN_ARRAY;
@@ -68,6 +71,10 @@ fn line(s: &[u8]) {
         sign(&s[2..]);
     } else if c == b'-' {
         sign(&s[2..]);
+    } else if c == b'=' {
+        name_sign(&s[2..]);
+    } else if c == b'!' {
+        name_sign(&s[2..]);
     }
     write(s);
     if c == b'e' {
@@ -84,6 +91,18 @@ fn sign(s: &[u8]) {
         write(b"+ ");
     } else {
         write(b"- ");
+    }
+}
+
+// A string, a blank and a name.
+fn name_sign(s: &[u8]) {
+    let e = string_end(s, 0);
+    if e < s.len() {
+        if is_name(s, 0, e, &s[e + 1..]) {
+            write(b"= ");
+        } else {
+            write(b"! ");
+        }
     }
 }
 
@@ -174,14 +193,11 @@ fn member(s: &[u8], i: usize) -> usize {
     e
 }
 
-// A name, with a `=` where it is `as` and a `\` where it has a backslash.
+// A name, with a `=` where it means `as`.
 fn name(s: &[u8], from: usize, to: usize) {
     write(b"  ");
-    if json::is_name(s, from, to, b"as") {
+    if is_name(s, from, to, b"as") {
         write(b"=");
-    }
-    if json::has_backslash(s, from, to) {
-        write(b"\\");
     }
     part(s, from, to);
 }

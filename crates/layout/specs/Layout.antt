@@ -28,9 +28,8 @@ pub record Layout : Type 0 where
   pub checksum : Printed
   pub number : ℕ
 
--- A message of the dialect's outer form: whether it has a backslash in check 4's places, whether it is this book's (check 5), and its layout (check 6).
+-- A message of the dialect's outer form: whether it is this book's (check 5), and its layout (check 6).
 pub record Envelope : Type 0 where
-  pub escaped : Bool
   pub ours : Bool
   pub layout : Reading Layout
 

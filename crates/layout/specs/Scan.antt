@@ -56,10 +56,10 @@ outlineOf s refused = noOutline
 
 -- A value that has not the dialect's outer form.
 abbrev pub notFramed : ℕ → Scan
-notFramed end = record { end = end; framed = false; escaped = false; ours = false; outline = noOutline }
+notFramed end = record { end = end; framed = false; ours = false; outline = noOutline }
 
 unfoldable pub scanOf : List ℕ → ℕ → Reading Envelope → Scan
-scanOf s end (reads h) = record { end = end; framed = true; escaped = h .escaped; ours = h .ours; outline = outlineOf s (h .layout) }
+scanOf s end (reads h) = record { end = end; framed = true; ours = h .ours; outline = outlineOf s (h .layout) }
 scanOf s end refused = notFramed end
 
 -- The value at a position as a message; `hear` is K's or M's.

@@ -44,8 +44,6 @@ pub struct Scan {
     pub outline: Outline,
     // Whether it has the outer form of the dialect. If not, the rest but for the end says nothing.
     pub framed: bool,
-    // Whether a backslash stands where the book's name could be written with one.
-    pub escaped: bool,
     // Whether it is this book's.
     pub ours: bool,
 }
@@ -121,7 +119,6 @@ pub fn not_framed(end: usize) -> Scan
     Scan {
         end,
         framed: false,
-        escaped: false,
         ours: false,
         outline: no_outline(),
     }

@@ -28,7 +28,7 @@ use Rattle.layout.specs.declared.Scan.{Scan}
 use Rattle.message.specs.Meaning.{fails, passes, bad, decimals, entriesFor, tooMany, counted, laidOut, addressed}
 use Rattle.message.specs.Verdict.{verdictOf}
 use Rattle.message.specs.Deciding.{laidOutline, addressedScan, decided}
-use Rattle.answer.specs.declared.Answer.the-variants.{NotJson, Escaped, NotOurs, BadLayout, TooManyEntries, BadDecimal}
+use Rattle.answer.specs.declared.Answer.the-variants.{NotJson, NotOurs, BadLayout, TooManyEntries, BadDecimal}
 use Rattle.message.specs.declared.Verdict.the-variants.{Fails, Passes}
 
 -- ---- one test at a time
@@ -56,17 +56,13 @@ module _ (most : ℕ) (t : Scan) where
   address-no-frame h = sym (rw (h, addressedScan))
 
   module _ (h : t .framed ≡ true) where
-    pub address-escaped : t .escaped ≡ true → Fails Escaped ≡ addressedScan most t
+    pub address-ours : t .ours ≡ true → laidOutline most (t .outline) ≡ addressedScan most t
     unfolding addressedScan
-    address-escaped g = sym (rw (h, g, addressedScan))
+    address-ours k = sym (rw (h, k, addressedScan))
 
-    pub address-ours : t .escaped ≡ false → t .ours ≡ true → laidOutline most (t .outline) ≡ addressedScan most t
+    pub address-other : t .ours ≡ false → Fails NotOurs ≡ addressedScan most t
     unfolding addressedScan
-    address-ours g k = sym (rw (h, g, k, addressedScan))
-
-    pub address-other : t .escaped ≡ false → t .ours ≡ false → Fails NotOurs ≡ addressedScan most t
-    unfolding addressedScan
-    address-other g k = sym (rw (h, g, k, addressedScan))
+    address-other k = sym (rw (h, k, addressedScan))
 
   pub decided-broken : (b : Bool) → t .end ≡ 0 → Fails NotJson ≡ decided most t b
   unfolding decided
@@ -149,14 +145,13 @@ laid-is most s refused = refused-laid most s
 
 address-is : (most : ℕ) (s : List ℕ) (e : ℕ) (h : Reading Envelope) → addressedScan most (scanOf s e h) ≡ verdictOf s (addressed most h)
 unfolding addressedScan scanOf addressed verdictOf
-address-is most s e (reads h) = at (h .escaped) (h .ours) (laid-is most s (h .layout))
+address-is most s e (reads h) = at (h .ours) (laid-is most s (h .layout))
   where
-    at : (x y : Bool) → laidOutline most (outlineOf s (h .layout)) ≡ verdictOf s (laidOut most (h .layout))
-        → cond x (Fails Escaped) (cond y (laidOutline most (outlineOf s (h .layout))) (Fails NotOurs))
-        ≡ verdictOf s (cond x (fails Escaped) (cond y (laidOut most (h .layout)) (fails NotOurs)))
-    at true y k = refl
-    at false true k = k
-    at false false k = refl
+    at : (y : Bool) → laidOutline most (outlineOf s (h .layout)) ≡ verdictOf s (laidOut most (h .layout))
+        → cond y (laidOutline most (outlineOf s (h .layout))) (Fails NotOurs)
+        ≡ verdictOf s (cond y (laidOut most (h .layout)) (fails NotOurs))
+    at true k = k
+    at false k = refl
 address-is most s e refused = refl
 
 told-end : (s : List ℕ) (e : ℕ) (h : Reading Envelope) → scanOf s e h .end ≡ e

@@ -19,7 +19,7 @@ use Rattle.entries.specs.Places.{top}
 use Rattle.layout.specs.Layout.{Layout, Envelope}
 use Rattle.message.specs.Meaning.{Checked, fails, passes, bad, decimals, alsoDecimals, entriesFor, tooMany, counted, laidOut, addressed, envelopeIn, framed, checked}
 use Rattle.answer.specs.declared.Answer.{Answer}
-use Rattle.answer.specs.declared.Answer.the-variants.{TooLong, NotJson, Escaped, NotOurs, BadLayout, TooManyEntries, BadDecimal}
+use Rattle.answer.specs.declared.Answer.the-variants.{TooLong, NotJson, NotOurs, BadLayout, TooManyEntries, BadDecimal}
 
 pub no-pass : {A : Type 0} (a : Answer) (l : Layout) → fails a ≡ passes l → A
 no-pass a l h = let z : _≡_ {A = ℕ} 0 1 = cc in absurd (omega arith)
@@ -73,12 +73,11 @@ module _ (most : ℕ) (l : Layout) where
 
   few-addressed : (r : Reading Envelope) → addressed most r ≡ passes l → Few
   unfolding addressed
-  few-addressed (reads x) g = at (x .escaped) (x .ours) g
+  few-addressed (reads x) g = at (x .ours) g
     where
-      at : (a b : Bool) → cond a (fails Escaped) (cond b (laidOut most (x .layout)) (fails NotOurs)) ≡ passes l → Few
-      at true b g = no-pass Escaped l g
-      at false true g = few-laid (x .layout) g
-      at false false g = no-pass NotOurs l g
+      at : (b : Bool) → cond b (laidOut most (x .layout)) (fails NotOurs) ≡ passes l → Few
+      at true g = few-laid (x .layout) g
+      at false g = no-pass NotOurs l g
   few-addressed refused g = no-pass NotOurs l g
 
 pub framed-few : (t : Config) (s : List ℕ) (l : Layout) → framed t s ≡ passes l → (length (entriesFor Bids l) ≤ 100) × (length (entriesFor Asks l) ≤ 100)

@@ -27,7 +27,7 @@ use Rattle.message.specs.Verdict.{judged}
 use Rattle.message.specs.Verdict.{verdictOf}
 use Rattle.message.specs.Deciding.{decided}
 use Rattle.answer.specs.declared.Answer.{Answer}
-use Rattle.answer.specs.declared.Answer.the-variants.{Shut, TooLong, NotJson, Escaped, NotOurs, BadLayout, TooManyEntries, BadDecimal}
+use Rattle.answer.specs.declared.Answer.the-variants.{Shut, TooLong, NotJson, NotOurs, BadLayout, TooManyEntries, BadDecimal}
 use Rattle.message.specs.declared.Verdict.{Verdict}
 use Rattle.message.specs.declared.Verdict.the-variants.{Fails, Passes}
 use Rattle.message.specs.Bad.{formOf}
@@ -135,12 +135,11 @@ kept-laid most s refused l g = no-pass BadLayout l g
 
 kept-address : {A : Layout → Type 0} (most : ℕ) (s : List ℕ) (x : Envelope) (l : Layout) → addressed most (reads x) ≡ passes l → (x .ours ≡ true → (y : Layout) → x .layout ≡ reads y → A y) → A l
 unfolding addressed
-kept-address {A} most s x l g f = at (x .escaped) (x .ours) refl g
+kept-address {A} most s x l g f = at (x .ours) refl g
   where
-    at : (a b : Bool) → x .ours ≡ b → cond a (fails Escaped) (cond b (laidOut most (x .layout)) (fails NotOurs)) ≡ passes l → A l
-    at true b q h = no-pass Escaped l h
-    at false true q h = f q l (kept-laid most s (x .layout) l h)
-    at false false q h = no-pass NotOurs l h
+    at : (b : Bool) → x .ours ≡ b → cond b (laidOut most (x .layout)) (fails NotOurs) ≡ passes l → A l
+    at true q h = f q l (kept-laid most s (x .layout) l h)
+    at false q h = no-pass NotOurs l h
 
 -- a message that passes checks 2 to 7 is this book's, and has a layout
 pub framed-kept : (t : Config) (s buffer : List ℕ) (r : Scan) → Scanned (envelopeIn (t .dialect) t) s (blanks s 0) buffer r → (l : Layout) → framed t s ≡ passes l → Kept s (reads (l .entries)) buffer

@@ -12,7 +12,7 @@ use Rattle.decimal.specs.Decimal.{isWhole}
 use Rattle.decimal.specs.Whole.{readWhole, atMost, readChecksum}
 use Rattle.decimal.proofs.Digits.{Digits, leading-digits, value-below, tens-mono}
 use Rattle.decimal.proofs.Scan.{leading-whole}
-use Rattle.json.specs.Names.{part, means}
+use Rattle.json.specs.Names.{part, means, inner}
 use Rattle.edit.specs.declared.Side.the-variants.{Bids, Asks}
 use Rattle.json.specs.Json.{Span, Pair, text}
 use Rattle.json.specs.Claims.{In-order, Is-element}
@@ -20,7 +20,7 @@ use Rattle.settings.specs.Settings.{Config}
 use Rattle.settings.specs.Rules.{rulesOf}
 use Rattle.settings.specs.declared.Dialect.{Dialect}
 use Rattle.settings.specs.declared.Dialect.the-variants.{K, M, Unknown}
-use Rattle.entries.specs.Places.{isString, inner, andThen, all, arrayAt, objectAt, valuesOf, only, wholeAt, checksumAt, quotedChecksumAt, top}
+use Rattle.entries.specs.Places.{isString, andThen, all, arrayAt, objectAt, valuesOf, only, wholeAt, checksumAt, quotedChecksumAt, top}
 use Rattle.entries.specs.Rows.{Entry, sidedAt}
 use Rattle.entries.proofs.Claims.{AllHere, here-none, here-also, sided-here}
 use Rattle.entries.specs.declared.Form.{Form}
@@ -36,7 +36,7 @@ use Rattle.message.specs.Bad.{formOf}
 use Rattle.message.proofs.Members.{Follow, Collected, object-follows, objects-follow, array-objects}
 use Rattle.message.specs.Meaning.{fails, passes, tooMany, counted, laidOut, addressed, envelopeIn, framed}
 use Rattle.answer.specs.declared.Answer.{Answer}
-use Rattle.answer.specs.declared.Answer.the-variants.{TooLong, NotJson, Escaped, NotOurs, BadLayout, TooManyEntries}
+use Rattle.answer.specs.declared.Answer.the-variants.{TooLong, NotJson, NotOurs, BadLayout, TooManyEntries}
 
 -- The entries stand in the text, the sequence number has at most 19 digits, and a checksum is within its bound.
 pub record LieIn (form : Form) (s : List ℕ) (l : Layout) : Type 0 where
@@ -207,12 +207,11 @@ module _ (form : Form) (s : List ℕ) where
   addressed-lies : (most : ℕ) (r : Reading Envelope) → ((x : Envelope) → r ≡ reads x → (y : Layout) → x .layout ≡ reads y → LieIn form s y)
       → (l : Layout) → addressed most r ≡ passes l → LieIn form s l
   unfolding addressed
-  addressed-lies most (reads x) f l h = at (x .escaped) (x .ours) h
+  addressed-lies most (reads x) f l h = at (x .ours) h
     where
-      at : (a b : Bool) → cond a (fails Escaped) (cond b (laidOut most (x .layout)) (fails NotOurs)) ≡ passes l → LieIn form s l
-      at true b g = no-pass Escaped l g
-      at false true g = counted-lies most (x .layout) (f x refl) l g
-      at false false g = no-pass NotOurs l g
+      at : (b : Bool) → cond b (laidOut most (x .layout)) (fails NotOurs) ≡ passes l → LieIn form s l
+      at true g = counted-lies most (x .layout) (f x refl) l g
+      at false g = no-pass NotOurs l g
   addressed-lies most refused f l h = no-pass NotOurs l h
 
 heard-lies : (d : Dialect) (t : Config) (s : List ℕ) (a : Span) (x : Envelope) → envelopeIn d t s a ≡ reads x → (y : Layout) → x .layout ≡ reads y → LieIn (formOf d) s y

@@ -60,13 +60,13 @@ table =
     -- 16 and 17 nested arrays
     answers k-book "[[[[[[[[[[[[[[[[1]]]]]]]]]]]]]]]]" 5 ∷
     answers k-book "[[[[[[[[[[[[[[[[[1]]]]]]]]]]]]]]]]]" 3 ∷
-    -- check 4
-    answers k-book "[0,{\"as\":[[\"1.5\",\"2\",\"3\"]],\"bs\":[]},\"book-10\",\"XBT\\/USD\"]" 4 ∷
-    answers k-book "[1,2,\"\\n\",\"trade\"]" 4 ∷
-    answers k-book "[1,2,3,[\"\\n\"]]" 5 ∷
-    answers m-book "{\"a\\n\":1}" 4 ∷
-    answers m-book "{\"channel\":\"bo\\u006fk\"}" 4 ∷
-    answers m-book "{\"x\":\"\\n\"}" 5 ∷
+    -- names by what they mean
+    answers k-book "[0,{\"as\":[[\"1.5\",\"2\",\"3\"]],\"bs\":[]},\"book-10\",\"XBT\\/USD\"]" 0 ∷
+    answers k-book "[0,{\"\\u0061s\":[],\"bs\":[]},\"\\u0062ook-10\",\"XBT\\u002fUSD\"]" 0 ∷
+    answers k-book "[0,{\"as\":[],\"\\u0061s\":[],\"bs\":[]},\"book-10\",\"XBT/USD\"]" 6 ∷
+    answers k-book "[1,2,\"\\n\",\"trade\"]" 5 ∷
+    answers m-book "{\"a\\n\":1}" 5 ∷
+    answers m-book "{\"channel\":\"bo\\u006Fk\",\"product\":\"BTC-VND\",\"type\":\"upd\\u0061te\",\"data\":{\"bids\":[],\"asks\":[]},\"checksum\":5,\"gsn\":8}" 0 ∷
     -- check 5
     answers k-book "7" 5 ∷
     answers k-book "[1,2,3]" 5 ∷
@@ -119,5 +119,5 @@ table =
     []
 
 examples : Each table
-unfolding table Each Holds numberOf answerNumber m-book k-book x·.isDigit d·.leading d·.valueFrom d·.significantIn d·.significant d·.written d2·.isWhole d2·.fractional d2·.pointed d2·.prefix d2·.read d2·.isZero d3·.readWhole d3·.atMost d3·.readChecksum x·.byteAt t1·.blank t1·.hexDigit t1·.escaped t2·.andThen t2·.skipWhile t2·.blanks t2·.digits t2·.someDigits t2·.closing t2·.separator t2·.stringRest t2·.string t2·.minus t2·.sign t2·.int t2·.fraction t2·.exponent t2·.jsonNumber t2·.startsWith t2·.literal t2·.scalar t2·.ended t2·.chars t2·.escape t2·.hexes j1·.next j1·.prepended j1·.onward j1·.list j1·.listOf j1·.itemsEnd j1·.element j1·.member j1·.elements j1·.members j1·.value j1·.text j2·.part j2·.means j2·.holds j2·.hasBackslash p·.andThen p·.all p·.top p·.isString p·.contents p·.arrayAt p·.objectAt p·.valuesOf p·.only p·.inner p·.wholeAt p·.checksumAt p·.quotedChecksumAt r·.entriesAt k·.frameOf k·.escapedK k·.oursK k·.times k·.together k·.isSnapshot k·.eachHasOne k·.lastOf k·.isUpdate r·.rowK l·.memberEntries l·.entriesIn l·.laid k·.entriesK k·.objectsLayout k·.layoutK k·.envelopeK m·.someName m·.someString m·.escapedM m·.someMeans m·.oursM r·.rowM r·.entryOf m·.kindAt m·.layoutM m·.envelopeM r·.badPrice r·.badSize r·.badTexts w·.bad r·.numberAt r·.numbersAt r·.sidedAt p·.andAlso e·.forSide e·.isSame e·.editOf w·.sidedEdit w·.decimals w·.tooMany w·.counted w·.laidOut w·.addressed w·.envelopeIn w·.framed w·.alsoDecimals w·.checked w·.messageOf w·.decodedOf w·.decode l·.isSnapshot u·.rulesOf
+unfolding table Each Holds numberOf answerNumber m-book k-book x·.isDigit d·.leading d·.valueFrom d·.significantIn d·.significant d·.written d2·.isWhole d2·.fractional d2·.pointed d2·.prefix d2·.read d2·.isZero d3·.readWhole d3·.atMost d3·.readChecksum x·.byteAt t1·.blank t1·.hexDigit t1·.escaped t2·.andThen t2·.skipWhile t2·.blanks t2·.digits t2·.someDigits t2·.closing t2·.separator t2·.stringRest t2·.string t2·.minus t2·.sign t2·.int t2·.fraction t2·.exponent t2·.jsonNumber t2·.startsWith t2·.literal t2·.scalar t2·.ended t2·.chars t2·.escape t2·.hexes j1·.next j1·.prepended j1·.onward j1·.list j1·.listOf j1·.itemsEnd j1·.element j1·.member j1·.elements j1·.members j1·.value j1·.text j2·.part j2·.shortMeaning j2·.hexValue j2·.longMeaning j2·.escapeMeaning j2·.escapeLength j2·.meaning j2·.inner j2·.means p·.andThen p·.all p·.top p·.isString p·.contents p·.arrayAt p·.objectAt p·.valuesOf p·.only p·.wholeAt p·.checksumAt p·.quotedChecksumAt r·.entriesAt k·.frameOf k·.oursK k·.times k·.together k·.isSnapshot k·.eachHasOne k·.lastOf k·.isUpdate r·.rowK l·.memberEntries l·.entriesIn l·.laid k·.entriesK k·.objectsLayout k·.layoutK k·.envelopeK m·.someMeans m·.oursM r·.rowM r·.entryOf m·.kindAt m·.layoutM m·.envelopeM r·.badPrice r·.badSize r·.badTexts w·.bad r·.numberAt r·.numbersAt r·.sidedAt p·.andAlso e·.forSide e·.isSame e·.editOf w·.sidedEdit w·.decimals w·.tooMany w·.counted w·.laidOut w·.addressed w·.envelopeIn w·.framed w·.alsoDecimals w·.checked w·.messageOf w·.decodedOf w·.decode l·.isSnapshot u·.rulesOf
 examples = (refl, (refl, (refl, (refl, (refl, (refl, (refl, (refl, (refl, (refl, (refl, (refl, (refl, (refl, (refl, (refl, (refl, (refl, (refl, (refl, (refl, (refl, (refl, (refl, (refl, (refl, (refl, (refl, (refl, (refl, (refl, (refl, (refl, (refl, (refl, (refl, (refl, (refl, (refl, (refl, (refl, (refl, (refl, (refl, (refl, (refl, (refl, (refl, (refl, (refl, (refl, (refl, (refl, (refl, (refl, (refl, (refl, (refl, (refl, tt)))))))))))))))))))))))))))))))))))))))))))))))))))))))))))

@@ -19,7 +19,7 @@ use Rattle.layout.specs.declared.Kind.{Kind}
 use Rattle.message_k.specs.LayoutK.{envelopeK}
 use Rattle.message_m.specs.LayoutM.{envelopeM}
 use Rattle.answer.specs.declared.Answer.{Answer}
-use Rattle.answer.specs.declared.Answer.the-variants.{Shut, TooLong, NotJson, Escaped, NotOurs, BadLayout, TooManyEntries, BadDecimal}
+use Rattle.answer.specs.declared.Answer.the-variants.{Shut, TooLong, NotJson, NotOurs, BadLayout, TooManyEntries, BadDecimal}
 use Rattle.settings.specs.declared.Dialect.{Dialect}
 use Rattle.settings.specs.declared.Dialect.the-variants.{K, M, Unknown}
 
@@ -39,7 +39,7 @@ tooMany most l = ltb most (length (entriesFor Bids l)) || ltb most (length (entr
 unfoldable pub counted : ℕ → Layout → Checked
 counted most l = cond (tooMany most l) (fails TooManyEntries) (passes l)
 
--- ---- checks 4, 5 and 6
+-- ---- checks 5 and 6
 
 unfoldable pub laidOut : ℕ → Reading Layout → Checked
 laidOut most (reads l) = counted most l
@@ -47,7 +47,7 @@ laidOut most refused = fails BadLayout
 
 -- What is no message of the dialect's outer form is not this book's.
 unfoldable pub addressed : ℕ → Reading Envelope → Checked
-addressed most (reads h) = cond (h .escaped) (fails Escaped) (cond (h .ours) (laidOut most (h .layout)) (fails NotOurs))
+addressed most (reads h) = cond (h .ours) (laidOut most (h .layout)) (fails NotOurs)
 addressed most refused = fails NotOurs
 
 unfoldable pub envelopeIn : Dialect → Config → List ℕ → Span → Reading Envelope

@@ -127,14 +127,11 @@ fn decide(most: usize, scan: Scan, ended: bool) -> Verdict
     Verdict::Fails(Answer::NotJson)
 }
 
-// Checks 4 to 7.
+// Checks 5 to 7.
 fn decide_address(most: usize, scan: Scan) -> Verdict
     ensures { λ r. ⌜ r ≡ addressedScan most scan ⌝ }
 {
     if scan.framed {
-        if scan.escaped {
-            return Verdict::Fails(Answer::Escaped);
-        }
         if scan.ours {
             return decide_layout(most, scan.outline);
         }

@@ -24,9 +24,9 @@ use Rattle.layout.specs.Layout.{Layout, Envelope}
 use Rattle.layout.specs.Scan.{outlineOf, notFramed, scanOf, scanAt}
 use Rattle.json.specs.Fold.{foldFrom, foldedIn}
 use Rattle.layout.specs.declared.Scan.{Scan}
-use Rattle.message_k.specs.LayoutK.{together, Frame, frameOf, escapedK, oursK, objectsLayout, layoutK, envelopeK}
+use Rattle.message_k.specs.LayoutK.{together, Frame, frameOf, oursK, objectsLayout, layoutK, envelopeK}
 use Rattle.message_k.specs.MembersK.{isRead, withHeld, heldIn, withMember, noMembers, closedAt, membersOf}
-use Rattle.message_k.specs.PartsK.{upToSix, PartsRead, noParts, withOuter, withPart, endedAt, partsIn, escapedAt, oursBy, framedAs, oneObject, twoObjects}
+use Rattle.message_k.specs.PartsK.{upToSix, PartsRead, noParts, withOuter, withPart, endedAt, partsIn, oursBy, framedAs, oneObject, twoObjects}
 use Rattle.message_k.specs.declared.Parts.{Parts}
 use Rattle.message_k.proofs.Tells.{Tells, tells-none, tells-on}
 use Rattle.message_k.proofs.Outlines.{one-is, one-no-object, one-no-whole, two-is, two-not}
@@ -95,10 +95,10 @@ module _ (depth : ℕ) (name s : List ℕ) where
   six-told p h l e = let n = six p h l in sym (told-other (endedAt e (foldFrom (withPart s) p l)) (λ z. omega arith) (λ z. omega arith))
 
   abbrev hear : Frame → Reading Envelope
-  hear f = reads (record { escaped = escapedK s f; ours = oursK depth name s f; layout = layoutK s f })
+  hear f = reads (record { ours = oursK depth name s f; layout = layoutK s f })
 
   told-list : (l : List Span) (e : ℕ) → toldBy (endedAt e (foldFrom (withPart s) (noParts 0) l)) ≡ scanOf s e (andThen (frameOf l) hear)
-  unfolding toldBy foldFrom withPart withOuter upToSix frameOf andThen scanOf escapedK escapedAt oursK oursBy layoutK all
+  unfolding toldBy foldFrom withPart withOuter upToSix frameOf andThen scanOf oursK oursBy layoutK all
   told-list [] e = refl
   told-list (n ∷ []) e = refl
   told-list (n ∷ (o ∷ [])) e = refl
@@ -191,7 +191,7 @@ module _ (depth : ℕ) (name s : List ℕ) (at : ℕ) (buffer : List ℕ) where
   frame n objects c p = record { first = n; objects = objects; channel = c; pair = p }
 
   abbrev heard : Frame → Envelope
-  heard f = record { escaped = escapedK s f; ours = oursK depth name s f; layout = layoutK s f }
+  heard f = record { ours = oursK depth name s f; layout = layoutK s f }
 
   is-channel : (f : Frame) → oursK depth name s f ≡ true → byteAt s (f .channel .from) ≡ 123 → ⊥
   unfolding oursK

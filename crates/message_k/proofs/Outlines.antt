@@ -1,18 +1,12 @@
 -- The definitions of check 6, by what the tests say.
 -- Assumes nothing.
 use mathlib.Core.Path.{_≡_, sym}
-use mathlib.Core.Bool.{Bool, true, false, _&&_, _||_}
+use mathlib.Core.Bool.{Bool, true, false, _&&_}
 use Rattle.layout.specs.Scan.{outlineFrom, noOutline}
 use Rattle.layout.specs.declared.Kind.the-variants.{Snapshot, Update}
 use Rattle.message_k.specs.MembersK.{noMembers, hasMore, snapshotBy, updateBy, outlineBy}
 use Rattle.message_k.specs.PartsK.{oneObject, twoObjects}
 use Rattle.message_k.specs.declared.Members.{Members}
-
-pub or-yes : (x y : Bool) → x ≡ true → true ≡ (x || y)
-or-yes x y h = sym (rw h)
-
-pub or-no : (x y : Bool) → x ≡ false → y ≡ (x || y)
-or-no x y h = sym (rw h)
 
 module _ (t : Members) (update : Bool) {snapshot : Bool} where
   pub outline-snapshot : snapshot ≡ true → outlineFrom Snapshot (t .tally) false 0 0 ≡ outlineBy snapshot update t

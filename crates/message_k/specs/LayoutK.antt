@@ -7,7 +7,7 @@ use lib.ListN.{length}
 use Rattle.text.specs.Text.{ascii}
 use Rattle.decimal.specs.Digits.{Reading, reads, refused, written}
 use Rattle.json.specs.Json.{Span, Pair, maxDepth}
-use Rattle.json.specs.Names.{means, hasBackslash}
+use Rattle.json.specs.Names.{means}
 use Rattle.entries.specs.Places.{andThen, all, isString, arrayAt, objectAt, valuesOf, only, wholeAt, quotedChecksumAt}
 use Rattle.entries.specs.declared.Form.the-variants.{Triple}
 use Rattle.layout.specs.Depths.{itemDepth, sideDepth}
@@ -30,10 +30,6 @@ frameOf (n ∷ (o ∷ (c ∷ []))) = refused
 frameOf (n ∷ (o ∷ (c ∷ (p ∷ [])))) = reads (record { first = n; objects = o ∷ []; channel = c; pair = p })
 frameOf (n ∷ (o ∷ (q ∷ (c ∷ (p ∷ []))))) = reads (record { first = n; objects = o ∷ (q ∷ []); channel = c; pair = p })
 frameOf (n ∷ (o ∷ (q ∷ (c ∷ (p ∷ (x ∷ l)))))) = refused
-
--- Check 4: a backslash in either of the last two elements that is a string.
-unfoldable pub escapedK : List ℕ → Frame → Bool
-escapedK s f = (isString s (f .channel) && hasBackslash s (f .channel)) || (isString s (f .pair) && hasBackslash s (f .pair))
 
 -- Check 5: it is this book's when channel is `book-` and the depth in decimal, and pair is the name.
 unfoldable pub oursK : ℕ → List ℕ → List ℕ → Frame → Bool
@@ -98,4 +94,4 @@ layoutK s f = andThen (wholeAt s (f .first)) (λ n. andThen (all (objectAt itemD
 unfoldable pub envelopeK : ℕ → List ℕ → List ℕ → Span → Reading Envelope
 envelopeK depth name s a =
     andThen (andThen (arrayAt maxDepth s a) frameOf) (λ f.
-    reads (record { escaped = escapedK s f; ours = oursK depth name s f; layout = layoutK s f }))
+    reads (record { ours = oursK depth name s f; layout = layoutK s f }))

@@ -11,7 +11,7 @@ use Rattle.edit.specs.Buffer.{bufferWords}
 use Rattle.json_tokens.specs.Bytes.{openObject}
 use Rattle.json.specs.Json.{Span, Pair, Items, items}
 use Rattle.entries.specs.Tally.{Kept}
-use Rattle.json.specs.Names.{means, hasBackslash}
+use Rattle.json.specs.Names.{means}
 use Rattle.entries.specs.Places.{isString, objectAt, wholeAt}
 use Rattle.layout.specs.Depths.{itemDepth}
 use Rattle.layout.specs.Scan.{noOutline}
@@ -72,10 +72,7 @@ pub record PartsRead (s : List ℕ) (x : Items Span) (buffer : List ℕ) (r : Pa
   pub five : (n o q c p : Span) (e : ℕ) → x ≡ items (n ∷ o ∷ q ∷ c ∷ p ∷ []) e
       → (ms ns : List Pair) → objectAt itemDepth s o ≡ reads ms → objectAt itemDepth s q ≡ reads ns → Kept s (heldIn s (heldIn s (reads []) ms) ns) buffer
 
--- ---- checks 4 and 5, of the last two elements
-
-unfoldable pub escapedAt : List ℕ → Span → Bool
-escapedAt s a = isString s a && hasBackslash s a
+-- ---- check 5, of the last two elements
 
 unfoldable pub oursBy : ℕ → List ℕ → List ℕ → Span → Span → Bool
 oursBy depth name s channel pair = means s channel (ascii "book-" ++ written depth) && means s pair name
@@ -85,7 +82,6 @@ framedAs depth name s end t outline =
     record {
       end = end;
       framed = true;
-      escaped = escapedAt s (record { from = t .«channel_from»; to = t .«channel_to» }) || escapedAt s (record { from = t .«pair_from»; to = t .«pair_to» });
       ours =
           oursBy depth name s (record { from = t .«channel_from»; to = t .«channel_to» }) (record { from = t .«pair_from»; to = t .«pair_to» });
       outline = outline;

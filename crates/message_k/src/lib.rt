@@ -16,7 +16,6 @@ use entries::Tally;
 use entries::entries_at;
 use entries::none_yet;
 use json::MAX_DEPTH;
-use json::has_backslash;
 use json::is_name;
 use json::value_end;
 use json_tokens::OPEN_ARRAY;
@@ -58,7 +57,7 @@ ghost use Rattle.entries.specs.Tally.{met};
 ghost use Rattle.layout.specs.Scan.{Scanned};
 ghost use Rattle.message_k.specs.LayoutK.{envelopeK};
 ghost use Rattle.message_k.specs.MembersK.{isRead, moreSummed, MemberRead, EntriesRead, SumRead, noMembers, closedAt, ObjectRead, hasMore, snapshotBy, updateBy, outlineBy};
-ghost use Rattle.message_k.specs.PartsK.{upToSix, noOuter, withOuter, noParts, PartsRead, escapedAt, framedAs, oneObject, twoObjects};
+ghost use Rattle.message_k.specs.PartsK.{upToSix, noOuter, withOuter, noParts, PartsRead, framedAs, oneObject, twoObjects};
 
 // The member `c`.
 struct Sum {
@@ -534,30 +533,13 @@ fn framed(s: &[u8], end: usize, outer: Outer, depth: usize, name: &[u8], outline
     let channel_to = outer.channel_to;
     let pair_from = outer.pair_from;
     let pair_to = outer.pair_to;
-    let escaped = if is_escaped(s, channel_from, channel_to) {
-        true
-    } else {
-        is_escaped(s, pair_from, pair_to)
-    };
     let channel = is_channel(s, channel_from, channel_to, depth);
     let pair = is_name(s, pair_from, pair_to, name);
     Scan {
         end,
         framed: true,
-        escaped,
         ours: both(channel, pair),
         outline,
-    }
-}
-
-// Whether the value from `from` to `to` is a string with a backslash.
-fn is_escaped(s: &[u8], from: usize, to: usize) -> bool
-    ensures { λ r. ⌜ r ≡ escapedAt (now (s .entry)) (record { from = from; to = to }) ⌝ }
-{
-    if byte_at(s, from) == QUOTE {
-        has_backslash(s, from, to)
-    } else {
-        false
     }
 }
 

@@ -159,6 +159,6 @@ module _ (s : List ℕ) (met : Members) where
 
 -- part by part
 pub told-made : (s : List ℕ) (met : Members) (end : ℕ) {o : Bool} {x : Outline} → o ≡ (met .«is_book» && met .«is_product») → x ≡ outlineIn s met
-    → _≡_ {A = Scan} (record { end = end; framed = true; escaped = met .escaped; ours = o; outline = x }) (scanIn s end met)
+    → _≡_ {A = Scan} (record { end = end; framed = true; ours = o; outline = x }) (scanIn s end met)
 unfolding scanIn
 told-made s met end p q = rw (p, q)

@@ -17,10 +17,10 @@ use Rattle.json_tokens.specs.Ends.{endOf}
 use Rattle.json_tokens.proofs.Laws.{end-at}
 use Rattle.json_tokens.proofs.Bounds.{bounds}
 use Rattle.json.specs.Json.{Span, Pair, Items, items, noItems, itemsEnd, elements, value}
-use Rattle.json.specs.Names.{means, holds, hasBackslash}
+use Rattle.json.specs.Names.{means}
 use Rattle.json.proofs.Bounds.{value-in}
 use Rattle.json.proofs.Laws.{value-array}
-use Rattle.json.proofs.Which.{numbered, meant, one-meant, which-meant, which-plain}
+use Rattle.json.proofs.Which.{numbered, meant, one-meant, which-meant}
 use Rattle.entries.specs.Places.{andAlso, contents, isString, arrayAt, objectAt}
 use Rattle.entries.specs.Rows.{Entry, sidedAt}
 use Rattle.entries.specs.Tally.{met as count, toldNot, toldAt, spansTally, arrayTally, Tells, Kept, Met}
@@ -30,7 +30,7 @@ use Rattle.entries.specs.declared.Tally.{Tally}
 use Rattle.entries.proofs.Tallies.{tells-more, kept-more}
 use Rattle.layout.specs.MemberSpans.{fewMore, withMemberSpan}
 use Rattle.layout.specs.declared.MemberSpan.{MemberSpan}
-use Rattle.message_m.specs.Collected.{onHit, withHeld, tallyWith, noData, moreData, dataFrom, dataOf, Added, ourNames, keyOf, isEscaped, heldOf, bodyHeld, moreBody, moreMembers, Placed}
+use Rattle.message_m.specs.Collected.{onHit, withHeld, tallyWith, noData, moreData, dataFrom, dataOf, Added, ourNames, keyOf, heldOf, bodyHeld, moreBody, moreMembers, Placed}
 use Rattle.message_m.specs.declared.Data.{Data}
 use Rattle.message_m.specs.declared.Body.{Body}
 use Rattle.message_m.specs.declared.Members.{Members}
@@ -99,37 +99,7 @@ module _ (s : List ℕ) (a : Span) where
             unfolding keyOf
             key-other y = sym (rw (c, p, t, d, k, y))
 
--- ---- backslashes, and the values that are compared
-module _ (s : List ℕ) (a : Span) where
-  pub escaped-string : byteAt s (a .from) ≡ 34 → hasBackslash s a ≡ isEscaped s a
-  unfolding isString
-  escaped-string h = sym (rw (eq-eqb (byteAt s (a .from)) 34 h))
-
-  pub escaped-other : (byteAt s (a .from) ≡ 34 → ⊥) → false ≡ isEscaped s a
-  unfolding isString
-  escaped-other h = sym (rw (ne-eqb (byteAt s (a .from)) 34 h))
-
--- our names have none
-plain-key : (s : List ℕ) (a : Span) → (keyOf s a ≡ 0 → ⊥) → hasBackslash s a ≡ false
-unfolding keyOf holds
-plain-key s a some = which-plain s a ourNames refl 1 some
-
--- x: the value is a string with a backslash; k: the name's number
-module _ (s : List ℕ) (a : Span) (x : Bool) (k : ℕ) (is : k ≡ keyOf s a) where
-  pub escaped-channel : k ≡ 1 → x ≡ (hasBackslash s a || ((eqb k 1 || eqb k 2) && x))
-  escaped-channel y = sym (rw (plain-key s a (λ z. omega arith), eq-eqb k 1 y))
-
-  module _ (c : k ≡ 1 → ⊥) where
-    pub escaped-product : k ≡ 2 → x ≡ (hasBackslash s a || ((eqb k 1 || eqb k 2) && x))
-    escaped-product y = sym (rw (plain-key s a (λ z. omega arith), ne-eqb k 1 c, eq-eqb k 2 y))
-
-    module _ (p : k ≡ 2 → ⊥) where
-      pub escaped-unknown : hasBackslash s a ≡ (hasBackslash s a || ((eqb k 1 || eqb k 2) && x))
-      escaped-unknown = sym (rw (ne-eqb k 1 c, ne-eqb k 2 p) (or-false (hasBackslash s a)))
-
-      pub escaped-known : (k ≡ 0 → ⊥) → false ≡ (hasBackslash s a || ((eqb k 1 || eqb k 2) && x))
-      escaped-known n = sym (rw (plain-key s a (λ z. n (is ∙ z)), ne-eqb k 1 c, ne-eqb k 2 p))
-
+-- ---- the values that are compared
 pub and-yes : (x : Bool) (k n : ℕ) → k ≡ n → x ≡ (eqb k n && x)
 and-yes x k n h = sym (rw (eq-eqb k n h))
 
@@ -288,17 +258,16 @@ module _ (name s : List ℕ) (met : Members) (n : Span) (at to key : ℕ) (b : B
   abbrev hits : (i : ℕ) → MemberSpan → MemberSpan
   hits i k = onHit (eqb key i) withMemberSpan k v
 
-  pub members-made : (e o p : Bool) (c q k u g : MemberSpan)
-      → e ≡ (met .escaped || (hasBackslash s n || ((eqb key 1 || eqb key 2) && isEscaped s v)))
+  pub members-made : (o p : Bool) (c q k u g : MemberSpan)
       → o ≡ (met .«is_book» || (eqb key 1 && means s v (ascii "book")))
       → p ≡ (met .«is_product» || (eqb key 2 && means s v name))
       → c ≡ hits 1 (met .channel) → q ≡ hits 2 (met .product) → k ≡ hits 3 (met .kind) → u ≡ hits 5 (met .checksum) → g ≡ hits 6 (met .gsn)
-      → _≡_ {A = Members} (record { body = b; escaped = e; «is_book» = o; «is_product» = p; channel = c; product = q; kind = k; checksum = u; gsn = g })
+      → _≡_ {A = Members} (record { body = b; «is_book» = o; «is_product» = p; channel = c; product = q; kind = k; checksum = u; gsn = g })
       (moreMembers name s met (record { name = n; value = record { from = at; to = to } }))
   unfolding moreMembers moreBody
-  members-made e o p c q k u g he ho hp hc hq hk hu hg =
+  members-made o p c q k u g ho hp hc hq hk hu hg =
       let d : Keyed s n key = rw is (keyed s n) in
-      rw (he, ho, hp, hc, hq, hk, hu, hg, made, d .channel, d .product, d .kind, d .body, d .checksum, d .gsn)
+      rw (ho, hp, hc, hq, hk, hu, hg, made, d .channel, d .product, d .kind, d .body, d .checksum, d .gsn)
 
 -- the places of marks
 pub placed-more : (s : List ℕ) (hit : Bool) (k : MemberSpan) (a : Span) → Placed s k → a .from ≤ a .to → a .to ≤ length s → Placed s (onHit hit withMemberSpan k a)

@@ -14,7 +14,7 @@ use Rattle.edit.specs.declared.Side.the-variants.{Bids, Asks}
 use Rattle.json_tokens.specs.Tokens.{End, At, Broken, blanks, closing}
 use Rattle.json_tokens.specs.Ends.{endOf}
 use Rattle.json.specs.Json.{Span, Pair, value}
-use Rattle.json.specs.Names.{means, hasBackslash}
+use Rattle.json.specs.Names.{means}
 use Rattle.json.specs.Fold.{foldFrom}
 use Rattle.json.proofs.Fold.{Loop, Left, overMembers}
 use Rattle.entries.specs.Places.{andThen, andAlso, objectAt, valuesOf, only, wholeAt, checksumAt}
@@ -32,8 +32,8 @@ use Rattle.layout.specs.declared.Scan.{Scan}
 use Rattle.layout.proofs.Laws.{outline-of}
 use Rattle.layout.proofs.MemberSpans.{values-fold, only-once, only-other, count-times}
 use Rattle.layout.specs.declared.Kind.{Kind}
-use Rattle.message_m.specs.LayoutM.{someName, someString, escapedM, someMeans, oursM, kindAt, layoutM, envelopeM}
-use Rattle.message_m.specs.Collected.{onMember, withHeld, tallyWith, noData, dataEnd, moreData, dataFrom, dataOf, isEscaped, moreBody, noMembers, moreMembers, onceAt, outlineWhere, numbersIn, sidesIn, bodyIn, outlineIn, scanIn, Placed}
+use Rattle.message_m.specs.LayoutM.{someMeans, oursM, kindAt, layoutM, envelopeM}
+use Rattle.message_m.specs.Collected.{onMember, withHeld, tallyWith, noData, dataEnd, moreData, dataFrom, dataOf, moreBody, noMembers, moreMembers, onceAt, outlineWhere, numbersIn, sidesIn, bodyIn, outlineIn, scanIn, Placed}
 use Rattle.message_m.specs.declared.Data.{Data}
 use Rattle.message_m.specs.declared.Members.{Members}
 use Rattle.message_m.proofs.Steps.{hit-yes, hit-no, placed-more}
@@ -119,39 +119,13 @@ held-are s x (m ∷ ms) =
     ∙ ap (λ (y : Reading (List Entry)). andAlso y (entriesIn forms.Pair 14 s (ascii "bids") (ascii "asks") ms)) (one-held s x m)
     ∙ also-assoc x (memberEntries forms.Pair 14 s (ascii "bids") (ascii "asks") m) (entriesIn forms.Pair 14 s (ascii "bids") (ascii "asks") ms)
 
--- ---- check 4 and check 5: what some member has
+-- ---- check 5: what some member has
 
 -- one value more of a name, by whether it is one
-string-more : (s : List ℕ) (a : Span) (hit : Bool) (l : List Span) → someString s (cond hit (a ∷ l) l) ≡ ((hit && isEscaped s a) || someString s l)
-unfolding someString
-string-more s a true l = refl
-string-more s a false l = refl
-
 means-more : (s text : List ℕ) (a : Span) (hit : Bool) (l : List Span) → someMeans s text (cond hit (a ∷ l) l) ≡ ((hit && means s a text) || someMeans s text l)
 unfolding someMeans
 means-more s text a true l = refl
 means-more s text a false l = refl
-
--- n, c, p, x of one member, the others of the members left
-all-escaped : (n c p x : Bool) (names channels products : Bool)
-    → ((n || ((c || p) && x)) || (names || (channels || products))) ≡ ((n || names) || (((c && x) || channels) || ((p && x) || products)))
-all-escaped true c p x names channels products = refl
-all-escaped false true p true names channels products = sym (or-true names)
-all-escaped false true true false names channels products = refl
-all-escaped false true false false names channels products = refl
-all-escaped false false true true names channels products = sym (ap (λ (b : Bool). names || b) (or-true channels) ∙ or-true names)
-all-escaped false false true false names channels products = refl
-all-escaped false false false x names channels products = refl
-
-escaped-more : (s : List ℕ) (m : Pair) (ms : List Pair)
-    → ((hasBackslash s (m .name) || ((means s (m .name) (ascii "channel") || means s (m .name) (ascii "product")) && isEscaped s (m .value))) || escapedM s ms) ≡ escapedM s (m ∷ ms)
-unfolding escapedM someName valuesOf
-escaped-more s m ms =
-    let c = string-more s (m .value) (means s (m .name) (ascii "channel")) (valuesOf s (ascii "channel") ms) in
-    let p = string-more s (m .value) (means s (m .name) (ascii "product")) (valuesOf s (ascii "product") ms) in
-    all-escaped (hasBackslash s (m .name)) (means s (m .name) (ascii "channel")) (means s (m .name) (ascii "product")) (isEscaped s (m .value)) (someName s ms)
-    (someString s (valuesOf s (ascii "channel") ms)) (someString s (valuesOf s (ascii "product") ms))
-    ∙ ap₂ (λ (x y : Bool). (hasBackslash s (m .name) || someName s ms) || (x || y)) (sym c) (sym p)
 
 -- a flag of the fold: `one` of each member, `some` of those left
 flag-from : {S : Type 0} (step : S → Pair → S) (get : S → Bool) (one : Pair → Bool) (some : List Pair → Bool)
@@ -376,14 +350,7 @@ module _ (name s : List ℕ) (ms : List Pair) where
       (only-is (values (ascii "channel")) (met .channel) channel-is)
       (λ c q. channel-out c)
 
-  -- ---- check 4 and check 5
-  escaped-out : escapedM s ms ≡ met .escaped
-  unfolding moreMembers escapedM someName someString valuesOf
-  escaped-out =
-      sym (flag-from (moreMembers name s) (λ (x : Members). x .escaped)
-      (λ m. hasBackslash s (m .name) || ((means s (m .name) (ascii "channel") || means s (m .name) (ascii "product")) && isEscaped s (m .value)))
-      (escapedM s) (λ st m. refl) refl (escaped-more s) noMembers ms)
-
+  -- ---- check 5
   some-is : (get : Members → Bool) (n text : List ℕ)
       → ((st : Members) (m : Pair) → get (moreMembers name s st m) ≡ (get st || (means s (m .name) n && means s (m .value) text)))
       → get met ≡ (get noMembers || someMeans s text (values n))
@@ -401,14 +368,14 @@ module _ (name s : List ℕ) (ms : List Pair) where
 -- ---- the message
 module _ (name s : List ℕ) where
   abbrev heardOf : List Pair → Reading Envelope
-  heardOf ms = reads (record { escaped = escapedM s ms; ours = oursM name s ms; layout = layoutM s ms })
+  heardOf ms = reads (record { ours = oursM name s ms; layout = layoutM s ms })
 
   abbrev pub toldFrom : ℕ → Reading (List Pair) → Scan
   toldFrom e x = scanOf s e (andThen x heardOf)
 
   pub told-folds : (e : ℕ) (ms : List Pair) → toldFrom e (reads ms) ≡ scanIn s e (foldFrom (moreMembers name s) noMembers ms)
   unfolding andThen scanOf scanIn
-  told-folds e ms = rw (escaped-out name s ms, ours-out name s ms, layout-out name s ms)
+  told-folds e ms = rw (ours-out name s ms, layout-out name s ms)
 
   pub told-is : (at : ℕ) → toldFrom (endOf (value 16 s at)) (objectAt 16 s (record { from = at; to = endOf (value 16 s at) })) ≡ scanAt (envelopeM name) s at
   unfolding scanAt envelopeM endOf andThen

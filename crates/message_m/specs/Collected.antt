@@ -13,7 +13,7 @@ use Rattle.edit.specs.declared.Side.the-variants.{Bids, Asks}
 use Rattle.json_tokens.specs.Ends.{endOf}
 use Rattle.json.specs.Json.{Span, Pair, value}
 use Rattle.json.specs.Which.{which}
-use Rattle.json.specs.Names.{means, hasBackslash}
+use Rattle.json.specs.Names.{means}
 use Rattle.json.specs.Fold.{foldFrom}
 use Rattle.entries.specs.Places.{andThen, andAlso, isString, objectAt, wholeAt, checksumAt}
 use Rattle.entries.specs.Rows.{Entry, sidedAt}
@@ -131,9 +131,6 @@ ourNames = ascii "channel" ∷ ascii "product" ∷ ascii "type" ∷ ascii "data"
 unfoldable pub keyOf : List ℕ → Span → ℕ
 keyOf s a = which s a channelKey ourNames
 
-abbrev pub isEscaped : List ℕ → Span → Bool
-isEscaped s a = isString s a && hasBackslash s a
-
 unfoldable pub moreBody : List ℕ → Bool → Body → Span → Body
 moreBody s hit b a = record { end = a .to; mark = onHit hit withMemberSpan (b .mark) a; last = onHit hit (λ d v. dataOf s (d .tally) v) (b .last) a }
 
@@ -149,7 +146,6 @@ abbrev pub noMembers : Members
 noMembers =
     record {
       body = record { end = 0; mark = noMemberSpan; last = noData 0 noneYet };
-      escaped = false;
       «is_book» = false;
       «is_product» = false;
       channel = noMemberSpan;
@@ -164,9 +160,6 @@ unfoldable pub moreMembers : List ℕ → List ℕ → Members → Pair → Memb
 moreMembers name s met m =
     record {
       body = moreBody s (means s (m .name) (ascii "data")) (met .body) (m .value);
-      escaped =
-          met .escaped
-          || (hasBackslash s (m .name) || ((means s (m .name) (ascii "channel") || means s (m .name) (ascii "product")) && isEscaped s (m .value)));
       «is_book» = met .«is_book» || (means s (m .name) (ascii "channel") && means s (m .value) (ascii "book"));
       «is_product» = met .«is_product» || (means s (m .name) (ascii "product") && means s (m .value) name);
       channel = onMember s (ascii "channel") withMemberSpan (met .channel) m;
@@ -216,7 +209,6 @@ scanIn s end met =
     record {
       end = end;
       framed = true;
-      escaped = met .escaped;
       ours = met .«is_book» && met .«is_product»;
       outline = outlineIn s met;
     }

@@ -5,25 +5,13 @@ use mathlib.Core.List.{List, [], _∷_}
 use Rattle.text.specs.Text.{ascii}
 use Rattle.decimal.specs.Digits.{Reading, reads, refused}
 use Rattle.json.specs.Json.{Span, Pair, maxDepth}
-use Rattle.json.specs.Names.{means, hasBackslash}
+use Rattle.json.specs.Names.{means}
 use Rattle.entries.specs.Places.{andThen, isString, objectAt, valuesOf, only, wholeAt, checksumAt}
 use Rattle.entries.specs.declared.Form.the-variants as forms
 use Rattle.layout.specs.Depths.{itemDepth, sideDepth}
 use Rattle.layout.specs.Layout.{printed, Layout, Envelope, entriesIn, laid}
 use Rattle.layout.specs.declared.Kind.{Kind}
 use Rattle.layout.specs.declared.Kind.the-variants.{Snapshot, Update}
-
--- Check 4: a backslash in a top-level key or in a `channel` or `product` string.
-unfoldable pub someName : List ℕ → List Pair → Bool
-someName s [] = false
-someName s (m ∷ ms) = hasBackslash s (m .name) || someName s ms
-
-unfoldable pub someString : List ℕ → List Span → Bool
-someString s [] = false
-someString s (a ∷ l) = (isString s a && hasBackslash s a) || someString s l
-
-unfoldable pub escapedM : List ℕ → List Pair → Bool
-escapedM s ms = someName s ms || (someString s (valuesOf s (ascii "channel") ms) || someString s (valuesOf s (ascii "product") ms))
 
 -- Check 5: it is this book's when some member `channel` is `book` and some member `product` is the name.
 unfoldable pub someMeans : List ℕ → List ℕ → List Span → Bool
@@ -59,4 +47,4 @@ layoutM s ms =
 unfoldable pub envelopeM : List ℕ → List ℕ → Span → Reading Envelope
 envelopeM name s a =
     andThen (objectAt maxDepth s a) (λ ms.
-    reads (record { escaped = escapedM s ms; ours = oursM name s ms; layout = layoutM s ms }))
+    reads (record { ours = oursM name s ms; layout = layoutM s ms }))

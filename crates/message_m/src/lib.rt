@@ -13,11 +13,9 @@ use entries::Tally;
 use entries::entries_at;
 use entries::none_yet;
 use json::MAX_DEPTH;
-use json::has_backslash;
 use json::is_name;
 use json::value_end;
 use json_tokens::OPEN_OBJECT;
-use json_tokens::QUOTE;
 use json_tokens::colon_end;
 use json_tokens::comma_end;
 use json_tokens::object_close_end;
@@ -45,7 +43,7 @@ ghost use Rattle.text.specs.Text.{ascii};
 ghost use Rattle.decimal.specs.Reads.{parsedChecksum, parsedWhole};
 ghost use Rattle.json_tokens.specs.Ends.{endOf};
 ghost use Rattle.json.specs.Json.{value};
-ghost use Rattle.json.specs.Names.{means, hasBackslash};
+ghost use Rattle.json.specs.Names.{means};
 ghost use Rattle.entries.specs.Places.{andThen, wholeAt, checksumAt};
 ghost use Rattle.layout.specs.Depths.{itemDepth, sideDepth};
 ghost use Rattle.layout.specs.MemberSpans.{withMemberSpan};
@@ -55,7 +53,7 @@ ghost use Rattle.edit.specs.Buffer.{bufferWords};
 ghost use Rattle.entries.specs.Tally.{met as count};
 ghost use Rattle.layout.specs.Scan.{Scanned};
 ghost use Rattle.message_m.specs.LayoutM.{envelopeM};
-ghost use Rattle.message_m.specs.Collected.{onHit, memberAt, noData, dataEnd, MoreData, DataRead, channelKey, productKey, dataKey, keyOf, isEscaped, MoreBody, noMembers, MoreMembers, onceAt, numbersIn, bodyIn, outlineIn, scanIn, Placed};
+ghost use Rattle.message_m.specs.Collected.{onHit, memberAt, noData, dataEnd, MoreData, DataRead, channelKey, productKey, dataKey, keyOf, MoreBody, noMembers, MoreMembers, onceAt, numbersIn, bodyIn, outlineIn, scanIn, Placed};
 
 // Which of our names a member of the message has.
 const OTHER: usize = 0;
@@ -101,8 +99,6 @@ struct Members {
     kind: MemberSpan,
     checksum: MemberSpan,
     gsn: MemberSpan,
-    // Whether a backslash stands in some name, or in some `channel` or `product` that is a string.
-    escaped: bool,
     // Whether some `channel` is `book`, and whether some `product` is the book's name.
     is_book: bool,
     is_product: bool,
@@ -161,7 +157,6 @@ fn no_members() -> Members
             mark: no_member_span(),
             last: no_data(0, none_yet()),
         },
-        escaped: false,
         is_book: false,
         is_product: false,
         channel: no_member_span(),
@@ -190,7 +185,6 @@ fn more_members(
     let to = body.end;
     Members {
         body,
-        escaped: either(met.escaped, is_escaped(s, key, first, past, from, to)),
         is_book: either(met.is_book, is_book(s, key, from, to)),
         is_product: either(met.is_product, is_product(s, key, from, to, name)),
         channel: more_spans(met.channel, key, CHANNEL, from, to),
@@ -234,33 +228,6 @@ fn more_spans(mark: MemberSpan, key: usize, name: usize, from: usize, to: usize)
         return with_member_span(mark, from, to);
     }
     mark
-}
-
-// Whether a backslash stands in a member's name, or in its value, if that is a string and is compared. Our own names have none.
-fn is_escaped(s: &[u8], key: usize, first: usize, past: usize, from: usize, to: usize) -> bool
-    requires { ⌜ key ≡ keyOf (now s) (record { from = first; to = past }) ⌝ }
-    ensures { λ r. ⌜ r ≡ (hasBackslash (now (s .entry)) (record { from = first; to = past }) || ((eqb key channelKey || eqb key productKey) && isEscaped (now (s .entry)) (record { from = from; to = to }))) ⌝ }
-{
-    if key == CHANNEL {
-        return string_escaped(s, from, to);
-    }
-    if key == PRODUCT {
-        return string_escaped(s, from, to);
-    }
-    if key == OTHER {
-        return has_backslash(s, first, past);
-    }
-    false
-}
-
-// Whether the value from `from` to `to` is a string with a backslash.
-fn string_escaped(s: &[u8], from: usize, to: usize) -> bool
-    ensures { λ r. ⌜ r ≡ isEscaped (now (s .entry)) (record { from = from; to = to }) ⌝ }
-{
-    if byte_at(s, from) == QUOTE {
-        return has_backslash(s, from, to);
-    }
-    false
 }
 
 // Whether the member is a `channel` that is `book`.
@@ -434,7 +401,6 @@ fn scan(s: &[u8], met: Members, end: usize) -> Scan
     Scan {
         end,
         framed: true,
-        escaped: met.escaped,
         ours: both(met.is_book, met.is_product),
         outline: m_outline(s, met),
     }

@@ -18,7 +18,7 @@ use Rattle.settings.specs.Settings.{Config, good, kept}
 use Rattle.settings.specs.Rules.{rulesOf}
 use Rattle.settings.specs.declared.Dialect.{Dialect}
 use Rattle.settings.specs.declared.Dialect.the-variants.{K, M, Unknown}
-use Rattle.entries.specs.Places.{inner}
+use Rattle.json.specs.Names.{inner}
 use Rattle.entries.specs.Rows.{Entry, isBadPrice, numberIn, numberAt, numbersAt, badPrice, badSize, badTexts}
 use Rattle.edit.specs.Edit.{PriceLevel, shownPrice, Edit, sets, removes, Numbers, editOf, isSame, forSide}
 use Rattle.level.specs.Side.{nearer, place, apply, applyAll, ranked, namesTwice}

@@ -109,7 +109,7 @@ unfolding decode decodedOf messageOf
 said-carries t s m h = go (checked t s) (checked-either (λ a. Unit {0}) (Carrying (t .dialect)) none t s (heard-carries (t .dialect) t s (top s))) h
   where
     none : Refusals (λ a. Unit {0})
-    none = record { long = tt; not-json = tt; escaped = tt; not-ours = tt; layout = tt; entries = tt; decimal = tt }
+    none = record { long = tt; not-json = tt; not-ours = tt; layout = tt; entries = tt; decimal = tt }
 
     go : (x : Checked) → Either (λ a. Unit {0}) (Carrying (t .dialect)) x → decodedOf s x ≡ decodes m → Carries (t .dialect) (m .kind) (m .checksum) (m .number)
     go (passes l) r g = let e : messageOf s l ≡ m = cc in rw (← e) r

@@ -13,12 +13,11 @@ use Rattle.entries.specs.Places.{top}
 use Rattle.layout.specs.Layout.{Layout, Envelope}
 use Rattle.message.specs.Meaning.{Checked, fails, passes, tooMany, counted, laidOut, addressed, envelopeIn, framed, bad, decimals, alsoDecimals, checked}
 use Rattle.answer.specs.declared.Answer.{Answer}
-use Rattle.answer.specs.declared.Answer.the-variants.{TooLong, NotJson, Escaped, NotOurs, BadLayout, TooManyEntries, BadDecimal}
+use Rattle.answer.specs.declared.Answer.the-variants.{TooLong, NotJson, NotOurs, BadLayout, TooManyEntries, BadDecimal}
 
 pub record Refusals (F : Answer → Type 0) : Type 0 where
   pub long : F TooLong
   pub not-json : F NotJson
-  pub escaped : F Escaped
   pub not-ours : F NotOurs
   pub layout : F BadLayout
   pub entries : F TooManyEntries
@@ -45,12 +44,11 @@ module _ (F : Answer → Type 0) (P : Layout → Type 0) (f : Refusals F) where
 
   addressed-either : (most : ℕ) (x : Reading Envelope) → Read (λ h. Read P (h .layout)) x → Either F P (addressed most x)
   unfolding addressed
-  addressed-either most (reads h) r = at (h .escaped) (h .ours)
+  addressed-either most (reads h) r = at (h .ours)
     where
-      at : (a b : Bool) → Either F P (cond a (fails Escaped) (cond b (laidOut most (h .layout)) (fails NotOurs)))
-      at true b = f .escaped
-      at false true = laid-either most (h .layout) r
-      at false false = f .not-ours
+      at : (b : Bool) → Either F P (cond b (laidOut most (h .layout)) (fails NotOurs))
+      at true = laid-either most (h .layout) r
+      at false = f .not-ours
   addressed-either most refused r = f .not-ours
 
   framed-either : (t : Config) (s : List ℕ) → Read (λ h. Read P (h .layout)) (envelopeIn (t .dialect) t s (top s)) → Either F P (framed t s)

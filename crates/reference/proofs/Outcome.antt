@@ -21,7 +21,7 @@ use Rattle.answer.specs.Answers.{answerNumber, oneOf, toMessages, isTaken, leav
 use Rattle.answer.proofs.Laws.{taken-answer}
 use Rattle.message.specs.Meaning.{Message, Decoded, refuses, decodes, decode, Checked, fails, passes, envelopeIn, checked, decodedOf}
 use Rattle.answer.specs.declared.Answer.{Answer}
-use Rattle.answer.specs.declared.Answer.the-variants.{Taken, Shut, TooLong, NotJson, Escaped, NotOurs, BadLayout, TooManyEntries, BadDecimal, PriceTwice, NoSnapshot, OldNumber, TooManyLevels, WrongChecksum, NoLevel, NoRoom}
+use Rattle.answer.specs.declared.Answer.the-variants.{Taken, Shut, TooLong, NotJson, NotOurs, BadLayout, TooManyEntries, BadDecimal, PriceTwice, NoSnapshot, OldNumber, TooManyLevels, WrongChecksum, NoLevel, NoRoom}
 use Rattle.reference.specs.Reference.{Status, shut, waiting, live, isShut, isLive, Reference, rules, checksumOf, editsFor, pricesOf, namesPriceTwice, lacksSnapshot, isOld, hasTooMany, differs, hasWrongChecksum, sidesAfter, verdict, taken, withStatus, refusedBy, answered, received, receive}
 use Rattle.reference.proofs.Snapshot.{of-snapshot, of-update, a-snapshot, an-update}
 use Rattle.reference.proofs.Checks.{Refusals, Read, Either, checked-either}
@@ -41,7 +41,7 @@ said-refusal t s a h = go (checked t s) (checked-either F (λ l. Unit {0}) every
     F b = refusal b ≡ true
 
     every : Refusals F
-    every = record { long = refl; not-json = refl; escaped = refl; not-ours = refl; layout = refl; entries = refl; decimal = refl }
+    every = record { long = refl; not-json = refl; not-ours = refl; layout = refl; entries = refl; decimal = refl }
 
     any-layout : (x : Reading Layout) → Read (λ l. Unit {0}) x
     any-layout (reads l) = tt

@@ -42,7 +42,7 @@ unfolding decode decodedOf Other answerNumber
 decoded-other t s a h = go (checked t s) (checked-either Other (λ l. Unit {0}) every t s (any (envelopeIn (t .dialect) t s (top s)))) h
   where
     every : Refusals Other
-    every = record { long = refl; not-json = refl; escaped = refl; not-ours = refl; layout = refl; entries = refl; decimal = refl }
+    every = record { long = refl; not-json = refl; not-ours = refl; layout = refl; entries = refl; decimal = refl }
 
     any-layout : (x : Reading Layout) → Read (λ l. Unit {0}) x
     any-layout (reads l) = tt

@@ -25,7 +25,7 @@ use Rattle.layout.specs.Layout.{isSnapshot, Printed, printed, unprinted}
 use Rattle.answer.specs.Answers.{isTaken, leavesStatus}
 use Rattle.message.specs.Meaning.{SidedEdit, Message, Decoded, refuses, decodes, decode}
 use Rattle.answer.specs.declared.Answer.{Answer}
-use Rattle.answer.specs.declared.Answer.the-variants.{Taken, Shut, TooLong, NotJson, Escaped, NotOurs, BadLayout, TooManyEntries, BadDecimal, PriceTwice, NoSnapshot, OldNumber, TooManyLevels, WrongChecksum, NoLevel, NoRoom}
+use Rattle.answer.specs.declared.Answer.the-variants.{Taken, Shut, TooLong, NotJson, NotOurs, BadLayout, TooManyEntries, BadDecimal, PriceTwice, NoSnapshot, OldNumber, TooManyLevels, WrongChecksum, NoLevel, NoRoom}
 use Rattle.writer.specs.Snapshot.{kSnapshot, mSnapshot}
 use Rattle.reference.specs.declared.Scope.{Scope}
 use Rattle.reference.specs.declared.Scope.the-variants.{Current, LastGood}

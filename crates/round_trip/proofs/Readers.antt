@@ -10,11 +10,11 @@ use lib.ListN.{length, take, drop}
 use lib.Seq.{take-append-seam}
 use Rattle.decimal.specs.Digits.{Reading, reads}
 use Rattle.text.specs.Text.{byteAt}
-use Rattle.json_tokens.specs.Tokens.{At, startsWith, literal}
 use Rattle.json.specs.Json.{Span, Pair, value}
-use Rattle.json.specs.Names.{means, holds, hasBackslash}
-use Rattle.json.proofs.Names.{means-part, snoc-is, holds-append}
-use Rattle.entries.specs.Places.{isString, contents, arrayAt, objectAt, valuesOf, inner}
+use Rattle.json.specs.Names.{meaning, same, means, inner}
+use Rattle.json.specs.Claims.{holds}
+use Rattle.json.proofs.Names.{plain-text, same-self}
+use Rattle.entries.specs.Places.{isString, contents, arrayAt, objectAt, valuesOf}
 use Rattle.writer.specs.Snapshot.{quoted, array}
 use Rattle.round_trip.specs.Claims.{Each}
 use Rattle.round_trip.proofs.Places.{byte-here, past-byte, Is, part-is}
@@ -44,42 +44,7 @@ object-at d fs each s a h =
     let b : byteAt s (a .from) ≡ 123 = byte-here s (a .from) _ (h .here) in
     record { found = r .found; gives = rw (eq-eqb (byteAt s (a .from)) 123 b) (ap contents (r .reads-them)); matches = r .matches }
 
--- ---- equal texts
-unfoldable pub same : List ℕ → List ℕ → Bool
-same [] [] = true
-same [] (d ∷ n) = false
-same (c ∷ t) [] = false
-same (c ∷ t) (d ∷ n) = eqb c d && same t n
-
-pub same-self : (t : List ℕ) → same t t ≡ true
-unfolding same
-same-self [] = refl
-same-self (c ∷ t) = rw (eq-eqb c c refl) (same-self t)
-
-same-is : (t n : List ℕ) → same t n ≡ true → t ≡ n
-unfolding same
-same-is [] [] h = refl
-same-is [] (d ∷ n) h = absurd (true≢false (sym h))
-same-is (c ∷ t) [] h = absurd (true≢false (sym h))
-same-is (c ∷ t) (d ∷ n) h =
-    let p = and-eq-true-iff (eqb c d) (same t n) .0 h in
-    let x : c ≡ d = eqb-true c d (p .0) in
-    let y : t ≡ n = same-is t n (p .1) in
-    cc
-
 -- ---- strings
-prefix-here : (w u : List ℕ) (i : ℕ) → startsWith w (w ++ u) i ≡ At (i + length w)
-unfolding startsWith
-prefix-here [] u i = ap At (omega arith)
-prefix-here (c ∷ w) u i = rw (eq-eqb c c refl, startsWith) (prefix-here w u (i + 1) ∙ ap At (omega arith))
-
-tail-is : (x y : ℕ) (l m : List ℕ) → x ∷ l ≡ y ∷ m → l ≡ m
-tail-is x y l m h = cc
-
-quoted-is : (t name : List ℕ) → quoted t ≡ 34 ∷ (name ++ (34 ∷ [])) → t ≡ name
-unfolding quoted
-quoted-is t name e = snoc-is 34 t name (tail-is 34 34 _ _ e)
-
 plain-holds : (t : List ℕ) → plain t ≡ true → holds 92 t ≡ false
 unfolding plain holds
 plain-holds [] h = refl
@@ -104,38 +69,23 @@ module _ {s : List ℕ} {a : Span} (t : List ℕ) (h : Is s a (quoted t)) where
       let n : a .to - a .from - 2 ≡ length t = omega arith in
       ap₂ take n (past-byte s (a .from) 34 _ from-quote) ∙ take-append-seam t (34 ∷ h .rest)
 
-  pub no-backslash : plain t ≡ true → hasBackslash s a ≡ false
-  unfolding hasBackslash quoted holds
-  no-backslash p = ap (holds 92) (part-is h) ∙ holds-append 92 t (34 ∷ []) (plain-holds t p) refl
+  -- it means what the bytes between its quotes mean
+  pub means-same : (name : List ℕ) → means s a name ≡ same (meaning 0 t) name
+  unfolding means
+  means-same name = rw (eq-eqb (byteAt s (a .from)) 34 (byte-here s (a .from) _ from-quote), inner-is)
 
-  pub means-it : means s a t ≡ true
-  unfolding means literal quoted
-  means-it =
-      let w : literal (34 ∷ (t ++ (34 ∷ []))) s (a .from) ≡ At (a .from + length (quoted t)) =
-      ap (λ (l : List ℕ). startsWith (34 ∷ (t ++ (34 ∷ []))) l (a .from)) (h .here) ∙ prefix-here (quoted t) (h .rest) (a .from) in
-      rw (w, means) (eq-eqb _ _ (sym (h .ends)))
-
-  -- it means what is between its quotes, and nothing else
-  pub means-same : (name : List ℕ) → means s a name ≡ same t name
-  means-same name = at (same t name) refl (means s a name) refl
-    where
-      at : (b : Bool) → same t name ≡ b → (c : Bool) → means s a name ≡ c → means s a name ≡ same t name
-      at true p c q = let e : t ≡ name = same-is t name p in sym (ap (means s a) e) ∙ means-it ∙ sym p
-      at false p false q = q ∙ sym p
-      at false p true q = absurd (true≢false (sym (same-self t) ∙ ap (same t) other ∙ p))
-        where
-          other : t ≡ name
-          other = quoted-is t name (sym (part-is h) ∙ means-part s a name q)
+  pub means-it : plain t ≡ true → means s a t ≡ true
+  means-it p = means-same t ∙ ap (λ (l : List ℕ). same l t) (plain-text t (plain-holds t p)) ∙ same-self t
 
 -- ---- members by name
 unfoldable pub named : List ℕ → List Field → List (List ℕ)
 named name [] = []
-named name (f ∷ fs) = cond (same (f .name) name) (f .text ∷ named name fs) (named name fs)
+named name (f ∷ fs) = cond (same (meaning 0 (f .name)) name) (f .text ∷ named name fs) (named name fs)
 
 pub values-named : (s name : List ℕ) {ms : List Pair} {fs : List Field} → Matched (IsField s) ms fs → Matched (Is s) (valuesOf s name ms) (named name fs)
 unfolding valuesOf named
 values-named s name both-none = both-none
-values-named s name (both-more {a = m} {d = f} {l = ms} {k = fs} h r) = rw (means-same (f .name) (h .name-is) name) (at (same (f .name) name) (values-named s name r))
+values-named s name (both-more {a = m} {d = f} {l = ms} {k = fs} h r) = rw (means-same (f .name) (h .name-is) name) (at (same (meaning 0 (f .name)) name) (values-named s name r))
   where
     at : (b : Bool) → Matched (Is s) (valuesOf s name ms) (named name fs)
         → Matched (Is s) (cond b (m .value ∷ valuesOf s name ms) (valuesOf s name ms)) (cond b (f .text ∷ named name fs) (named name fs))

@@ -13,7 +13,8 @@ use Rattle.decimal.proofs.Digits.{Digits, none, one, digit-in, written-digits, 
 use Rattle.decimal.proofs.RoundTrip.{read-text}
 use Rattle.json_tokens.specs.Ends.{unescaped}
 use Rattle.json.specs.Json.{Span}
-use Rattle.entries.specs.Places.{andThen, all, andAlso, arrayAt, inner}
+use Rattle.entries.specs.Places.{andThen, all, andAlso, arrayAt}
+use Rattle.json.specs.Names.{inner}
 use Rattle.entries.specs.Rows.{Row, rowK, rowM, entryOf, entriesAt, Entry, sided, sidedAt, badPrice, badSize, badTexts, numberAt, numbersAt}
 use Rattle.entries.specs.declared.Form.{Form}
 use Rattle.entries.specs.declared.Form.the-variants.{Triple, Pair}

@@ -12,12 +12,13 @@ use Rattle.decimal.specs.Whole.{readWhole}
 use Rattle.decimal.proofs.Digits.{written-digits}
 use Rattle.json_tokens.specs.Ends.{unescaped}
 use Rattle.json.specs.Json.{Span, Pair}
+use Rattle.json.specs.Names.{meaning}
 use Rattle.entries.specs.Places.{andThen, all, arrayAt, objectAt, valuesOf, wholeAt}
 use Rattle.entries.specs.declared.Form.the-variants.{Triple}
 use Rattle.settings.specs.Rules.{rulesOf}
 use Rattle.layout.specs.Layout.{unprinted, memberEntries, entriesIn, laid}
 use Rattle.layout.specs.declared.Kind.the-variants.{Snapshot}
-use Rattle.message_k.specs.LayoutK.{Frame, frameOf, escapedK, oursK, times, together, isSnapshot, entriesK, objectsLayout, layoutK, envelopeK}
+use Rattle.message_k.specs.LayoutK.{Frame, frameOf, oursK, times, together, isSnapshot, entriesK, objectsLayout, layoutK, envelopeK}
 use Rattle.message.specs.Meaning.{SidedEdit, envelopeIn, decode, decodes}
 use Rattle.settings.specs.Settings.{Config, good}
 use Rattle.settings.specs.declared.Dialect.the-variants.{K}
@@ -29,7 +30,7 @@ use Rattle.round_trip.proofs.Places.{Is, part-is}
 use Rattle.round_trip.proofs.Tokens.{plain, length-quoted}
 use Rattle.round_trip.proofs.Lists.{Matched, both-none, both-more}
 use Rattle.round_trip.proofs.Values.{Reads, IsText, itself, string-reads, zero-reads, array-reads, Field, fieldText, object, GoodField, IsField, object-reads}
-use Rattle.round_trip.proofs.Readers.{Gives, array-at, object-at, is-string, no-backslash, means-it, means-same, same, named, values-named, matched-length}
+use Rattle.round_trip.proofs.Readers.{Gives, array-at, object-at, means-it, means-same, named, values-named, matched-length}
 use Rattle.round_trip.proofs.Rows.{digits-plain, plain-append, k-entry, side-reads, IsEdit, sided-at, also, no-more}
 use Rattle.round_trip.proofs.Sizes.{maxSide, length-k, length-side}
 use Rattle.round_trip.proofs.Whole.{laidAs, HeardAs, asks-first, says-tree}
@@ -113,7 +114,7 @@ module _ (s : List ℕ) (bids asks : List PriceLevel) (fine-bids : Each ValidLev
     times-are name = matched-length (values name)
 
     a-snapshot : isSnapshot s (ms ∷ []) ≡ true
-    unfolding isSnapshot named same
+    unfolding isSnapshot named meaning
     a-snapshot = rw (times-are (ascii "as"), times-are (ascii "bs"), times-are (ascii "a"), times-are (ascii "b"), times-are (ascii "c"))
 
     laid-out : (g : Gives (IsEdit s) the-edits (entriesIn Triple 14 s (ascii "bs") (ascii "as") ms)) → objectsLayout s (ms ∷ []) ≡ reads (laidAs (g .found) unprinted 0)
@@ -122,7 +123,7 @@ module _ (s : List ℕ) (bids asks : List PriceLevel) (fine-bids : Each ValidLev
 
   -- the first member holds the asks, the second the bids
   entries-in : (ms : List Pair) → Matched (IsField s) ms the-fields → Gives (IsEdit s) the-edits (entriesIn Triple 14 s (ascii "bs") (ascii "as") ms)
-  unfolding entriesIn memberEntries same
+  unfolding entriesIn memberEntries meaning
   entries-in ms (both-more {a = a} h (both-more {a = b} k both-none)) =
       rw (means-same (ascii "as") (h .name-is) (ascii "bs"), means-same (ascii "as") (h .name-is) (ascii "as"), means-same (ascii "bs") (k .name-is) (ascii "bs"))
       (also (sided-at kEntry Triple k-entry Asks s (a .value) asks fine-asks (h .value-is))
@@ -134,13 +135,9 @@ module _ (s : List ℕ) (bids asks : List PriceLevel) (fine-bids : Each ValidLev
       abbrev frame : Frame
       frame = record { first = n; objects = o ∷ []; channel = c; pair = p }
 
-      not-escaped : escapedK s frame ≡ false
-      unfolding escapedK
-      not-escaped = rw (is-string (channel depth) hc, no-backslash (channel depth) hc (channel-plain depth), is-string name hp, no-backslash name hp name-is)
-
       ours : oursK depth name s frame ≡ true
       unfolding oursK
-      ours = rw (means-it (channel depth) hc, means-it name hp)
+      ours = rw (means-it (channel depth) hc (channel-plain depth), means-it name hp name-is)
 
       whole : wholeAt s n ≡ reads 0
       unfolding wholeAt readWhole isWhole leading isDigit valueFrom
@@ -160,7 +157,7 @@ module _ (s : List ℕ) (bids asks : List PriceLevel) (fine-bids : Each ValidLev
       unfolding envelopeK andThen frameOf
       heard a e = record {
         entries = the-entries .found;
-        is-heard = rw (e, not-escaped, ours, layout);
+        is-heard = rw (e, ours, layout);
         carries = the-entries .matches;
       }
 

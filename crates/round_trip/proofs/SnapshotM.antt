@@ -13,12 +13,13 @@ use Rattle.decimal.proofs.WholeNumber.{below-bound}
 use Rattle.decimal.proofs.RoundTrip.{written-read}
 use Rattle.json_tokens.specs.Ends.{unescaped}
 use Rattle.json.specs.Json.{Span, Pair}
+use Rattle.json.specs.Names.{meaning}
 use Rattle.entries.specs.Places.{andThen, objectAt, valuesOf, only, wholeAt, checksumAt}
 use Rattle.entries.specs.declared.Form.the-variants as forms
 use Rattle.settings.specs.Rules.{rulesOf}
 use Rattle.layout.specs.Layout.{printed, memberEntries, entriesIn, laid}
 use Rattle.layout.specs.declared.Kind.the-variants.{Snapshot}
-use Rattle.message_m.specs.LayoutM.{someName, someString, escapedM, someMeans, oursM, kindAt, layoutM, envelopeM}
+use Rattle.message_m.specs.LayoutM.{someMeans, oursM, kindAt, layoutM, envelopeM}
 use Rattle.message.specs.Meaning.{SidedEdit, envelopeIn, decode, decodes}
 use Rattle.settings.specs.Settings.{Config, good}
 use Rattle.settings.specs.declared.Dialect.the-variants.{M}
@@ -30,7 +31,7 @@ use Rattle.round_trip.proofs.Places.{Is, part-is}
 use Rattle.round_trip.proofs.Tokens.{plain, length-quoted}
 use Rattle.round_trip.proofs.Lists.{Matched, both-none, both-more}
 use Rattle.round_trip.proofs.Values.{Reads, string-reads, number-reads, Field, fieldText, object, GoodField, IsField, object-reads}
-use Rattle.round_trip.proofs.Readers.{Gives, object-at, is-string, no-backslash, means-it, means-same, same, named, values-named, One, the-one}
+use Rattle.round_trip.proofs.Readers.{Gives, object-at, means-it, means-same, named, values-named, One, the-one}
 use Rattle.round_trip.proofs.Rows.{m-entry, side-reads, IsEdit, sided-at, also, no-more}
 use Rattle.round_trip.proofs.Sizes.{maxSide, length-m, length-side}
 use Rattle.round_trip.proofs.Whole.{laidAs, HeardAs, bids-first, says-tree}
@@ -109,18 +110,9 @@ unfolding only
 only-one o = ap only (o .alone)
 
 module _ (s : List ℕ) where
-  names-plain : {d : ℕ} {ms : List Pair} {fs : List Field} → Matched (IsField s) ms fs → Each (GoodField d) fs → someName s ms ≡ false
-  unfolding someName
-  names-plain both-none each-none = refl
-  names-plain (both-more {d = f} h m) (each-more g r) = rw (no-backslash (f .name) (h .name-is) (g .plainly)) (names-plain m r)
-
-  string-plain : (t : List ℕ) {parts : List Span} → plain t ≡ true → One (Is s) parts (quoted t) → someString s parts ≡ false
-  unfolding someString
-  string-plain t p o = rw (o .alone, someString, is-string t (o .is-it), no-backslash t (o .is-it) p)
-
-  means-one : (t : List ℕ) {parts : List Span} → One (Is s) parts (quoted t) → someMeans s t parts ≡ true
+  means-one : (t : List ℕ) {parts : List Span} → plain t ≡ true → One (Is s) parts (quoted t) → someMeans s t parts ≡ true
   unfolding someMeans
-  means-one t o = rw (o .alone, someMeans, means-it t (o .is-it))
+  means-one t p o = rw (o .alone, someMeans, means-it t (o .is-it) p)
 
 -- ---- what is read of the message
 module _ (s : List ℕ) (bids asks : List PriceLevel) (fine-bids : Each ValidLevel bids) (fine-asks : Each ValidLevel asks) (name : List ℕ) (name-is : plain name ≡ true) (checksum number : ℕ)
@@ -136,7 +128,7 @@ module _ (s : List ℕ) (bids asks : List PriceLevel) (fine-bids : Each ValidLev
 
   -- the first member holds the bids, the second the asks
   entries-in : (ds : List Pair) → Matched (IsField s) ds the-sides → Gives (IsEdit s) the-edits (entriesIn forms.Pair 14 s (ascii "bids") (ascii "asks") ds)
-  unfolding entriesIn memberEntries same
+  unfolding entriesIn memberEntries meaning
   entries-in ds (both-more {a = b} h (both-more {a = a} k both-none)) =
       rw (means-same (ascii "bids") (h .name-is) (ascii "bids"), means-same (ascii "asks") (k .name-is) (ascii "bids"), means-same (ascii "asks") (k .name-is) (ascii "asks"))
       (also (sided-at mEntry forms.Pair m-entry Bids s (b .value) bids fine-bids (h .value-is))
@@ -144,44 +136,38 @@ module _ (s : List ℕ) (bids asks : List PriceLevel) (fine-bids : Each ValidLev
 
   module _ (ms : List Pair) (m : Matched (IsField s) ms the-tree) where
     channel : One (Is s) (valuesOf s (ascii "channel") ms) (quoted (ascii "book"))
-    unfolding named same
+    unfolding named meaning
     channel = the-one (values-named s (ascii "channel") m)
 
     product : One (Is s) (valuesOf s (ascii "product") ms) (quoted name)
-    unfolding named same
+    unfolding named meaning
     product = the-one (values-named s (ascii "product") m)
 
     kind : One (Is s) (valuesOf s (ascii "type") ms) (quoted (ascii "snapshot"))
-    unfolding named same
+    unfolding named meaning
     kind = the-one (values-named s (ascii "type") m)
 
     data-in : One (Is s) (valuesOf s (ascii "data") ms) (object the-sides)
-    unfolding named same
+    unfolding named meaning
     data-in = the-one (values-named s (ascii "data") m)
 
     sum-in : One (Is s) (valuesOf s (ascii "checksum") ms) (written checksum)
-    unfolding named same
+    unfolding named meaning
     sum-in = the-one (values-named s (ascii "checksum") m)
 
     number-in : One (Is s) (valuesOf s (ascii "gsn") ms) (written number)
-    unfolding named same
+    unfolding named meaning
     number-in = the-one (values-named s (ascii "gsn") m)
-
-    -- check 4
-    not-escaped : escapedM s ms ≡ false
-    unfolding escapedM plain unescaped
-    not-escaped =
-        rw (names-plain s m (fields-good bids asks name name-is checksum number), string-plain s (ascii "book") refl channel, string-plain s name name-is product)
 
     -- check 5
     ours : oursM name s ms ≡ true
-    unfolding oursM
-    ours = rw (means-one s (ascii "book") channel, means-one s name product)
+    unfolding oursM plain unescaped
+    ours = rw (means-one s (ascii "book") refl channel, means-one s name name-is product)
 
     -- check 6
     a-snapshot : kindAt s (kind .the) ≡ reads Snapshot
-    unfolding kindAt
-    a-snapshot = rw (means-it (ascii "snapshot") (kind .is-it))
+    unfolding kindAt plain unescaped
+    a-snapshot = rw (means-it (ascii "snapshot") (kind .is-it) refl)
 
     the-sum : checksumAt s (sum-in .the) ≡ reads checksum
     unfolding checksumAt readChecksum
@@ -195,11 +181,11 @@ module _ (s : List ℕ) (bids asks : List PriceLevel) (fine-bids : Each ValidLev
     the-data = object-at 14 the-sides (sides-good bids asks) s (data-in .the) (data-in .is-it)
 
     the-bids : One (Is s) (valuesOf s (ascii "bids") (the-data .found)) (side bids)
-    unfolding named same
+    unfolding named meaning
     the-bids = the-one (values-named s (ascii "bids") (the-data .matches))
 
     the-asks : One (Is s) (valuesOf s (ascii "asks") (the-data .found)) (side asks)
-    unfolding named same
+    unfolding named meaning
     the-asks = the-one (values-named s (ascii "asks") (the-data .matches))
 
     the-entries : Gives (IsEdit s) the-edits (entriesIn forms.Pair 14 s (ascii "bids") (ascii "asks") (the-data .found))
@@ -228,7 +214,7 @@ module _ (s : List ℕ) (bids asks : List PriceLevel) (fine-bids : Each ValidLev
     unfolding envelopeM andThen
     heard a e = record {
       entries = the-entries .found;
-      is-heard = rw (e, not-escaped, ours, layout);
+      is-heard = rw (e, ours, layout);
       carries = the-entries .matches;
     }
 

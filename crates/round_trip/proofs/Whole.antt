@@ -64,7 +64,7 @@ laidAs entries sum number = record { kind = Snapshot; entries = entries; checksu
 -- it is this book's, and has the layout of a snapshot that carries these edits
 pub record HeardAs (s : List ℕ) (edits : List SidedEdit) (sum : Printed) (number : ℕ) (x : Reading Envelope) : Type 0 where
   pub entries : List Entry
-  pub is-heard : x ≡ reads (record { escaped = false; ours = true; layout = reads (laidAs entries sum number) })
+  pub is-heard : x ≡ reads (record { ours = true; layout = reads (laidAs entries sum number) })
   pub carries : Matched (IsEdit s) entries edits
 
 -- no more of them for a side than a message may have

@@ -152,7 +152,6 @@ fn tell_meaning(n: u64) {
         1 => write(b" the settings are bad"),
         2 => write(b" the message is too long"),
         3 => write(b" it is not JSON, or nested too deep"),
-        4 => write(b" a backslash stands where the book's name could be written with one"),
         5 => write(b" it is not this book's"),
         6 => write(b" the layout is broken"),
         7 => write(b" too many entries on one side"),

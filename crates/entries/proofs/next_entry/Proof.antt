@@ -7,7 +7,7 @@ use lib.ListN.{length}
 use Rattle.decimal.specs.Digits.{reads}
 use Rattle.decimal.specs.Decimal.{number, read, isZero}
 use Rattle.decimal.proofs.RoundTrip.{read-within}
-use Rattle.entries.specs.Places.{inner}
+use Rattle.json.specs.Names.{inner}
 use Rattle.entries.specs.Found.{entryPlaceOf, priceSpan, sizeSpan, entryPlaceAt}
 use Rattle.entries.specs.Tally.{toldNot}
 use Rattle.entries.specs.Decimals.{TwoDecimals}

@@ -1,0 +1,18 @@
+-- Where a character of a string ends, in terms of the code. Assumes nothing: these are definitions.
+use Prim.Native.Nat.{ℕ, _+_, _<_}
+use mathlib.Core.Path.{_≡_}
+use mathlib.Core.Bool.{false}
+use mathlib.Core.List.{List, _∷_}
+use lib.ListN.{drop}
+use Rattle.json.specs.Names.{escapeLength, meaning, same}
+
+-- From r on stands what follows the escape whose backslash stands at i.
+pub record PastEscape (t : List ℕ) (i r : ℕ) : Type 0 where
+  pub later : i < r
+  pub rest : meaning (escapeLength (drop (i + 1) t)) (drop (i + 1) t) ≡ meaning 0 (drop r t)
+
+-- The character at i means b, and r is where the next one begins; r is 0 where it does not.
+pub record Spelled (t : List ℕ) (i b r : ℕ) : Type 0 where
+  pub other : r ≡ 0 → (m : List ℕ) → same (meaning 0 (drop i t)) (b ∷ m) ≡ false
+  pub later : (r ≡ 0 → ⊥) → i < r
+  pub rest : (r ≡ 0 → ⊥) → (m : List ℕ) → same (meaning 0 (drop i t)) (b ∷ m) ≡ same (meaning 0 (drop r t)) m

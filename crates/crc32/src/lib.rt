@@ -16,7 +16,6 @@ mod words;
 pub use lookup::shift;
 pub use pieces::combine;
 pub use pieces::front;
-pub use pieces::front_word;
 pub use slices::crc;
 pub use slices::run;
 pub use table::SHIFT_TABLE;

@@ -12,11 +12,11 @@ use Rattle.piece.proofs.feed.Statement.{statement}
 use Rattle.piece.proofs.feed.Tie as tie
 
 abbrev Inv-loop : tie.InvT-loop
-Inv-loop rest₀ fed₀ rest fed =
+Inv-loop table rest₀ fed₀ rest fed =
     (ahead (remaining rest) fed ≡ ahead (remaining rest₀) fed₀) × (fed .length + length (remaining rest) ≡ fed₀ .length + length (remaining rest₀))
 
 abbrev μ-loop : tie.MeasureT-loop
-μ-loop rest₀ fed₀ rest fed = length (remaining rest)
+μ-loop table rest₀ fed₀ rest fed = length (remaining rest)
 
 -- the text before the last byte, and how much longer it is with it
 abbrev shorter : tie.After-known-told Inv-loop μ-loop → Tail
@@ -32,8 +32,8 @@ feed-byte-requires : tie.Need-feed-byte-requires Inv-loop μ-loop
 feed-byte-requires c κs =
     let q = one-less c in
     let i = c .before .before .before .before .loop .inv .1 in
-    let p = c .before .before .before .before .before .pre in
-    omega arith
+    let p = c .before .before .before .before .before .before .pre in
+    (omega arith, p .1)
 
 loop-less : tie.Need-loop-less Inv-loop μ-loop
 loop-less c = let q = one-less (c .before) in omega arith

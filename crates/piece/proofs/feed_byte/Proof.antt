@@ -5,7 +5,7 @@ use Rattle.piece.proofs.feed_byte.Statement.{statement}
 use Rattle.piece.proofs.feed_byte.Tie as tie
 
 returns : tie.Need-returns
-returns c = record { sum = c .before .front .ensures; long = refl }
+returns c = record { sum = c .before .front-with .ensures; long = refl }
 
 pub feed-byte-spec : {M : Type 1} → statement M
 feed-byte-spec = tie.close (tie.spec (λ c κs. search needs) (λ c. search needs) returns)

@@ -12,16 +12,16 @@ use Rattle.piece.proofs.m_piece.Statement.{statement}
 use Rattle.piece.proofs.m_piece.Tie as tie
 
 feed-requires : tie.Need-feed-requires
-feed-requires c κs = let e = ap length (c .text-tail .ensures) in let l = length-text (number (c .before .args .size)) (c .before .pre .1) in let k = length-text (number (c .before .args .price)) (c .before .pre .0) in omega arith
+feed-requires c κs = let e = ap length (c .text-tail .ensures) in let l = length-text (number (c .before .before .args .size)) (c .before .before .pre .1) in let k = length-text (number (c .before .before .args .price)) (c .before .before .pre .0) in (omega arith, c .before .before .pre .2)
 
 feed-byte-requires : tie.Need-feed-byte-requires
-feed-byte-requires c κs = let n = (fed-first (c .before .text-tail .ensures) refl refl (c .feed .ensures)) .long in let l = length-text (number (c .before .before .args .size)) (c .before .before .pre .1) in let k = length-text (number (c .before .before .args .price)) (c .before .before .pre .0) in omega arith
+feed-byte-requires c κs = let n = (fed-first (c .before .text-tail .ensures) refl refl (c .feed .ensures)) .long in let l = length-text (number (c .before .before .before .args .size)) (c .before .before .before .pre .1) in let k = length-text (number (c .before .before .before .args .price)) (c .before .before .before .pre .0) in (omega arith, c .before .before .before .pre .2)
 
 feed-requires-2 : tie.Need-feed-requires-2
-feed-requires-2 c κs = let n = (sums-fronted (fed-first (c .before .before .before .text-tail .ensures) refl refl (c .before .before .feed .ensures)) (c .before .feed-byte .ensures)) .long in let e = ap length (c .text-tail2 .ensures) in let l = length-text (number (c .before .before .before .before .args .size)) (c .before .before .before .before .pre .1) in let k = length-text (number (c .before .before .before .before .args .price)) (c .before .before .before .before .pre .0) in omega arith
+feed-requires-2 c κs = let n = (sums-fronted (fed-first (c .before .before .before .text-tail .ensures) refl refl (c .before .before .feed .ensures)) (c .before .feed-byte .ensures)) .long in let e = ap length (c .text-tail2 .ensures) in let l = length-text (number (c .before .before .before .before .before .args .size)) (c .before .before .before .before .before .pre .1) in let k = length-text (number (c .before .before .before .before .before .args .price)) (c .before .before .before .before .before .pre .0) in (omega arith, c .before .before .before .before .before .pre .2)
 
 feed-byte-requires-2 : tie.Need-feed-byte-requires-2
-feed-byte-requires-2 c κs = let n = (fed-next (c .before .text-tail2 .ensures) (sums-fronted (fed-first (c .before .before .before .before .text-tail .ensures) refl refl (c .before .before .before .feed .ensures)) (c .before .before .feed-byte .ensures)) (c .feed2 .ensures)) .long in let m = (sums-fronted (fed-first (c .before .before .before .before .text-tail .ensures) refl refl (c .before .before .before .feed .ensures)) (c .before .before .feed-byte .ensures)) .long in let q = length-append (text (number (c .before .before .before .before .before .args .price))) (58 ∷ text (number (c .before .before .before .before .before .args .size))) in let l = length-text (number (c .before .before .before .before .before .args .size)) (c .before .before .before .before .before .pre .1) in let k = length-text (number (c .before .before .before .before .before .args .price)) (c .before .before .before .before .before .pre .0) in omega arith
+feed-byte-requires-2 c κs = let n = (fed-next (c .before .text-tail2 .ensures) (sums-fronted (fed-first (c .before .before .before .before .text-tail .ensures) refl refl (c .before .before .before .feed .ensures)) (c .before .before .feed-byte .ensures)) (c .feed2 .ensures)) .long in let m = (sums-fronted (fed-first (c .before .before .before .before .text-tail .ensures) refl refl (c .before .before .before .feed .ensures)) (c .before .before .feed-byte .ensures)) .long in let q = length-append (text (number (c .before .before .before .before .before .before .args .price))) (58 ∷ text (number (c .before .before .before .before .before .before .args .size))) in let l = length-text (number (c .before .before .before .before .before .before .args .size)) (c .before .before .before .before .before .before .pre .1) in let k = length-text (number (c .before .before .before .before .before .before .args .price)) (c .before .before .before .before .before .before .pre .0) in (omega arith, c .before .before .before .before .before .before .pre .2)
 
 returns : tie.Need-returns
 unfolding mPiece

@@ -6,7 +6,7 @@ methods, whatever the crate. A call that cannot be found is an error. So is a fu
 calls `piece` or `crc32` itself, if it stands in a crate that `book` stands on: it would sum a text elsewhere. Only filling a table is free.
 
 Of every file that has a function on the path, each array is named, with its element, its length and where it stands. It counts if it
-stands in a function on the path, or in a struct or an enum that such a function names:
+stands in a function on the path, or in a struct, an enum or a name for a type that such a function names:
 
 - an array by value, and one that is lent to be written to, holds its length times its element's bytes, and at most 23 bytes are allowed
   (LIMIT): ten digits, a point and twelve decimals. An element whose type is not written counts as 8 bytes;
@@ -85,6 +85,9 @@ class Source:
             self.functions.append(Declared(self, m[2], m.start(), closing(self.code, body), owner, bool(m[1])))
         for m in re.finditer(rf"\b(?:struct|enum) ({NAME})[^({{;]*([({{])", self.code):
             self.types.append(Declared(self, m[1], m.start(), closing(self.code, m.end() - 1)))
+        for m in re.finditer(rf"\btype ({NAME})\s*=\s*[^;\[]*", self.code):
+            end = closing(self.code, m.end()) if self.code[m.end()] == "[" else m.end()
+            self.types.append(Declared(self, m[1], m.start(), end))
 
     def line(self, at):
         return self.code.count("\n", 0, at) + 1
@@ -95,7 +98,7 @@ class Source:
 
 
 class Declared:
-    """A struct, an enum, or a function (which may be a type's own, and public)."""
+    """A struct, an enum, a name for a type, or a function (which may be a type's own, and public)."""
 
     def __init__(self, source, name, start, end, owner=None, public=False):
         self.source, self.name, self.start, self.end, self.owner, self.public = source, name, start, end, owner, public

@@ -1,6 +1,6 @@
 """Calls on books, and what they must answer: writes crates/book_vectors/stdin and stdout. Run at the top of the repository.
 
-The book here follows document 01 with Python's own numbers and zlib's CRC: a dictionary from price to level for each side. What a
+The book here follows documents 01 and 02 with Python's own numbers and zlib's CRC: a dictionary from price to level for each side. What a
 message says is read by message_vectors.py. Lines of input:
 
     = DIALECT DEPTH NAME    opens a book
@@ -247,6 +247,33 @@ def twice(files):
         files.ask_all(1)
 
 
+def meanings(files):
+    files.heading("names by meaning: taken, or not this book's, which then stays as it is")
+    files.open(*K10)
+    files.take(r'[1,{"\u0061s":[["10","1","1"]],"b\u0073":[]},"\u0062ook-10","XBT\/USD"]', 0)
+    files.ask("c")
+    update = files.message(False, [("9", "2")], [])
+    for pair in (b"XBT\\\\/USD", b"XBT\\u012fUSD", b"XBT/US\\u0064", b"XBT/USD\\u0020", b"XBT/USD\\n", b"\\ud800"):
+        files.take(update.replace(b"XBT/USD", pair), 5)
+        files.ask("c")
+    files.take(r'[1,2,"\n","trade"]', 5)
+    files.take(update.replace(b"XBT/USD", b"\\u0058BT\\u002fUSD").replace(b'"a"', b'"\\u0061"').replace(b'"c"', b'"\\u0063"'), 0)
+    files.ask_all(1)
+    files.take(update.replace(b'"c"', b'"\\u0061":[],"c"'), 6)
+    files.ask_all(1)
+    files.open(*M100)
+    files.take(files.message(True, [("9", "2")], [("10", "1")], 7).replace(b'"gsn"', b'"gs\\u006E"').replace(b'"book"', b'"boo\\u006b"'), 0)
+    files.ask_all(1)
+    update = files.message(False, [("8", "3")], [], 8)
+    files.take(update.replace(b"BTC-VND", b"BTC\\u002D\\u0056ND\\u0000"), 5)
+    files.take(update.replace(b"channel", b"c\\u0048annel"), 5)
+    files.ask("c")
+    files.take(update.replace(b"BTC-VND", b"BTC\\u002D\\u0056ND").replace(b"update", b"\\u0075pdate").replace(b"bids", b"\\u0062\\u0069\\u0064\\u0073"), 0)
+    files.ask_all(1)
+    files.take(files.message(False, [], [], 9).replace(b'"gsn"', b'"gs\\u006e":9,"gsn"'), 6)
+    files.ask_all(1)
+
+
 def cuts(files):
     files.heading("K cuts to the depth after the whole message; M refuses more than 100 levels")
     rows = [("%d.5" % price, "1") for price in range(1, 13)]
@@ -309,6 +336,7 @@ def main():
     depths(files)
     numbers(files)
     twice(files)
+    meanings(files)
     cuts(files)
     written(files, random.Random(6))
     for name, lines in (("stdin", files.cases), ("stdout", files.answers)):

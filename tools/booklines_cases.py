@@ -85,6 +85,11 @@ CASES = [
     ("a last line without a line end", b"K 10 A/B\n" + K, b"0 1 2\n"),
     ("a last line of one byte", b"K 10 A/B\n" + K + b"\nx", b"0 1 2\n3 - -\n"),
     ("a byte 13 before a line end", b"K 10 A/B\n" + K + b"\r\n", b"0 1 2\n"),
+    ("an escaped slash in the pair", opens(b"K 10 A/B", K.replace(b"A/B", b"A\\/B")), b"0 1 2\n"),
+    ("every byte of a name escaped", opens(b"K 10 A/B", K.replace(b"A/B", b"\\u0041\\u002f\\u0042").replace(b"as", b"\\u0061\\u0073")), b"0 1 2\n"),
+    ("a pair that means another", b"K 10 A/B\n" + K + b"\n" + K.replace(b"A/B", b"A\\\\/B") + b"\n", b"0 1 2\n5 1 2\n"),
+    ("a member twice by meaning", opens(b"K 10 A/B", K.replace(b'"as"', b'"\\u0061s":[],"as"')), b"6 - -\n"),
+    ("a product with an escape", opens(b"M 100 A-B", M.replace(b"A-B", b"A\\u002DB")), b"0 1 1\n"),
     ("a byte 0 in a line", b"K 10 A/B\n" + K + b"\n\0\n", b"0 1 2\n3 - -\n"),
 ]
 for size, answer in [(MAX_MESSAGE - 1, 0), (MAX_MESSAGE, 0), (MAX_MESSAGE + 1, 2), (100_000, 2), (1_000_000, 2)]:

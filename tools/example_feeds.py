@@ -52,6 +52,9 @@ def k_feed():
     bids = [("5541.25000", "0.75000000")] + bids
     asks = asks[:1]
     lines.append((k_update([("a", [("5542.70000", "0.00000000")]), ("b", [("5541.25000", "0.75000000")])], bids, asks), "0 3 1"))
+    # The pair as a gateway writes it: the same string.
+    bids = bids[1:]
+    lines.append((k_update([("b", [("5541.25000", "0.00000000")])], bids, asks).replace("XBT/USD", "XBT\\/USD"), "0 2 1"))
     return lines
 
 

@@ -1,7 +1,7 @@
 #!/usr/bin/env python3
-"""Writes the cases of crates/message_vectors (stdin) and what they must print (stdout), from document 01's rules alone: a reader of JSON
-that keeps positions, then checks 1 to 8 in their order. The answer number that stands with a message was found by reading document 01;
-the tool stops where its own rules find another. Run from the top of the repository."""
+"""Writes the cases of crates/message_vectors (stdin) and what they must print (stdout), from the rules of documents 01 and 02 alone: a
+reader of JSON that keeps positions, then checks 1 to 8 in their order. The answer number that stands with a message was found by reading
+these documents; the tool stops where its own rules find another. Run from the top of the repository."""
 import random
 import re
 
@@ -16,6 +16,8 @@ MAX_INPUT = 262144
 NUMBER = re.compile(rb"-?(?:0|[1-9][0-9]*)(?:\.[0-9]+)?(?:[eE][+-]?[0-9]+)?")
 STRING = re.compile(rb'"(?:[^"\\\x00-\x1f]|\\["\\/bfnrt]|\\u[0-9a-fA-F]{4})*"')
 BLANKS = re.compile(rb"[ \t\r\n]*")
+ESCAPE = re.compile(rb"\\(?:u(....)|(.))", re.DOTALL)
+SHORT = {b"b": 8, b"f": 12, b"n": 10, b"r": 13, b"t": 9}
 WORDS = (b"true", b"false", b"null")
 
 
@@ -34,11 +36,16 @@ class Value:
     def inside(self):
         return self.text[1:-1]
 
-    def escaped(self):
-        return self.kind == "string" and b"\\" in self.text
+    def means(self):
+        """The bytes that a string means; an escape that means no byte of 33 to 126 becomes a blank, which no name has."""
+        def meaning(found):
+            code = int(found[1], 16) if found[1] else SHORT.get(found[2], ord(found[2]))
+            return bytes([code]) if 33 <= code <= 126 else b" "
+
+        return ESCAPE.sub(meaning, self.inside())
 
     def equals(self, name):
-        return self.kind == "string" and self.inside() == name
+        return self.kind == "string" and self.means() == name
 
     def named(self, name):
         """The values of the members of a name."""
@@ -105,7 +112,7 @@ def read_message(text):
     return value
 
 
-# ---- document 01
+# ---- documents 01 and 02
 
 class Refused(Exception):
     def __init__(self, number, bad=None):
@@ -193,17 +200,14 @@ def entries(dialect, side):
 
 
 def addressed(dialect, depth, name, message):
-    """Checks 4 and 5."""
+    """Check 5; 4 is given no more."""
     if dialect == b"K":
         need(5, message.kind == "array" and len(message.held) in (4, 5))
         channel, pair = message.held[-2:]
-        need(4, not channel.escaped() and not pair.escaped())
         need(5, channel.equals(b"book-%d" % depth) and pair.equals(name))
     else:
         need(5, message.kind == "object")
-        need(4, not any(key.escaped() for key, _ in message.held))
         channels, products = message.named(b"channel"), message.named(b"product")
-        need(4, not any(value.escaped() for value in channels + products))
         need(5, any(value.equals(b"book") for value in channels) and any(value.equals(name) for value in products))
 
 
@@ -325,6 +329,68 @@ DECIMALS = ["1", "9999999999", "0.000000001", "9999999999.999999999", "0.05120",
 ZEROS = ["0", "0.0", "0.000000000"]
 
 
+def hexed(text, upper=False):
+    """Every byte as an escape."""
+    return "".join(("\\u%04X" if upper else "\\u%04x") % ord(letter) for letter in text)
+
+
+def spellings(name):
+    """Texts that mean the name: an escape in each place, in both cases of hex, and in all places."""
+    for at in range(len(name)):
+        for upper in (False, True):
+            yield name[:at] + hexed(name[at], upper) + name[at + 1:]
+    yield hexed(name)
+    yield hexed(name, True)
+    yield name.replace("/", "\\/")
+
+
+def misspellings(name):
+    """Texts that come near and mean something else."""
+    for escape in ("\\b", "\\f", "\\n", "\\r", "\\t", '\\"', "\\\\", "\\/", "\\u0020", "\\u007f", "\\u007F", "\\u0000", "\\u0100", "\\ud800", "\\ud83d\\ude00"):
+        yield name + escape
+        yield escape + name[1:]
+    yield name[:-1] + "\\u%02x00" % ord(name[-1])
+    yield name[:-1] + "\\u01%02x" % ord(name[-1])
+    yield name[:-1] + "\\uff%02x" % (ord(name[-1]) - 32)
+    yield name[:-1] + "\\" + hexed(name[-1])
+    yield name[:-1] + "\\\\" + name[-1]
+    yield hexed(name[:-1])
+    yield hexed(name + name[-1])
+    swapped = ord(name[0]) % 16 * 16 + ord(name[0]) // 16
+    if swapped != ord(name[0]):
+        yield "\\u%04x" % swapped + name[1:]
+
+
+def escape_cases():
+    """Names that are written with escapes, for both dialects, with the settings for them."""
+    snapshot = k_snapshot(rows(k_row()))
+    yield (b"K", 10, b"XBT/USD"), "K: names by meaning", (
+        [(0, k(snapshot, pair='"%s"' % text)) for text in spellings("XBT/USD")] + [(0, k(snapshot, channel='"%s"' % text)) for text in spellings("book-10")]
+        + [(5, k(snapshot, pair='"%s"' % text)) for text in misspellings("XBT/USD")] + [(5, k(snapshot, channel='"%s"' % text)) for text in misspellings("book-10")]
+        + [(0, k('{"%s":[],"%s":[]}' % (hexed("as"), hexed("bs", True)))), (0, k('{"%s":[]}' % hexed("a"), '{"%s":[],"%s":"1"}' % (hexed("b"), hexed("c"))))]
+        + [(6, k('{"as":[],"bs":[],"%s":[]}' % hexed(name))) for name in ("as", "bs", "a", "b", "c")]
+        + [(6, k('{"a":[],"b":[],"c":"1","%s":[]}' % hexed(name))) for name in ("as", "bs", "a", "b", "c")]
+        + [(0, k('{"as":[],"bs":[],"%s":[]}' % text)) for name in ("as", "c") for text in misspellings(name) if text != hexed("a")])
+    for name in ("a", "~", "/", "0123456789abcdef", "JKLMNO/jklmno-!~"):
+        yield (b"K", 10, name.encode()), "K: a name of %d" % len(name), (
+            [(0, k(snapshot, pair='"%s"' % text)) for text in list(spellings(name))[-3:]] + [(5, k(snapshot, pair='"%s"' % text)) for text in misspellings(name)][-9:])
+        yield (b"M", 100, name.encode()), "M: a name of %d" % len(name), (
+            [(0, m(("product", '"%s"' % text), leave=["product"])) for text in list(spellings(name))[-3:]]
+            + [(5, m(("product", '"%s"' % text), leave=["product"])) for text in misspellings(name)][-9:])
+    yield M_BOOK, "M: names by meaning", (
+        [(0, m(("product", '"%s"' % text), leave=["product"])) for text in spellings("BTC-VND")]
+        + [(0, m(("channel", '"%s"' % text), leave=["channel"])) for text in spellings("book")]
+        + [(0, m(("type", '"%s"' % text), leave=["type"])) for kind in ("snapshot", "update") for text in list(spellings(kind))[::3]]
+        + [(5, m(("product", '"%s"' % text), leave=["product"])) for text in misspellings("BTC-VND")]
+        + [(5, m(("channel", '"%s"' % text), leave=["channel"])) for text in misspellings("book")]
+        + [(6, m(("type", '"%s"' % text), leave=["type"])) for text in misspellings("update")]
+        + [(0, m((hexed(name), value), leave=[name])) for name, value in m_pairs()] + [(6, m((hexed(name, True), value))) for name, value in m_pairs()]
+        + [(0, m((text, "null"))) for name in ("gsn", "data") for text in misspellings(name)]
+        + [(0, "{%s}" % ",".join('"%s":%s' % (hexed(name), value) for name, value in m_pairs())),
+           (0, m(data='{"%s":[],"%s":[]}' % (hexed("bids"), hexed("asks", True)))), (6, m(data='{"bids":[],"asks":[],"%s":[]}' % hexed("bids"))),
+           (6, m(data='{"bids":[],"asks":[],"ask\\u0073":5}')), (0, m(data='{"bids":[],"asks":[],"ask\\u0173":5}'))])
+
+
 def json_cases():
     yield "not JSON, or JSON with odd values"
     for text in ("", " ", " \t\r ", "x", "nul", "nulll", "True", "NaN", "Infinity", "'a'", '"', '"a', '"a" "b"', "[", "]", "[]]", "[1,]", "[,]",
@@ -374,7 +440,7 @@ def length_cases():
     for dialect, text in (("K", k(k_snapshot())), ("K", k(k_update())), ("M", m()), ("M", m(kind="update"))):
         yield 0, text, dialect, 32768
         yield 2, text, dialect, 32769
-    for number, text in ((3, ""), (3, "x"), (3, "[1]]"), (5, "[1,2,3]"), (4, '[1,2,"\\n","trade"]'), (6, k("{}")),
+    for number, text in ((3, ""), (3, "x"), (3, "[1]]"), (5, "[1,2,3]"), (5, '[1,2,"\\n","trade"]'), (6, k("{}")),
                          (8, k(k_snapshot(rows(k_row("0")))))):
         yield number, text, "K", 32767
         yield number, text, "K", 32768
@@ -397,11 +463,12 @@ def k_address_cases():
         yield 5, k(snapshot, pair=pair)
     yield 5, k(snapshot, channel='"XBT/USD"', pair='"book-10"')
     yield 5, '["book-10","XBT/USD",0,%s]' % snapshot
-    yield "K: a backslash in either of the last two elements"
-    for channel, pair in (('"book-10"', '"XBT\\/USD"'), ('"book\\u002d10"', '"XBT/USD"'), ('"\\n"', '"trade"'), ('"trade"', '"\\\\"'), ("7", '"\\n"'),
-                          ('"\\n"', "7"), ('"\\n"', '"\\n"'), ("[]", '"BTC\\/USD"')):
-        yield 4, k(snapshot, channel=channel, pair=pair)
-        yield 4, k("1", "2", channel=channel, pair=pair)
+    yield "K: escapes in the last two elements"
+    for ours, channel, pair in ((True, '"book-10"', '"XBT\\/USD"'), (True, '"book\\u002d10"', '"XBT/USD"'), (False, '"\\n"', '"trade"'),
+                                (False, '"trade"', '"\\\\"'), (False, "7", '"\\n"'), (False, '"\\n"', "7"), (False, '"\\n"', '"\\n"'),
+                                (False, "[]", '"BTC\\/USD"')):
+        yield 0 if ours else 5, k(snapshot, channel=channel, pair=pair)
+        yield 6 if ours else 5, k("1", "2", channel=channel, pair=pair)
         yield 5, "[%s,%s,%s]" % (snapshot, channel, pair)
         yield 5, k(snapshot, snapshot, "1", channel=channel, pair=pair)
     yield 5, '{"channel":"book-10","a\\n":"\\n"}'
@@ -436,13 +503,13 @@ def k_object_cases():
     yield "K: snapshots"
     for good in ('{"as":[],"bs":[]}', '{"bs":[],"as":[]}', '{"x":1,"as":[],"y":[["0","0"]],"bs":[],"x":2}',
                  '{"as":[],"bs":[],"AS":1,"asks":2,"":3,"d":4,"ab":5,"aas":6}',
-                 '{"as":[],"bs":[],"\\u0061s":[]}', '{"as":[],"bs":[],"\\u0063":"1"}', '{"as":[],"bs":[],"a\\n":[["0","0"]]}',
+                 '{"\\u0061s":[],"bs":[]}', '{"as":[],"b\\u0073":[]}', '{"as":[],"bs":[],"a\\n":[["0","0"]]}',
                  '{"as":[],"bs":[],"x":{"c":"1","as":[]}}', '{"as":[],"bs":[],"channel":"\\n"}'):
         yield 0, k(good)
     for bad in ('{"as":[]}', '{"bs":[]}', '{"as":[],"as":[],"bs":[]}', '{"as":[],"bs":[],"bs":[]}', '{"as":[],"bs":[],"as":5}',
                 '{"as":[],"bs":[],"a":[]}', '{"as":[],"bs":[],"b":[]}',
                 '{"as":[],"bs":[],"c":"1"}', '{"as":[],"bs":[],"c":1}', '{"as":[],"bs":[],"a":[],"b":[],"c":"1"}', '{"as":[],"b":[],"c":"1"}',
-                '{"\\u0061s":[],"bs":[]}', '{"as":[],"b\\u0073":[]}',
+                '{"as":[],"bs":[],"\\u0061s":[]}', '{"as":[],"bs":[],"\\u0063":"1"}',
                 '{"as":[],"asks":[]}', '{"x":{"as":[],"bs":[]}}', '{"as":[],"b":[]}', '{"a":[],"bs":[]}'):
         yield 6, k(bad)
     yield "K: a snapshot of two objects"
@@ -455,20 +522,22 @@ def k_object_cases():
 def k_update_cases():
     yield "K: updates of one object"
     for good in ('{"a":[],"c":"1"}', '{"b":[],"c":"1"}', '{"a":[],"b":[],"c":"1"}', '{"c":"1","b":[],"a":[]}',
-                 '{"x":1,"c":"1","x":[["0","0"]],"b":[]}', '{"a":[],"c":"1","\\u0061":5,"\\u0063":5,"C":6}',
-                 '{"b":[],"c":"1","\\u0062s":5,"\\u0062":[]}'):
+                 '{"x":1,"c":"1","x":[["0","0"]],"b":[]}', '{"\\u0061":[],"c":"1"}', '{"a":[],"\\u0063":"1"}',
+                 '{"a":[],"c":"1","a\\n":5,"\\u0020c":5,"C":6}'):
         yield 0, k(good)
     for bad in ('{"c":"1"}', '{"a":[]}', '{"b":[]}', '{"a":[],"b":[]}', '{"a":[],"a":[],"c":"1"}', '{"b":[],"a":[],"b":[],"c":"1"}',
                 '{"a":[],"c":"1","c":"1"}', '{"a":[],"c":"1","as":[]}', '{"a":[],"c":"1","bs":[]}',
-                '{"\\u0061":[],"c":"1"}', '{"a":[],"\\u0063":"1"}', '{"A":[],"c":"1"}', '{"a":[],"c":"1","c":5}', '{"x":{"a":[],"c":"1"}}'):
+                '{"a":[],"c":"1","\\u0061":5}', '{"a":[],"c":"1","\\u0063":5}', '{"b":[],"c":"1","\\u0062s":5}',
+                '{"b":[],"c":"1","\\u0062":[]}', '{"A":[],"c":"1"}', '{"a":[],"c":"1","c":5}', '{"x":{"a":[],"c":"1"}}'):
         yield 6, k(bad)
     yield "K: updates of two objects"
     for pair in (('{"a":[]}', '{"b":[],"c":"1"}'), ('{"b":[]}', '{"a":[],"c":"1"}'), ('{"a":[],"x":1}', '{"c":"1","b":[],"x":2}'),
-                 ('{"a":[],"\\u0063":1}', '{"b":[],"c":"1"}'), ('{"b":[],"x":{"c":"1"}}', '{"a":[],"c":"1"}')):
+                 ('{"\\u0061":[],"\\u0163":1}', '{"\\u0062":[],"c":"1"}'), ('{"b":[],"x":{"c":"1"}}', '{"a":[],"c":"1"}')):
         yield 0, k(*pair)
     for pair in (('{"a":[]}', '{"a":[],"c":"1"}'), ('{"b":[]}', '{"b":[],"c":"1"}'), ('{"a":[],"b":[]}', '{"b":[],"c":"1"}'),
                  ('{"a":[]}', '{"a":[],"b":[],"c":"1"}'), ('{"a":[],"b":[]}', '{"c":"1"}'), ('{"a":[]}', '{"c":"1"}'),
                  ("{}", '{"a":[],"b":[],"c":"1"}'), ('{"a":[],"c":"1"}', '{"b":[]}'), ('{"a":[],"c":"1"}', '{"b":[],"c":"1"}'),
+                 ('{"a":[],"\\u0063":1}', '{"b":[],"c":"1"}'), ('{"a":[]}', '{"\\u0061":[],"c":"1"}'),
                  ('{"a":[]}', '{"b":[],"c":"1","c":"1"}'), ('{"a":[]}', '{"b":[]}'), ('{"a":[],"c":"1"}', "{}"),
                  ('{"c":"1"}', '{"a":[],"b":[]}'), ('{"a":[],"a":[]}', '{"b":[],"c":"1"}'), ('{"c":"1"}', '{"a":[],"b":[],"c":"1"}'),
                  ('{"a":[],"b":[]}', '{"a":[],"b":[],"c":"1"}')):
@@ -523,14 +592,16 @@ def m_address_cases():
     yield 6, m(("channel", '"book"'))
     yield 6, '{"product":"x","channel":"y","product":"BTC-VND","channel":"book"}'
     yield 6, '{"channel":"book","product":"BTC-VND"}'
-    yield "M: a backslash in a key of the object, in channel or in product"
+    yield "M: escapes in keys of the object, in channel and in product"
     for text in ('{"a\\n":1}', '{"\\u0061":1}', '{"x":1,"\\\\":2}', '{"chann\\u0065l":"trades"}', '{"channel":"bo\\u006fk"}', '{"channel":"\\n"}',
                  '{"product":"BTC\\/USD"}', '{"product":"\\n","channel":"trades"}',
-                 '{"channel":"trades","channel":"\\n"}', '{"channel":"\\n","channel":"trades"}', '{"product":7,"product":"\\n"}', m(("x\\t", "1")),
-                 m(("dat\\u0061", "1")), m(("\\u0063hannel", '"book"')), m(("channel", '"boo\\u006b"')),
-                 m(("product", '"BTC\\u002dVND"'), leave=["product"]), m(("product", '"BTC\\u002dVND"')),
-                 m(("t\\u0079pe", '"update"'), leave=["type"])):
-        yield 4, text
+                 '{"channel":"trades","channel":"\\n"}', '{"channel":"\\n","channel":"trades"}', '{"product":7,"product":"\\n"}'):
+        yield 5, text
+    for text in (m(("dat\\u0061", "1")), m(("\\u0063hannel", '"book"')), m(("channel", '"boo\\u006b"')), m(("product", '"BTC\\u002dVND"')),
+                 '{"channel":"trades","ch\\u0061nnel":"book","product":"BTC-VND"}'):
+        yield 6, text
+    for text in (m(("x\\t", "1")), m(("product", '"BTC\\u002dVND"'), leave=["product"]), m(("t\\u0079pe", '"update"'), leave=["type"])):
+        yield 0, text
     for text in ('{"x":"\\n"}', '{"type":"\\n"}', '{"x":{"a\\n":1}}', '{"channel":["\\n"],"product":{"\\n":"\\n"}}',
                  '{"data":{"channel":"\\n","product":"\\n"}}', '{"Channel":"\\n"}', '{"channels":"\\n"}'):
         yield 5, text
@@ -552,18 +623,21 @@ def m_layout_cases():
         yield 0, m((name, value), leave=[name])
     yield 0, members(*reversed(m_pairs()))
     yield 0, m(("x", "1"), ("x", "[2]"), ("", "{}"), ("bids", "5"), ("asks", "6"), ("as", "7"), ("c", "8"), ("sequence", "-1"))
-    for kind in ("heartbeat", "Snapshot", "updates", "", "snap\\u0073hot", "update\\n", "snapshot "):
+    for kind in ("heartbeat", "Snapshot", "updates", "", "update\\n", "snapshot ", "snap\\u0053hot", "\\u0175pdate", "s\\napshot"):
         yield 6, m(kind=kind)
+    for kind in ("snap\\u0073hot", "\\u0075pdate", "updat\\u0065"):
+        yield 0, m(kind=kind)
     for kind in ("7", "null", '["update"]', '{"update":1}'):
         yield 6, m(("type", kind), leave=["type"])
     yield "M: data"
     for bad in ("[]", "null", "7", '"x"', "{}", '{"bids":[]}', '{"asks":[]}', '{"bids":[],"asks":[],"bids":[]}', '{"asks":[],"bids":[],"asks":[]}',
-                '{"bi\\u0064s":[],"asks":[]}', '{"bids":[],"\\u0061sks":[]}', '{"Bids":[],"asks":[]}',
+                '{"bi\\u0064s":[],"asks":[],"bids":[]}', '{"bids":[],"\\u0061sks":[],"asks":[]}', '{"Bids":[],"asks":[]}',
                 '{"x":{"bids":[],"asks":[]}}', '[{"bids":[],"asks":[]}]', '{"bids":[],"asks":[],"asks":null}'):
         yield 6, m(data=bad)
         yield 6, m(kind="update", data=bad)
     for good in ('{"asks":[],"bids":[]}', '{"bids":[],"asks":[],"gsn":5}', '{"gsn":"x","bids":[],"gsn":-1,"asks":[],"checksum":null}',
-                 '{"bids":[],"asks":[],"bi\\u0064s":5,"a":6,"as":7,"data":8}', '{ "bids" : [ ] , "asks" : [ ] }'):
+                 '{"bi\\u0064s":[],"asks":[]}', '{"bids":[],"\\u0061sks":[]}',
+                 '{"bids":[],"asks":[],"bi\\u0164s":5,"a":6,"as":7,"data":8}', '{ "bids" : [ ] , "asks" : [ ] }'):
         yield 0, m(data=good)
         yield 0, m(kind="update", data=good)
     yield "M: checksum and gsn are JSON numbers written as whole numbers"
@@ -728,7 +802,7 @@ def random_k(pick):
     layouts = [["as", "bs"]], [["a", "b", "c"]], [["a", "c"]], [["b", "c"]], [["a"], ["b", "c"]], [["b"], ["a", "c"]]
     objects = [random_object(pick, names, value, spare) for names in pick.choice(layouts)]
     number = str(pick.randrange(10 ** 19)) if pick.random() < 0.97 else pick.choice(NOT_WHOLE)
-    pair = '"XBT/USD"' if pick.random() < 0.96 else pick.choice(['"XBT/EUR"', '"XBT\\/USD"', "7"])
+    pair = '"XBT/USD"' if pick.random() < 0.9 else pick.choice(['"XBT/EUR"', '"XBT\\/USD"', '"XBT\\u002fUSD"', '"XBT\\u012fUSD"', "7"])
     return k(*objects, number=number, pair=pair)
 
 
@@ -815,6 +889,10 @@ def main():
     files.add_all(decimal_cases(lambda bids, asks: m(data=m_data(bids, asks)), lambda bids, asks: m(kind="update", data=m_data(bids, asks)), m_row, "M"), "M")
     for group in (both_orders_cases, nesting_cases, length_cases):
         files.add_all(group(), "K")
+    for settings, heading, cases in escape_cases():
+        files.choose(settings)
+        files.say(b"# " + heading.encode())
+        files.add_all(cases)
     files.say(b"# settings")
     for settings, cases in settings_cases():
         files.choose(settings)

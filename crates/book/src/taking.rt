@@ -150,7 +150,7 @@ fn try_entries(
 {
     let settings = header.settings;
     let dialect = settings.dialect;
-    let entered = enter(header, outline, bids, asks, buffer);
+    let entered = enter(header, outline, bids, asks, buffer, table);
     let bid_side = entered.bids;
     let ask_side = entered.asks;
     let answer = weigh(outline, dialect, bid_side, ask_side, bids, asks, table);
@@ -179,8 +179,9 @@ fn enter(
     bids: &mut [u64; MAX_WORDS],
     asks: &mut [u64; MAX_WORDS],
     buffer: &[u64; BUFFER_WORDS],
+    table: &[u32],
 ) -> Entered
-    requires { ⌜ Passed (bookOf (now bids) (now asks) header) outline (now buffer) ⌝ }
+    requires { ⌜ Passed (bookOf (now bids) (now asks) header) outline (now buffer) × ShiftTable (now table) ⌝ }
     ensures { λ r. ⌜ SidesAfter (bookOf (now (bids .entry)) (now (asks .entry)) header) outline (now (buffer .entry)) (sideAfter (now (bids .exit)) (r .bids)) (sideAfter (now (asks .exit)) (r .asks)) ⌝ }
 {
     let settings = header.settings;
@@ -200,6 +201,7 @@ fn enter(
         buffer,
         outline.bids,
         count,
+        table,
     );
     let asks_before = count_before(kind, header.asks);
     let ask_side = apply_entries(
@@ -211,6 +213,7 @@ fn enter(
         buffer,
         outline.asks,
         count,
+        table,
     );
     Entered {
         bids: bid_side,

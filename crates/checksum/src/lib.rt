@@ -5,7 +5,7 @@
 // does not touch. A side is lent as its words and the number of its levels, and is not copied. The table is one that
 // `crc32::fill_table` filled; one of no entries will do, and is slower.
 //
-//     let level = checksum::level_of(SumText::Stripped, price, size);
+//     let level = checksum::level_of(SumText::Stripped, price, size, table);
 //     checksum::k_checksum(10, &bids.words, bids.count, &asks.words, asks.count, table)  // of the ten best asks, then the ten best bids
 ghost use mathlib.Core.Path.{_≡_};
 ghost use mathlib.Core.List.{map};
@@ -33,21 +33,21 @@ use settings::SumText;
 const M_START: u32 = 4036333539;
 
 // The level of a price and a size, with the sum and the length of its piece of that text.
-pub fn level_of(text: SumText, price: Decimal, size: Decimal) -> Level
-    requires { ⌜ Within (number price) × Within (number size) ⌝ }
+pub fn level_of(text: SumText, price: Decimal, size: Decimal, table: &[u32]) -> Level
+    requires { ⌜ Within (number price) × Within (number size) × ShiftTable (now table) ⌝ }
     ensures { λ r. ⌜ r ≡ levelFor text (number price) (number size) ⌝ }
 {
-    let piece = piece_of(text, price, size);
+    let piece = piece_of(text, price, size, table);
     level::make(price, size, piece.sum, piece.length)
 }
 
-fn piece_of(text: SumText, price: Decimal, size: Decimal) -> Piece
-    requires { ⌜ Within (number price) × Within (number size) ⌝ }
+fn piece_of(text: SumText, price: Decimal, size: Decimal, table: &[u32]) -> Piece
+    requires { ⌜ Within (number price) × Within (number size) × ShiftTable (now table) ⌝ }
     ensures { λ r. ⌜ SumsTo (pieceOf text (number price) (number size)) r ⌝ }
 {
     match text {
-        SumText::Stripped => piece::k_piece(price, size),
-        SumText::Interleaved => piece::m_piece(price, size),
+        SumText::Stripped => piece::k_piece(price, size, table),
+        SumText::Interleaved => piece::m_piece(price, size, table),
     }
 }
 

@@ -161,8 +161,19 @@ fn run_side(levels: Levels, side: Side, text: SumText, depth: usize, s: &[u8]) -
 {
     let mut buffer = [0u64; BUFFER_WORDS];
     let n = read_entries(s, side, &mut buffer);
+    let mut table = [0; TABLE];
+    crc32::fill_table(&mut table);
     let mut words = levels.words;
-    let applied = side::apply(&mut words, levels.count, side, depth, text, &buffer, n);
+    let applied = side::apply(
+        &mut words,
+        levels.count,
+        side,
+        depth,
+        text,
+        &buffer,
+        n,
+        &table,
+    );
     say_number(applied.count as u64);
     if applied.replaced {
         say(b" 1\n");

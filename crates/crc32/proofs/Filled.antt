@@ -45,6 +45,16 @@ filled-one before {x} {y} f g =
     let e : length x ≡ length y = f .long ∙ sym (g .long) in
     ext-getD 0 x y e (λ i h. f .right .holds i h ∙ sym (g .right .holds i (omega arith)))
 
+-- ---- one look-up: a byte in the row of the length that follows it
+
+pub byte-row : (table : List ℕ) → ShiftTable table → (i n b : ℕ) → n < length table / 256 → b < 256 → i ≡ 256 * n + b → getD table i 0 ≡ bits (8 * (n + 1)) b
+unfolding movedByte
+byte-row table right i n b h l e =
+    let inside : i < length table = omega arith in
+    let q : i / 256 + 1 ≡ n + 1 = omega arith in
+    let r : i % 256 ≡ b = omega arith in
+    right .holds i inside ∙ ap₂ (λ (k x : ℕ). bits (8 * k) x) q r
+
 -- ---- four look-ups
 
 module _ (table : List ℕ) (right : ShiftTable table) (n : ℕ) (far : 4 ≤ n) (long : n ≤ length table / 256) where

@@ -6,9 +6,8 @@ use native.Mathlib.Nat.{div-eq-of-lt, mod-eq-of-lt, mod-lt, mod-one, mul-mod-lef
 use native.Mathlib.Omega.{arith}
 use lib.Pow.{shl-shr, mod-pow-add, pow-pos, pow-mono}
 use lib.Bits.{bitXor, xor-shr, xor-mod, xor-comm}
-use lib.Dec.{lit<}
 use Rattle.crc32_spec.specs.Crc.{bits}
-use Rattle.crc32_spec.specs.Laws.{peel, bits-add, xor-assoc}
+use Rattle.crc32_spec.specs.Laws.{peel, bits-add}
 use Rattle.crc32_spec.specs.Text.{whole-word}
 
 -- ---- states
@@ -72,18 +71,6 @@ short n w piece lower h e f =
 pub short-word : (n s w piece lower r : ℕ) → n < 4 → piece ≡ w % 2 ^ (8 * n) → lower ≡ piece % 2 ^ 32 → r ≡ bits (8 * n) (bitXor s lower) →
     r ≡ bits (8 * n) (bitXor s (w % 2 ^ (8 * n)))
 short-word n s w piece lower r h e f g = g ∙ ap (λ (x : ℕ). bits (8 * n) (bitXor s x)) (short n w piece lower (omega arith) e f)
-
--- ---- a word in front of a text
-
-pub short-front : (m n s w piece lower q : ℕ) → n ≤ 4 → piece ≡ w % 2 ^ (8 * n) → lower ≡ piece % 2 ^ 32 → q ≡ bits m lower →
-    bitXor q s ≡ bitXor (bits m (w % 2 ^ (8 * n))) s
-short-front m n s w piece lower q h e f g = ap (λ (x : ℕ). bitXor x s) (g ∙ ap (bits m) (short n w piece lower h e f))
-
-pub two-halves-front : (m s w piece lower upper p q : ℕ) → 4 ≤ m → piece ≡ w → lower ≡ piece % 2 ^ 32 → upper ≡ piece / 2 ^ 32 →
-    p ≡ bits (8 * (m - 4)) upper → q ≡ bits (8 * m) lower → bitXor p (bitXor q s) ≡ bitXor (bits (8 * m) w) s
-two-halves-front m s w piece lower upper p q l e el eu ep eq =
-    sym (xor-assoc p q s)
-    ∙ ap (λ (x : ℕ). bitXor x s) (two-halves m 0 piece lower upper p q l (lit< tt) el eu ep eq ∙ ap (bits (8 * m)) e)
 
 -- ---- the lowest bytes of a word
 

@@ -1,13 +1,14 @@
-// States moved by way of a table that is lent: four look-ups, and no test of how far but one.
+// States moved by way of a table that is lent: four look-ups, one for a byte, and no test of how far but one.
 //
 // There are no global arrays, so whoever sums much fills a table once and lends it. A table may have any number of rows, also none:
 // what is past its rows is moved without it.
 ghost use mathlib.Core.Path.{_≡_};
-ghost use Prim.Native.Nat.{_*_, _/_, _%_, _^_, _<_};
+ghost use Prim.Native.Nat.{_+_, _*_, _/_, _%_, _^_, _<_};
 ghost use lib.Bits.{bitXor};
 ghost use Rattle.crc32_spec.specs.Crc.{bits};
 ghost use Rattle.crc32.specs.Table.{ShiftTable, FilledTable};
 use crate::lookup::shift;
+use crate::pieces::front;
 
 // The entries of a row, one for each byte.
 const ROW: usize = 256;
@@ -32,6 +33,17 @@ pub fn combine_with(table: &[u32], a: u32, b: u32, n: usize) -> u32
     ensures { λ r. ⌜ r ≡ bitXor (bits (8 * n) a) b ⌝ }
 {
     shift_with(table, a, n) ^ b
+}
+
+// The state, from 0, of a text with one more byte in front, as `front` has it.
+pub fn front_with(table: &[u32], b: u8, s: u32, n: u64) -> u32
+    requires { ⌜ ShiftTable (now table) ⌝ }
+    ensures { λ r. ⌜ r ≡ bitXor (bits (8 * (n + 1)) b) s ⌝ }
+{
+    if n < (table.len() / ROW) as u64 {
+        return table[ROW * (n as usize) + (b as usize)] ^ s;
+    }
+    front(b, s, n)
 }
 
 // The state moved by n bytes.

@@ -12,13 +12,13 @@ pub fn step(s: u32, b: u8) -> u32
     shift(s ^ (b as u32), 1)
 }
 
-pub(crate) fn lower_half(w: u64) -> u32
+fn lower_half(w: u64) -> u32
     ensures { λ r. ⌜ r ≡ w % 2 ^ 32 ⌝ }
 {
     (w % 4294967296) as u32
 }
 
-pub(crate) fn upper_half(w: u64) -> u32
+fn upper_half(w: u64) -> u32
     ensures { λ r. ⌜ r ≡ w / 2 ^ 32 ⌝ }
 {
     (w / 4294967296) as u32
@@ -32,7 +32,7 @@ pub fn absorb8(s: u32, w: u64) -> u32
 }
 
 // The lowest n bytes of w.
-pub(crate) fn low_bytes(w: u64, n: u64) -> u64
+fn low_bytes(w: u64, n: u64) -> u64
     requires { ⌜ n ≤ 8 ⌝ }
     ensures { λ r. ⌜ r ≡ w % 2 ^ (8 * n) ⌝ }
 {

@@ -1,16 +1,13 @@
--- A text in front of a piece, its last bytes gathered in a word before they are summed: what the sum and the length become. Assumes nothing.
+-- A text in front of a piece, its last byte first: what the sum and the length become. Assumes nothing.
 use mathlib.Core.Path.{_≡_, refl, sym, ap, ap₂, _∙_, subst}
 use mathlib.Core.List.{List, [], _∷_, _++_, append-nil}
-use Prim.Native.Nat.{ℕ, zero, suc, _+_, _*_, _%_, _^_, _<_, _≤_}
-use native.Mathlib.Nat.{add-comm, lt-of-lt-of-le, mod-eq-of-lt}
-use native.Mathlib.Omega.{arith}
+use Prim.Native.Nat.{ℕ, _+_, _*_}
+use native.Mathlib.Nat.{add-comm}
 use native.Mathlib.Numerals.{add-one}
-use lib.Arith.{digits-lt}
-use lib.Pow.{pow-add, pow-mono}
-use lib.Bits.{bitXor, xor-comm, xor-shifted, xor-zero-r}
+use lib.Bits.{bitXor, xor-comm, xor-zero-r}
 use lib.ListN.{length, length-append}
 use Rattle.crc32_spec.specs.Crc.{bits, step, run}
-use Rattle.crc32_spec.specs.Laws.{xor-assoc, bits-xor, bits-zero, bits-even}
+use Rattle.crc32_spec.specs.Laws.{xor-assoc, bits-xor, bits-zero}
 use Rattle.crc32_spec.specs.Text.{bits-byte, run-pieces, run-front}
 use Rattle.decimal.specs.Tail.{remaining}
 use Rattle.decimal.specs.declared.Tail.{Tail}
@@ -37,45 +34,13 @@ front-last l b n s =
     joined : bitXor (bits 8 (run 0 l)) (bits 8 b) ≡ run 0 (l ++ (b ∷ []))
     joined = ap (bitXor (bits 8 (run 0 l))) (sym (one-byte b)) ∙ sym (run-pieces l (b ∷ []) 0)
 
--- a text in front of a word, in front of a piece: s is the piece's sum, and m the length of the word and the piece
-abbrev pub ahead : List ℕ → ℕ → ℕ → ℕ → ℕ
-ahead l w m s = bitXor (bits (8 * m) (run 0 l)) (bitXor (bits (8 * m) w) s)
+-- a text in front of a piece
+abbrev pub ahead : List ℕ → Piece → ℕ
+ahead l p = bitXor (bits (8 * p .length) (run 0 l)) (p .sum)
 
--- the last byte of the text becomes the first of the word
-pub ahead-byte : (l : List ℕ) (b w m j s : ℕ) → b < 256 → j ≡ m + 1 → ahead l (w * 256 + b) j s ≡ ahead (l ++ (b ∷ [])) w m s
-ahead-byte l b w m j s h e =
-    ap (λ (k : ℕ). ahead l (w * 256 + b) k s) e
-    ∙ ap (bitXor (bits (8 * (m + 1)) (run 0 l))) (ap (λ (x : ℕ). bitXor x s) apart ∙ xor-assoc (bits (8 * (m + 1)) b) (bits (8 * m) w) s)
-    ∙ front-last l b m (bitXor (bits (8 * m) w) s)
-  where
-    apart : bits (8 * (m + 1)) (w * 256 + b) ≡ bitXor (bits (8 * (m + 1)) b) (bits (8 * m) w)
-    apart =
-        ap (bits (8 * (m + 1))) (sym (xor-shifted w 8 b h))
-        ∙ bits-xor (8 * (m + 1)) (w * 256) b
-        ∙ xor-comm (bits (8 * (m + 1)) (w * 256)) (bits (8 * (m + 1)) b)
-        ∙ ap (bitXor (bits (8 * (m + 1)) b)) (one-more m (w * 256) ∙ ap (bits (8 * m)) (bits-even 8 w))
-
--- the sum with the word in front, where the word has no more than its bytes
-pub summed : (m j w s r : ℕ) → w < 2 ^ (8 * j) → r ≡ bitXor (bits (8 * m) (w % 2 ^ (8 * j))) s → r ≡ bitXor (bits (8 * m) w) s
-summed m j w s r h e = e ∙ ap (λ (x : ℕ). bitXor (bits (8 * m) x) s) (mod-eq-of-lt h)
-
--- the word becomes a part of the piece
-pub ahead-summed : (l : List ℕ) (w m i s r : ℕ) → i ≡ m → r ≡ bitXor (bits (8 * m) w) s → ahead l 0 i r ≡ ahead l w m s
-ahead-summed l w m i s r e f =
-    ap (λ (k : ℕ). ahead l 0 k r) e ∙ ap (bitXor (bits (8 * m) (run 0 l))) (ap (λ (x : ℕ). bitXor x r) (bits-zero (8 * m)) ∙ zero-xor r ∙ f)
-
-pub ahead-none : (l : List ℕ) (m i s : ℕ) → i ≡ m → ahead l 0 i s ≡ bitXor (bits (8 * m) (run 0 l)) s
-ahead-none l m i s e =
-    ap (λ (k : ℕ). ahead l 0 k s) e ∙ ap (bitXor (bits (8 * m) (run 0 l))) (ap (λ (x : ℕ). bitXor x s) (bits-zero (8 * m)) ∙ zero-xor s)
-
--- a word of k bytes, and of one more
-pub word-small : (k w : ℕ) → k < 8 → w < 2 ^ (8 * k) → w < 2 ^ 56
-word-small k w l h = let m : 8 * k ≤ 56 = omega arith in lt-of-lt-of-le h (pow-mono m)
-
-pub word-next : (k w b : ℕ) → w < 2 ^ (8 * k) → b < 256 → w * 256 + b < 2 ^ (8 * (k + 1))
-word-next k w b h l =
-    let z : 8 * k + 8 ≡ 8 * (k + 1) = omega arith in
-    subst (λ (n : ℕ). w * 256 + b < n) (sym (pow-add 2 (8 * k) 8) ∙ ap (λ (n : ℕ). 2 ^ n) z) (digits-lt h l)
+-- the last byte of the text becomes the first of the piece
+pub ahead-byte : (l : List ℕ) {b : ℕ} {p r : Piece} → Fronted b p r → ahead l r ≡ ahead (l ++ (b ∷ [])) p
+ahead-byte l {b} {p} {r} f = ap₂ (λ (n s : ℕ). bitXor (bits (8 * n) (run 0 l)) s) (f .long) (f .sum) ∙ front-last l b (p .length) (p .sum)
 
 pub front-none : (n s : ℕ) → bitXor (bits (8 * n) (run 0 [])) s ≡ s
 unfolding run

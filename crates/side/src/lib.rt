@@ -1,11 +1,12 @@
 // A message's entries applied to one side of an order book, in their written order; then, and never between entries, the side is cut
 // to its best `depth` levels. The entries lie in a buffer with those for the other side; an entry says which side it is for.
 //
-//     let applied = side::apply(&mut bids, count, Side::Bids, 10, SumText::Stripped, &buffer, entries);
+//     let applied = side::apply(&mut bids, count, Side::Bids, 10, SumText::Stripped, &buffer, entries, table);
 //     level::level_at(Levels { words: bids, count: applied.left }, 0)        // the best bid now
 ghost use mathlib.Core.Path.{_≡_};
 ghost use Prim.Native.Nat.{_≤_, _<_};
 ghost use lib.ListN.{length, take, getD};
+ghost use Rattle.crc32.specs.Table.{ShiftTable};
 ghost use Rattle.edit.specs.Buffer.{maxBuffered, bufferWords, entriesIn, noNumbers};
 ghost use Rattle.level.specs.Ranked.{mapEdit, IfSet};
 ghost use Rattle.level.specs.Words.{edit, EntryOf};
@@ -41,7 +42,8 @@ pub struct Applied {
 // A side after those of the first `entries` entries of a buffer that are for it. The side is the first `kept` levels of the words,
 // and then the first `left` of what is answered; the words past these stay as they are. All in one function, since it owns the
 // working side: an entry moves the levels that it shifts, and copies no side. The side is loaded; the price of each entry for it is
-// searched for, and its level set or removed there; then the best are kept.
+// searched for, and its level set or removed there; then the best are kept. Levels are summed by way of the table, which
+// `crc32::fill_table` filled; one of no entries will do.
 pub fn apply(
     words: &mut [u64; MAX_WORDS],
     kept: usize,
@@ -50,8 +52,9 @@ pub fn apply(
     text: SumText,
     buffer: &[u64; BUFFER_WORDS],
     entries: usize,
+    table: &[u32],
 ) -> Applied
-    requires { ⌜ Good side (keptIn (now words) kept) × Given side (now buffer) entries × (depth ≤ maxLevels) ⌝ }
+    requires { ⌜ Good side (keptIn (now words) kept) × Given side (now buffer) entries × (depth ≤ maxLevels) × ShiftTable (now table) ⌝ }
     ensures { λ r. ⌜ AfterEntries side depth (changesFor text side (take entries (entriesIn (now (buffer .entry))))) (keptIn (now (words .entry)) kept) (now (words .exit)) r ⌝ }
 {
     let mut levels = [EMPTY; MAX_WORKING];
@@ -71,7 +74,7 @@ pub fn apply(
             continue;
         }
         let plain = entry.change;
-        let change = with_sum(text, plain);
+        let change = with_sum(text, plain, table);
         let price = price_named(change);
         // the levels before `low` stand nearer the top than the price, and those from `high` on do not
         let mut low = 0;
@@ -143,8 +146,8 @@ fn entry_at(buffer: &[u64; BUFFER_WORDS], k: usize) -> Entry
 }
 
 // The change with the sum of the level that it sets.
-fn with_sum(text: SumText, change: Change) -> Change
-    requires { ⌜ IfSet LevelWithin (edit change) ⌝ }
+fn with_sum(text: SumText, change: Change, table: &[u32]) -> Change
+    requires { ⌜ IfSet LevelWithin (edit change) × ShiftTable (now table) ⌝ }
     ensures { λ r. ⌜ edit r ≡ mapEdit (withSum text) (edit change) ⌝ }
 {
     match change {
@@ -152,6 +155,7 @@ fn with_sum(text: SumText, change: Change) -> Change
             text,
             price_of(level),
             size_of(level),
+            table,
         )),
         Change::Remove(price) => Change::Remove(price),
     }

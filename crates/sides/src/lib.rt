@@ -2,6 +2,7 @@
 ghost use mathlib.Core.Path.{_≡_};
 ghost use Prim.Native.Nat.{_≤_};
 ghost use lib.ListN.{length, take};
+ghost use Rattle.crc32.specs.Table.{ShiftTable};
 ghost use Rattle.edit.specs.Edit.{forSide, sideOf};
 ghost use Rattle.edit.specs.Buffer.{entriesIn};
 ghost use Rattle.level.specs.Kept.{keptIn, held};
@@ -14,7 +15,8 @@ use settings::SumText;
 use side::Applied;
 
 // The side after the first `count` entries of a buffer, of which `own` are for it. The side is the first `kept` levels of the words,
-// and then the first `left` of what is answered. The words past these stay as they are, and with no entries of its own all do.
+// and then the first `left` of what is answered. The words past these stay as they are, and with no entries of its own all do. Levels
+// are summed by way of the table, as in `side::apply`.
 pub fn apply_entries(
     words: &mut [u64; MAX_WORDS],
     kept: usize,
@@ -24,8 +26,9 @@ pub fn apply_entries(
     buffer: &[u64; BUFFER_WORDS],
     own: usize,
     count: usize,
+    table: &[u32],
 ) -> Applied
-    requires { ⌜ Sound text side (keptIn (now words) kept) × Given side (now buffer) count × (own ≡ length (forSide sideOf side (take count (entriesIn (now buffer))))) × (depth ≤ 100) × (length (held (keptIn (now words) kept)) ≤ depth) ⌝ }
+    requires { ⌜ Sound text side (keptIn (now words) kept) × Given side (now buffer) count × (own ≡ length (forSide sideOf side (take count (entriesIn (now buffer))))) × (depth ≤ 100) × (length (held (keptIn (now words) kept)) ≤ depth) × ShiftTable (now table) ⌝ }
     ensures { λ r. ⌜ Worked text side depth (editsFor side (take count (entriesIn (now (buffer .entry))))) (keptIn (now (words .entry)) kept) (sideAfter (now (words .exit)) r) × (own ≡ 0 → now (words .exit) ≡ now (words .entry)) ⌝ }
 {
     if own == 0 {
@@ -35,5 +38,5 @@ pub fn apply_entries(
             replaced: false,
         };
     }
-    side::apply(words, kept, side, depth, text, buffer, count)
+    side::apply(words, kept, side, depth, text, buffer, count, table)
 }

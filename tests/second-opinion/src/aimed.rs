@@ -1,16 +1,18 @@
 //! Sessions aimed at the ends of the rules: full working sides, sides that pass
-//! 100 levels midway, every depth, the largest digits, bad first lines, long files.
+//! 100 levels midway, every depth, the largest digits, names with escapes, bad
+//! first lines, long files.
 
 use crate::book::{Book, Scope, Sides, State};
 use crate::damage::BAD_DECIMALS;
 use crate::decimal::Decimal;
+use crate::escapes::{misspell, misspelled, respell, respell_wholly, spelled, twice};
 use crate::message::{Kind, Side, MAX_ENTRIES, MAX_MESSAGE};
 use crate::random::Random;
 use crate::seen::{BLOCK, DEPTHS};
 use crate::session::{Call, Opening, Purpose, Session};
 use crate::settings::{Dialect, Settings};
 use crate::traffic::{finished, large, respelled, size, zero, Draft, Line};
-use crate::value::Blanks;
+use crate::value::{key, Blanks, Value};
 
 const AT: u64 = 1 << 63;
 const LARGEST: u64 = 9_999_999_999_999_999_999;
@@ -28,6 +30,7 @@ pub fn sessions(random: &mut Random, purpose: Purpose) -> Vec<Session> {
             all.push(digits(random, purpose, dialect, base));
         }
         all.push(bad_texts(random, purpose, dialect));
+        all.extend(NAMES.map(|name| escaped(random, purpose, dialect, name)));
     }
     all
 }
@@ -35,7 +38,7 @@ pub fn sessions(random: &mut Random, purpose: Purpose) -> Vec<Session> {
 /// One of them.
 pub fn one(random: &mut Random, purpose: Purpose) -> Session {
     let dialect = random.pick(&[Dialect::K, Dialect::M]);
-    match random.below(6) {
+    match random.below(7) {
         0 => {
             let depth = random.between(10, 100) as u64;
             deep(random, purpose, depth)
@@ -44,6 +47,10 @@ pub fn one(random: &mut Random, purpose: Purpose) -> Session {
         2 => overfull(random, purpose),
         3 => midway(random, purpose),
         4 => bad_texts(random, purpose, dialect),
+        5 => {
+            let name = random.pick(&NAMES);
+            escaped(random, purpose, dialect, name)
+        }
         _ => {
             let base = random.pick(&[AT - 150, LARGEST - 250]);
             digits(random, purpose, dialect, base)
@@ -61,18 +68,26 @@ struct Making {
 
 impl Making {
     fn new(purpose: Purpose, dialect: Dialect, depth: u64) -> Making {
-        let settings = Settings { dialect, depth, name: b"XBT/USD".to_vec() };
+        Making::named(purpose, dialect, depth, "XBT/USD")
+    }
+
+    fn named(purpose: Purpose, dialect: Dialect, depth: u64, name: &str) -> Making {
+        let settings = Settings { dialect, depth, name: name.as_bytes().to_vec() };
         Making { book: Book::open(Some(settings.clone())), settings, calls: vec![], purpose }
     }
 
-    /// The draft as a message, with the checksum of the book after it.
-    fn text(&self, random: &mut Random, kind: Kind, lines: Vec<Line>) -> Vec<u8> {
+    /// The lines as a message, with the checksum of the book after it.
+    fn value(&self, random: &mut Random, kind: Kind, lines: Vec<Line>) -> Value {
         let gsn = match kind {
             Kind::Snapshot => random.below(1000).to_string(),
             Kind::Update => (self.book.number + 1).to_string(),
         };
         let draft = finished(&self.book, Draft { kind, lines, checksum: String::new(), gsn });
-        draft.value(random, &self.settings).written(random, Blanks::None)
+        draft.value(random, &self.settings)
+    }
+
+    fn text(&self, random: &mut Random, kind: Kind, lines: Vec<Line>) -> Vec<u8> {
+        self.value(random, kind, lines).written(random, Blanks::None)
     }
 
     fn push(&mut self, text: Vec<u8>) {
@@ -324,6 +339,58 @@ fn bad_texts(random: &mut Random, purpose: Purpose, dialect: Dialect) -> Session
         making.send(random, kind, lines);
     }
     making.made()
+}
+
+/// Products and pairs that are written with escapes: the shortest and the longest among them.
+const NAMES: [&str; 4] = ["a", "XBT/USD", "0123456789abcdef", "JKLMNO/jklmno-~!"];
+
+/// Messages whose names are written with escapes: with their meaning, with another, and
+/// members twice; escapes where none may be.
+fn escaped(random: &mut Random, purpose: Purpose, dialect: Dialect, name: &str) -> Session {
+    let mut making = Making::named(purpose, dialect, 100, name);
+    let all = prices(random, 50);
+    for turn in 0..96 {
+        let live = making.book.state == State::Live;
+        // A checksum is an update's, and its layout is looked at in a waiting book too.
+        let updating = turn % 8 == 5 || (live && turn % 8 > 0);
+        let kind = if updating { Kind::Update } else { Kind::Snapshot };
+        let count = random.between(1, 3);
+        let mut lines = sets(random, Side::Bid, &all[..count]);
+        if turn % 8 == 4 {
+            let line = random.below(lines.len());
+            let text = if random.percent(50) { &mut lines[line].price } else { &mut lines[line].size };
+            let string = spelled(random, text.as_bytes());
+            *text = String::from_utf8_lossy(&string[1..string.len() - 1]).into_owned();
+        }
+        let mut tree = making.value(random, kind, lines);
+        match turn % 8 {
+            0 | 1 => respell_wholly(random, &making.settings, &mut tree),
+            2 => respell(random, &making.settings, &mut tree),
+            3 => twice(random, &mut tree),
+            4 => {}
+            5 => escape_value(random, dialect, &mut tree),
+            _ => misspell(random, &making.settings, &mut tree),
+        }
+        making.push(tree.written(random, Blanks::None));
+    }
+    making.made()
+}
+
+/// K: the checksum with an escape, which it may not have. M: a type that means another.
+fn escape_value(random: &mut Random, dialect: Dialect, tree: &mut Value) {
+    let name = if dialect == Dialect::K { key("c") } else { key("type") };
+    let objects: Vec<&mut Value> = match tree {
+        Value::Array(items) => items.iter_mut().collect(),
+        other => vec![other],
+    };
+    for object in objects {
+        let Value::Object(members) = object else { continue };
+        for (_, value) in members.iter_mut().filter(|member| member.0 == name) {
+            let Value::Raw(bytes) = value else { continue };
+            let inner = bytes[1..bytes.len() - 1].to_vec();
+            *bytes = if dialect == Dialect::K { spelled(random, &inner) } else { misspelled(random, &inner) };
+        }
+    }
 }
 
 // The line program alone.

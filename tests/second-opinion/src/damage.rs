@@ -1,6 +1,7 @@
 //! Damage to messages: in a draft's texts, in the JSON tree, in the bytes.
 
 use crate::book::Book;
+use crate::escapes::{misspell, misspelled, respell, spelled, twice};
 use crate::message::{Kind, Side, MAX_ENTRIES, MAX_MESSAGE};
 use crate::random::Random;
 use crate::settings::{Dialect, Settings};
@@ -140,7 +141,7 @@ fn damage_part(random: &mut Random, settings: &Settings, mut tree: Value) -> Val
     match random.below(14) {
         0 => misname(random, settings, &mut tree),
         1 => escape_name(random, settings, &mut tree),
-        2 => escape_some(random, &mut tree),
+        2 => escape_some(random, settings, &mut tree),
         3 => *tree.some(random) = stray(random),
         4 => duplicate_member(random, &mut tree),
         5 => remove_member(random, &mut tree),
@@ -196,33 +197,33 @@ fn escape_name(random: &mut Random, settings: &Settings, tree: &mut Value) {
     }
 }
 
-/// An escape in some string or some key.
-fn escape_some(random: &mut Random, tree: &mut Value) {
-    if random.percent(50) {
-        if let Some(members) = tree.some_object(random).filter(|members| !members.is_empty()) {
-            let place = random.below(members.len());
-            escape(random, &mut members[place].0);
+/// An escape in some string or some key, or in some that are names.
+fn escape_some(random: &mut Random, settings: &Settings, tree: &mut Value) {
+    match random.below(5) {
+        0 => {
+            if let Some(members) = tree.some_object(random).filter(|members| !members.is_empty()) {
+                let place = random.below(members.len());
+                escape(random, &mut members[place].0);
+            }
         }
-    } else if let Value::Raw(bytes) = tree.some(random) {
-        escape(random, bytes);
+        1 => {
+            if let Value::Raw(bytes) = tree.some(random) {
+                escape(random, bytes);
+            }
+        }
+        2 => respell(random, settings, tree),
+        3 => twice(random, tree),
+        _ => misspell(random, settings, tree),
     }
 }
 
-/// Puts an escape into a string: one of its bytes spelled otherwise, or one more.
+/// The string with an escape: with the same meaning, or with another.
 fn escape(random: &mut Random, string: &mut Vec<u8>) {
-    if string.len() < 2 || string[0] != b'"' {
+    if string.len() < 2 || string[0] != b'"' || string.contains(&b'\\') {
         return;
     }
-    let inner = string.len() - 2;
-    let place = 1 + random.below(inner + 1);
-    let byte = string[place];
-    let spelled = match byte {
-        b'/' if random.percent(70) => b"\\/".to_vec(),
-        _ if place <= inner && random.percent(70) => format!("\\u{byte:04x}").into_bytes(),
-        _ => random.pick(&["\\n", "\\\\", "\\\"", "\\u0020", "\\ud800", "\\/", "\\u00E9", "\\b"]).as_bytes().to_vec(),
-    };
-    let end = if place <= inner { place + 1 } else { place };
-    string.splice(place..end, spelled);
+    let inner = string[1..string.len() - 1].to_vec();
+    *string = if random.percent(50) { spelled(random, &inner) } else { misspelled(random, &inner) };
 }
 
 fn duplicate_member(random: &mut Random, tree: &mut Value) {

@@ -1,5 +1,7 @@
 //! A reader of RFC 8259 by positions. It makes a tree whose nodes say where
-//! a value stands in the message; no text is copied or decoded.
+//! a value stands in the message; escapes are read where a name is compared.
+
+use std::borrow::Cow;
 
 /// Arrays and objects nest at most this deep, the outermost counted as one.
 pub const MAX_DEPTH: usize = 16;
@@ -55,15 +57,46 @@ impl Node {
         }
     }
 
-    /// A string with these bytes between its quotes. No name of ours has a
-    /// backslash, so a string with one equals none.
-    pub fn is(&self, message: &[u8], name: &[u8]) -> bool {
-        self.inner(message) == Some(name)
+    /// What a string means, where that may be a name: no escape in it means
+    /// anything but a byte of 33 to 126.
+    pub fn name<'a>(&self, message: &'a [u8]) -> Option<Cow<'a, [u8]>> {
+        let mut rest = self.inner(message)?;
+        if !rest.contains(&b'\\') {
+            return Some(Cow::Borrowed(rest));
+        }
+        let mut name = Vec::new();
+        while let Some((&first, after)) = rest.split_first() {
+            let (code, after) = if first == b'\\' { meaning(after) } else { (u32::from(first), after) };
+            let byte = u8::try_from(code).ok()?;
+            (first != b'\\' || (33..=126).contains(&byte)).then_some(())?;
+            name.push(byte);
+            rest = after;
+        }
+        Some(Cow::Owned(name))
     }
 
-    pub fn has_backslash(&self, message: &[u8]) -> bool {
-        self.inner(message).is_some_and(|text| text.contains(&b'\\'))
+    /// A string that means this name.
+    pub fn is(&self, message: &[u8], name: &[u8]) -> bool {
+        self.name(message).as_deref() == Some(name)
     }
+}
+
+/// What an escape means, and what stands after it; `text` follows the backslash.
+fn meaning(text: &[u8]) -> (u32, &[u8]) {
+    let (&letter, rest) = text.split_first().expect("an escape that was read");
+    let code = match letter {
+        b'b' => 8,
+        b'f' => 12,
+        b'n' => 10,
+        b'r' => 13,
+        b't' => 9,
+        b'u' => {
+            let digit = |&byte: &u8| char::from(byte).to_digit(16).expect("a hex digit that was read");
+            return (rest[..4].iter().fold(0, |code, byte| 16 * code + digit(byte)), &rest[4..]);
+        }
+        same => u32::from(same),
+    };
+    (code, rest)
 }
 
 /// The one value that `message` is, or nothing if it is not JSON or nests too deep.
@@ -259,6 +292,23 @@ mod tests {
         ];
         for text in all {
             assert!(!good(text), "{}", String::from_utf8_lossy(text));
+        }
+    }
+
+    #[test]
+    fn names() {
+        let name = |text: &str| read(text.as_bytes()).and_then(|node| node.name(text.as_bytes()).map(Cow::into_owned));
+        for (text, meant) in [
+            (r#""XBT\/USD""#, "XBT/USD"), (r#""\u0061s""#, "as"), (r#""\u004A\u004a\u006F\u006f""#, "JJoo"), (r#""""#, ""),
+            (r#""\"\\\/""#, "\"\\/"), (r#""\u0021\u007e""#, "!~"), (r#""a b""#, "a b"), (r#""\\u0061""#, "\\u0061"),
+        ] {
+            assert_eq!(name(text), Some(meant.as_bytes().to_vec()), "{text}");
+        }
+        for text in [
+            r#""\b""#, r#""\f""#, r#""\n""#, r#""\r""#, r#""a\t""#, r#""\u0020""#, r#""\u007f""#, r#""\u0000""#, r#""\u0100""#,
+            r#""\u0161s""#, r#""\ud83d\ude00""#, r#""\ud800""#, r#""\uff41""#, "7", "[]",
+        ] {
+            assert_eq!(name(text), None, "{text}");
         }
     }
 

@@ -7,6 +7,7 @@ pub mod book;
 pub mod crc;
 pub mod damage;
 pub mod decimal;
+pub mod escapes;
 pub mod json;
 pub mod lines;
 pub mod message;

@@ -26,6 +26,9 @@ struct Options {
     vectors: Option<PathBuf>,
 }
 
+/// A run of so many calls has to bring up every answer.
+const ENOUGH: usize = 50_000;
+
 const USAGE: &str =
     "usage: second-opinion [--seed N] [--calls N] [--sweep] [--booklines PATH] [--message-vectors PATH]";
 
@@ -182,10 +185,14 @@ impl Run {
         Ok(())
     }
 
-    /// What had to come up and did not.
+    /// What had to come up and did not; in a run of enough calls, the answers too.
     fn missing(&self) -> Vec<String> {
         let against = Against { lines: self.options.booklines.is_some(), first_bad: self.options.vectors.is_some() };
-        self.seen.missing(against, &aimed::FIRST_LINES)
+        let mut missing = self.seen.missing(against, &aimed::FIRST_LINES);
+        if self.options.calls >= ENOUGH {
+            missing.extend(self.counts.wrong(against.lines));
+        }
+        missing
     }
 }
 

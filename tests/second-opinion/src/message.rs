@@ -115,7 +115,7 @@ fn tree(message: &[u8]) -> Result<Node, Refusal> {
     json::read(message).ok_or(3)
 }
 
-/// Checks 4 to 7.
+/// Checks 5 to 7.
 fn layout<'a>(settings: &Settings, message: &[u8], tree: &'a Node) -> Result<Layout<'a>, Refusal> {
     let layout = match settings.dialect {
         Dialect::K => layout_k(settings, message, tree)?,
@@ -169,13 +169,10 @@ struct NamedK<'a> {
     checksums: Vec<(usize, &'a Node)>,
 }
 
-/// Checks 4 to 6 in K.
+/// Checks 5 and 6 in K.
 fn layout_k<'a>(settings: &Settings, message: &[u8], tree: &'a Node) -> Result<Layout<'a>, Refusal> {
     let items = tree.items().filter(|items| items.len() == 4 || items.len() == 5).ok_or(5)?;
     let (rest, names) = items.split_at(items.len() - 2);
-    if names.iter().any(|name| name.has_backslash(message)) {
-        return Err(4);
-    }
     if !names[0].is(message, &settings.channel()) || !names[1].is(message, &settings.name) {
         return Err(5);
     }
@@ -205,7 +202,7 @@ fn named_k<'a>(message: &[u8], objects: &[&'a [Member]]) -> NamedK<'a> {
     let mut named = NamedK::default();
     for (place, members) in objects.iter().enumerate() {
         for member in members.iter() {
-            match member.key.inner(message) {
+            match member.key.name(message).as_deref() {
                 Some(b"as") => named.asks_whole.push(&member.value),
                 Some(b"bs") => named.bids_whole.push(&member.value),
                 Some(b"a") => named.asks.push((place, &member.value)),
@@ -232,7 +229,7 @@ fn update_k(objects: usize, named: &NamedK) -> Option<()> {
 fn entries_k<'a>(message: &[u8], objects: &[&'a [Member]]) -> Option<Vec<Written<'a>>> {
     let mut entries = Vec::new();
     for member in objects.iter().flat_map(|members| members.iter()) {
-        let side = match member.key.inner(message) {
+        let side = match member.key.name(message).as_deref() {
             Some(b"as" | b"a") => Side::Ask,
             Some(b"bs" | b"b") => Side::Bid,
             _ => continue,
@@ -248,15 +245,10 @@ fn entries_k<'a>(message: &[u8], objects: &[&'a [Member]]) -> Option<Vec<Written
 
 // Dialect M.
 
-/// Checks 4 to 6 in M.
+/// Checks 5 and 6 in M.
 fn layout_m<'a>(settings: &Settings, message: &[u8], tree: &'a Node) -> Result<Layout<'a>, Refusal> {
     let members = tree.members().ok_or(5)?;
     let all = |name: &[u8]| -> Vec<&'a Node> { named(message, members, name) };
-    let names = [all(b"channel"), all(b"product")].concat();
-    let escaped_key = members.iter().any(|member| member.key.has_backslash(message));
-    if escaped_key || names.iter().any(|name| name.has_backslash(message)) {
-        return Err(4);
-    }
     let some = |name: &[u8], value: &[u8]| all(name).iter().any(|node| node.is(message, value));
     if !some(b"channel", b"book") || !some(b"product", &settings.name) {
         return Err(5);
@@ -278,7 +270,7 @@ fn once<'a>(message: &[u8], members: &'a [Member], name: &[u8]) -> Option<&'a No
 fn body_m<'a>(message: &[u8], members: &'a [Member]) -> Option<Layout<'a>> {
     once(message, members, b"channel")?;
     once(message, members, b"product")?;
-    let kind = match once(message, members, b"type")?.inner(message)? {
+    let kind = match once(message, members, b"type")?.name(message)?.as_ref() {
         b"snapshot" => Kind::Snapshot,
         b"update" => Kind::Update,
         _ => return None,
@@ -295,7 +287,7 @@ fn body_m<'a>(message: &[u8], members: &'a [Member]) -> Option<Layout<'a>> {
 fn entries_m<'a>(message: &[u8], data: &'a [Member]) -> Option<Vec<Written<'a>>> {
     let mut entries = Vec::new();
     for member in data {
-        let side = match member.key.inner(message) {
+        let side = match member.key.name(message).as_deref() {
             Some(b"bids") => Side::Bid,
             Some(b"asks") => Side::Ask,
             _ => continue,

@@ -2,6 +2,7 @@
 //! ends of the rules that chance alone would rarely reach.
 
 use crate::book::{Book, Scope};
+use crate::escapes;
 use crate::message::{self, BadText, Entry, Kind, Level, Message, Side};
 use crate::session::{Call, Session};
 use crate::settings::{Dialect, Settings};
@@ -98,6 +99,7 @@ impl Seen {
         let worked = read.as_ref().ok().map(|message| Side::BOTH.map(|side| worked(book, message, side)));
         let levels: Vec<Level> = read.iter().flat_map(|message| &message.entries).map(|entry| entry.level).collect();
         let answer = book.take_read(settings, read);
+        self.causes(settings, text, answer);
         let Some(worked) = worked else { return };
         for (most, end) in worked {
             match (settings.dialect, answer) {
@@ -121,6 +123,14 @@ impl Seen {
         }
         if answer == 0 {
             levels.iter().for_each(|level| self.digits(level));
+        }
+    }
+
+    /// Why a message got its answer, counted for each dialect.
+    fn causes(&mut self, settings: &Settings, text: &[u8], answer: u8) {
+        let bad = (answer == 8).then(|| &text[message::first_bad(Some(settings), text)]);
+        for cause in escapes::seen(settings, text, answer, bad) {
+            self.count(&of_dialect(settings.dialect, cause));
         }
     }
 
@@ -176,6 +186,7 @@ impl Seen {
         }
         let mut missing: Vec<String> =
             wanted.iter().filter(|name| self.times(name) == 0).map(|name| name.to_string()).collect();
+        missing.extend(causes().into_iter().filter(|name| self.times(name) == 0));
         missing.extend(DEPTHS.filter(|depth| !self.depths.contains(depth)).map(|depth| format!("K depth {depth}")));
         missing
     }
@@ -186,6 +197,16 @@ impl Seen {
         let depths = format!("{:>9}  K depths to which a side was cut\n", self.depths.len());
         self.counts.iter().map(line).collect::<String>() + &depths
     }
+}
+
+fn of_dialect(dialect: Dialect, cause: &str) -> String {
+    format!("{}: {cause}", dialect.letter())
+}
+
+/// What every run has to bring up in each dialect.
+pub fn causes() -> Vec<String> {
+    let of = |dialect: Dialect| escapes::causes(dialect).into_iter().map(move |cause| of_dialect(dialect, cause));
+    Dialect::ALL.into_iter().flat_map(of).collect()
 }
 
 /// The most levels that a side has while the message is worked, and how many before any cut.

@@ -2,6 +2,7 @@
 
 use crate::book::{Book, Scope, State};
 use crate::damage::{damage_bytes, damage_draft, damage_tree, pad};
+use crate::escapes::respell;
 use crate::message::{Kind, Side};
 use crate::random::Random;
 use crate::settings::{Dialect, Settings};
@@ -191,6 +192,9 @@ impl Source {
             draft = damage_draft(random, book, &self.market, draft);
         }
         let mut tree = draft.value(random, &settings);
+        if random.percent(12) {
+            respell(random, &settings, &mut tree);
+        }
         if (4..9).contains(&place) {
             tree = damage_tree(random, &settings, tree);
         }

@@ -9,6 +9,8 @@ pub enum Dialect {
 }
 
 impl Dialect {
+    pub const ALL: [Dialect; 2] = [Dialect::K, Dialect::M];
+
     pub fn letter(self) -> char {
         match self {
             Dialect::K => 'K',

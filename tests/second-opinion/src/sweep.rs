@@ -23,6 +23,7 @@ pub fn sessions() -> Vec<Session> {
         all.extend(chunks(line, tokens(&["[", "]", "{", "}", ",", ":", "\"a\"", "1"], 6)));
         all.extend(chunks(line, around("[", words(b"-+01.eE", 5), "]")));
         all.extend(chunks(line, strings()));
+        all.extend(chunks(line, names(line)));
         all.extend(chunks(line, nesting()));
         all.extend(chunks(line, lengths(snapshot)));
         all.extend(chunks(line, decimals(line)));
@@ -100,6 +101,38 @@ fn strings() -> Vec<Vec<u8>> {
         }
     }
     texts
+}
+
+/// Names with every short escape, and with `\u` of every byte and of what has the same low
+/// byte, in place of one of their bytes.
+fn names(line: &str) -> Vec<Vec<u8>> {
+    let mut escapes: Vec<String> = "\"\\/bfnrt".chars().map(|letter| format!("\\{letter}")).collect();
+    for code in (0..0x180).chain((0..256).map(|high| 256 * high + 0x61)) {
+        escapes.extend([format!("\\u{code:04x}"), format!("\\u{code:04X}")]);
+    }
+    let named = |escape: &String| -> Vec<Vec<u8>> {
+        let texts = if line == K_LINE {
+            vec![
+                format!("[0,{{\"as\":[],\"bs\":[]}},\"book-10\",\"{escape}\"]"),
+                format!("[0,{{\"as\":[],\"bs\":[]}},\"{escape}ook-10\",\"a\"]"),
+                format!("[0,{{\"{escape}s\":[],\"bs\":[]}},\"book-10\",\"a\"]"),
+                format!("[0,{{\"a\":[],\"{escape}\":\"0\"}},\"book-10\",\"a\"]"),
+            ]
+        } else {
+            let message = |key: &str, channel: &str, product: &str, kind: &str| {
+                let data = "{\"bids\":[],\"asks\":[]}";
+                format!("{{\"channel\":\"{channel}\",\"product\":\"{product}\",\"type\":\"{kind}\",\"{key}\":{data},\"checksum\":0,\"gsn\":1}}")
+            };
+            vec![
+                message("data", "book", escape, "snapshot"),
+                message("data", &format!("boo{escape}"), "a", "snapshot"),
+                message("data", "book", "a", &format!("sn{escape}pshot")),
+                message(&format!("dat{escape}"), "book", "a", "snapshot"),
+            ]
+        };
+        texts.into_iter().map(String::into_bytes).collect()
+    };
+    escapes.iter().flat_map(named).collect()
 }
 
 fn nesting() -> Vec<Vec<u8>> {

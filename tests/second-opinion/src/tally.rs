@@ -14,6 +14,15 @@ fn row(dialect: Dialect) -> usize {
     }
 }
 
+/// Whether a dialect has this answer: 4 is given no more, 11 and 12 are M's.
+pub fn is_given(dialect: Dialect, answer: u8) -> bool {
+    match answer {
+        4 => false,
+        11 | 12 => dialect == Dialect::M,
+        _ => true,
+    }
+}
+
 impl Tally {
     pub fn count(&mut self, dialect: Dialect, answers: &[u8]) {
         for &answer in answers {
@@ -25,6 +34,20 @@ impl Tally {
         self.counts[row(dialect)][usize::from(answer)]
     }
 
+    /// The answers that did not come up and had to, and those that came up and are never given.
+    pub fn wrong(&self, lines: bool) -> Vec<String> {
+        let mut wrong = Vec::new();
+        for dialect in Dialect::ALL {
+            for answer in 0..self.counts[0].len() as u8 {
+                let wanted = is_given(dialect, answer) && !(lines && (answer == 14 || answer == 15));
+                if wanted != (self.times(dialect, answer) > 0) {
+                    wrong.push(format!("answer {answer} in {}: {} times", dialect.letter(), self.times(dialect, answer)));
+                }
+            }
+        }
+        wrong
+    }
+
     /// A line for each dialect.
     pub fn report(&self) -> String {
         let line = |dialect: Dialect| {
@@ -32,6 +55,6 @@ impl Tally {
             let words: Vec<String> = counts.map(|(answer, times)| format!("{answer}:{times}")).collect();
             format!("{} {}\n", dialect.letter(), words.join(" "))
         };
-        line(Dialect::K) + &line(Dialect::M)
+        Dialect::ALL.map(line).concat()
     }
 }

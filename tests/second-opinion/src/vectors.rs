@@ -30,7 +30,7 @@ pub fn expected(settings: Option<&Settings>, text: &[u8], bad: &[BadText]) -> St
 }
 
 /// The line that was printed, without what is said of a message that passes.
-fn shortened(line: &str) -> String {
+pub fn shortened(line: &str) -> String {
     match (line.strip_prefix("0 "), line.rfind("bad ")) {
         (Some(_), Some(place)) => format!("0 {}", &line[place..]),
         _ => line.to_string(),

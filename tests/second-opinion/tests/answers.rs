@@ -7,7 +7,7 @@ use second_opinion::random::Random;
 use second_opinion::script::{here, script, Script};
 use second_opinion::session::{answers, session, Call, Opening, Purpose, Session};
 use second_opinion::settings::Dialect;
-use second_opinion::tally::Tally;
+use second_opinion::tally::{is_given, Tally};
 
 #[test]
 fn every_answer_comes_up() {
@@ -17,11 +17,15 @@ fn every_answer_comes_up() {
         let session = session(&mut random, Purpose::Calls, 200);
         tally.count(session.dialect, &answers(&session));
     }
-    for answer in 0..16 {
-        assert!(tally.times(Dialect::M, answer) >= 10, "M {answer}");
-        let none = answer == 11 || answer == 12;
-        assert_eq!(tally.times(Dialect::K, answer) >= 10, !none, "K {answer}");
+    for dialect in Dialect::ALL {
+        for answer in 0..16 {
+            assert_eq!(tally.times(dialect, answer) >= 10, is_given(dialect, answer), "{dialect:?} {answer}");
+        }
     }
+    assert_eq!(tally.wrong(false), Vec::<String>::new());
+    // In lines nothing is asked, so 14 and 15 are too many.
+    assert_eq!(tally.wrong(true).len(), 2 * Dialect::ALL.len());
+    assert!(!Tally::default().wrong(true).is_empty());
 }
 
 #[test]

@@ -28,14 +28,15 @@ fn everything_comes_up() {
             }
         }
         if by_lines {
-            assert_eq!(seen.missing(against, &FIRST_LINES).len(), 3 + FIRST_LINES.len());
+            let missing = seen.missing(against, &FIRST_LINES);
+            assert_eq!(missing.len(), 3 + FIRST_LINES.len(), "{missing:?}");
             files(&mut random).iter().for_each(|session| seen.file(&input(session, true)));
             bad_first_lines().iter().for_each(|(kind, _)| seen.count(kind));
         }
         assert_eq!(seen.missing(against, &FIRST_LINES), Vec::<String>::new());
     }
     let nothing = Seen::default().missing(Against { lines: true, first_bad: true }, &FIRST_LINES);
-    assert_eq!(nothing.len(), 10 + 3 + 7 + FIRST_LINES.len() + 91);
+    assert_eq!(nothing.len(), 10 + 3 + 7 + FIRST_LINES.len() + 91 + seen::causes().len());
 }
 
 /// An M message about bids alone, with the checksum of these levels, best first.

@@ -119,16 +119,37 @@ fn a_cut_comes_after_the_whole_message() {
 }
 
 #[test]
-fn escapes_and_names() {
+fn names_are_compared_by_meaning() {
     let mut book = k_book();
-    assert_eq!(book.take(br#"[0,{"as":[],"bs":[]},"book-10","XBT\/USD"]"#), 4);
-    assert_eq!(book.take(br#"[1,2,"\n","trade"]"#), 4);
-    assert_eq!(book.take(br#"[1,"\n",3,"trade"]"#), 5);
-    assert_eq!(book.take(br#"[1,2,["\n"],"trade"]"#), 5);
-    assert_eq!(book.take(br#"["\n","\n","\n"]"#), 5);
-    assert_eq!(book.take(br#"[0,{"as":[],"bs":[],"\u0061s":[]},"book-10","XBT/USD"]"#), 0);
-    assert_eq!(book.take(br#"[0,{"as":[],"bs":[],"as":[]},"book-10","XBT/USD"]"#), 6);
-    assert_eq!(book.state, State::Waiting);
+    assert_eq!(book.take(br#"[0,{"as":[],"bs":[]},"book-10","XBT\/USD"]"#), 0);
+    for (text, answer) in [
+        (r#"[0,{"\u0061s":[],"b\u0073":[]},"\u0062ook-10","XBT\u002FUSD"]"#, 0),
+        (r#"[0,{"\u0061":[],"\u0063":"0"},"book\u002D10","\u0058BT/USD"]"#, 0),
+        (r#"[0,{"a":[],"c":"0","a\n":5,"\u0161":6},"book-10","XBT\u002fUSD"]"#, 0),
+        (r#"[1,2,"\n","trade"]"#, 5),
+        (r#"[0,{"as":[],"bs":[]},"book-10","XBT\\/USD"]"#, 5),
+        (r#"[0,{"as":[],"bs":[]},"\book-10","XBT/USD"]"#, 5),
+        (r#"[0,{"as":[],"bs":[]},"book-10","XBT/USD\u0020"]"#, 5),
+        (r#"["\n","\n","\n"]"#, 5),
+    ] {
+        assert_eq!(book.take(text.as_bytes()), answer, "{text}");
+        assert_eq!(book.state, State::Live, "{text}");
+    }
+    for (text, answer) in [
+        (r#"[0,{"as":[],"bs":[],"\u0061s":[]},"book-10","XBT/USD"]"#, 6),
+        (r#"[0,{"as":[],"bs":[],"as":[]},"book-10","XBT/USD"]"#, 6),
+        (r#"[0,{"a":[],"c":"\u0030"},"book-10","XBT/USD"]"#, 6),
+        (r#"[0,{"a":[["\u0031","1","t"]],"c":"0"},"book-10","XBT/USD"]"#, 8),
+    ] {
+        assert_eq!(book.take(text.as_bytes()), answer, "{text}");
+        assert_eq!(book.state, State::Waiting, "{text}");
+    }
+    let mut book = open(Dialect::M, 100, "a");
+    let text = r#"{"ch\u0061nnel":"boo\u006b","product":"\u0061","\u0074ype":"\u0073napshot","data":{"bi\u0064s":[],"asks":[]},"checksum":0,"gs\u006E":1}"#;
+    assert_eq!(book.take(text.as_bytes()), 0);
+    assert_eq!(book.take(text.replace(r#""gs"#, r#""gsn":1,"gs"#).as_bytes()), 6);
+    assert_eq!(book.take(text.replace(r#""\u0061","#, r#""\u0041","#).as_bytes()), 5);
+    assert_eq!(book.take(text.replace(r#""\u0073n"#, r#""s\n"#).as_bytes()), 6);
 }
 
 #[test]

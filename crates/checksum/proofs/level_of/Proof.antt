@@ -11,14 +11,14 @@ use Rattle.checksum.proofs.level_of.Tie as tie
 
 make-requires : tie.Need-make-requires
 make-requires c κs =
-    let a = c .before .args in
-    let p = c .before .pre in
+    let a = c .before .before .args in
+    let p = c .before .before .pre in
     (p .0, p .1, let n = c .piece-of .ensures .long in let l = piece-short (a .text) (number (a .price)) (number (a .size)) (p .0) (p .1) in omega arith)
 
 returns : tie.Need-returns
 unfolding levelFor
 returns c =
-    let a = c .before .before .args in
+    let a = c .before .before .before .args in
     c .make .ensures ∙ ap₂ (levelMade (number (a .price)) (number (a .size))) (c .before .piece-of .ensures .sum) (c .before .piece-of .ensures .long)
 
 pub level-of-spec : {M : Type 1} → statement M

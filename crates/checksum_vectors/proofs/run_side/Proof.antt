@@ -9,10 +9,10 @@ use Rattle.checksum_vectors.proofs.run_side.Statement.{statement}
 use Rattle.checksum_vectors.proofs.run_side.Tie as tie
 
 -- the side after the entries
-side-fine : (c : tie.After-apply) → ValidSide (c .before .before .before .before .before .before .before .args .text) (c .before .before .before .before .before .before .before .args .side) (keptIn (c .apply .last .0) (c .apply .result .left))
+side-fine : (c : tie.After-apply) → ValidSide (c .before .before .before .before .before .before .before .before .before .before .before .args .text) (c .before .before .before .before .before .before .before .before .before .before .before .args .side) (keptIn (c .apply .last .0) (c .apply .result .left))
 side-fine c =
-    let s = c .before .before .before .before .before .before .before in
-    let r = c .before .before .before .before .read-entries in
+    let s = c .before .before .before .before .before .before .before .before .before .before .before in
+    let r = c .before .before .before .before .before .before .before .before .read-entries in
     applied-fine (s .args .text) (s .args .side) (s .args .depth) (take (r .result) (entriesIn (r .last .1 .1 .0))) (s .args .levels) (s .pre .0) (c .apply .ensures)
 
 returns : tie.Need-returns
@@ -26,6 +26,9 @@ run-side-spec =
     tie.close
     (tie.spec
     (λ c κs. search needs)
+    (λ c. search needs)
+    (λ c κs. search needs)
+    (λ c. search needs)
     (λ c κs. search needs)
     (λ c κs. search needs)
     (λ c. search needs)

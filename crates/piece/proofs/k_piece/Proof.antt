@@ -11,10 +11,10 @@ use Rattle.piece.proofs.k_piece.Statement.{statement}
 use Rattle.piece.proofs.k_piece.Tie as tie
 
 feed-requires : tie.Need-feed-requires
-feed-requires c κs = let e = ap length (c .stripped-tail .ensures) in let l = length-stripped (number (c .before .args .size)) (c .before .pre .1) in omega arith
+feed-requires c κs = let e = ap length (c .stripped-tail .ensures) in let l = length-stripped (number (c .before .before .args .size)) (c .before .before .pre .1) in (omega arith, c .before .before .pre .2)
 
 feed-requires-2 : tie.Need-feed-requires-2
-feed-requires-2 c κs = let n = (fed-first (c .before .before .stripped-tail .ensures) refl refl (c .before .feed .ensures)) .long in let e = ap length (c .stripped-tail2 .ensures) in let l = length-stripped (number (c .before .before .before .args .size)) (c .before .before .before .pre .1) in let k = length-stripped (number (c .before .before .before .args .price)) (c .before .before .before .pre .0) in omega arith
+feed-requires-2 c κs = let n = (fed-first (c .before .before .stripped-tail .ensures) refl refl (c .before .feed .ensures)) .long in let e = ap length (c .stripped-tail2 .ensures) in let l = length-stripped (number (c .before .before .before .before .args .size)) (c .before .before .before .before .pre .1) in let k = length-stripped (number (c .before .before .before .before .args .price)) (c .before .before .before .before .pre .0) in (omega arith, c .before .before .before .before .pre .2)
 
 returns : tie.Need-returns
 unfolding kPiece

@@ -36,40 +36,40 @@ use Rattle.side.proofs.apply.Statement.{statement}
 use Rattle.side.proofs.apply.Tie as tie
 
 abbrev Inv-load : tie.InvT-load
-Inv-load words kept side depth text buffer entries levels₀ count i₀ levels i = (length levels ≡ 200) × (i ≤ count) × (take i levels ≡ take i (levelsIn words))
+Inv-load words kept side depth text buffer entries table levels₀ count i₀ levels i = (length levels ≡ 200) × (i ≤ count) × (take i levels ≡ take i (levelsIn words))
 
 abbrev μ-load : tie.MeasureT-load
-μ-load words kept side depth text buffer entries levels₀ count i₀ levels i = count - i
+μ-load words kept side depth text buffer entries table levels₀ count i₀ levels i = count - i
 
 abbrev Inv-find : tie.InvT-find
-Inv-find words kept side depth text buffer entries levels count i replaced k change price low₀ high₀ low high = Bracket levelPrice side (take count levels) (value (number price)) low high × (high ≤ count)
+Inv-find words kept side depth text buffer entries table levels count i replaced k change price low₀ high₀ low high = Bracket levelPrice side (take count levels) (value (number price)) low high × (high ≤ count)
 
 abbrev μ-find : tie.MeasureT-find
-μ-find words kept side depth text buffer entries levels count i replaced k change price low₀ high₀ low high = high - low
+μ-find words kept side depth text buffer entries table levels count i replaced k change price low₀ high₀ low high = high - low
 
 abbrev Inv-down : tie.InvT-down
-Inv-down words kept side depth text buffer entries levels₀ count i replaced k low high j₀ levels j = (levels ≡ down levels₀ low j) × (low ≤ j) × (j ≤ count)
+Inv-down words kept side depth text buffer entries table levels₀ count i replaced k low high j₀ levels j = (levels ≡ down levels₀ low j) × (low ≤ j) × (j ≤ count)
 
 abbrev μ-down : tie.MeasureT-down
-μ-down words kept side depth text buffer entries levels₀ count i replaced k low high j₀ levels j = count - j
+μ-down words kept side depth text buffer entries table levels₀ count i replaced k low high j₀ levels j = count - j
 
 abbrev Inv-up : tie.InvT-up
-Inv-up words kept side depth text buffer entries levels₀ count i replaced k low high new j₀ levels j = (levels ≡ up levels₀ j count) × (low ≤ j) × (j ≤ count)
+Inv-up words kept side depth text buffer entries table levels₀ count i replaced k low high new j₀ levels j = (levels ≡ up levels₀ j count) × (low ≤ j) × (j ≤ count)
 
 abbrev μ-up : tie.MeasureT-up
-μ-up words kept side depth text buffer entries levels₀ count i replaced k low high new j₀ levels j = j
+μ-up words kept side depth text buffer entries table levels₀ count i replaced k low high new j₀ levels j = j
 
 abbrev Inv-entry : tie.InvT-entry
-Inv-entry words kept side depth text buffer entries levels₀ count₀ i replaced₀ k₀ levels count replaced k = Turn text side (take entries (entriesIn buffer)) (take count₀ levels₀) count₀ levels count replaced k
+Inv-entry words kept side depth text buffer entries table levels₀ count₀ i replaced₀ k₀ levels count replaced k = Turn text side (take entries (entriesIn buffer)) (take count₀ levels₀) count₀ levels count replaced k
 
 abbrev μ-entry : tie.MeasureT-entry
-μ-entry words kept side depth text buffer entries levels₀ count₀ i replaced₀ k₀ levels count replaced k = entries - k
+μ-entry words kept side depth text buffer entries table levels₀ count₀ i replaced₀ k₀ levels count replaced k = entries - k
 
 abbrev Inv-cut : tie.InvT-cut
-Inv-cut words₀ kept depth buffer entries levels count i₀ replaced k left words i = (length words ≡ maxWords) × (i ≤ left) × (take i (levelsIn words) ≡ take i levels) × (wordsPast i words ≡ wordsPast i words₀)
+Inv-cut words₀ kept depth buffer entries table levels count i₀ replaced k left words i = (length words ≡ maxWords) × (i ≤ left) × (take i (levelsIn words) ≡ take i levels) × (wordsPast i words ≡ wordsPast i words₀)
 
 abbrev μ-cut : tie.MeasureT-cut
-μ-cut words₀ kept depth buffer entries levels count i₀ replaced k left words i = left - i
+μ-cut words₀ kept depth buffer entries table levels count i₀ replaced k left words i = left - i
 
 not-true : (b : Bool) → not b ≡ true → b ≡ false
 not-true true e = sym e
@@ -81,13 +81,13 @@ not-false false e = sym e
 
 -- from the entry loop's head to the function's start
 abbrev St : tie.At-entry Inv-load μ-load Inv-find μ-find Inv-down μ-down Inv-up μ-up Inv-entry μ-entry Inv-cut μ-cut → tie.Start Inv-load μ-load Inv-find μ-find Inv-down μ-down Inv-up μ-up Inv-entry μ-entry Inv-cut μ-cut
-St e = e .before .before .before
+St e = e .before .before .before .before
 
 -- the side as it was loaded
-loaded : (c : tie.After-load Inv-load μ-load Inv-find μ-find Inv-down μ-down Inv-up μ-up Inv-entry μ-entry Inv-cut μ-cut) → take (c .before .before .args .kept) (c .before .load .levels) ≡ held (keptIn (c .before .before .args .words .now) (c .before .before .args .kept))
+loaded : (c : tie.After-load Inv-load μ-load Inv-find μ-find Inv-down μ-down Inv-up μ-up Inv-entry μ-entry Inv-cut μ-cut) → take (c .before .before .before .args .kept) (c .before .load .levels) ≡ held (keptIn (c .before .before .before .args .words .now) (c .before .before .before .args .kept))
 unfolding held
 loaded c =
-    let e : c .before .load .i ≡ c .before .before .args .kept = omega arith in
+    let e : c .before .load .i ≡ c .before .before .before .args .kept = omega arith in
     rw e at (c .before .load .inv .2)
 
 -- in a turn, at the k-th entry
@@ -267,11 +267,11 @@ load-holds : tie.Need-load-holds Inv-load μ-load Inv-find μ-find Inv-down μ-d
 load-holds c = (refl, omega arith, refl)
 
 level-in-requires : tie.Need-level-in-requires Inv-load μ-load Inv-find μ-find Inv-down μ-down Inv-up μ-up Inv-entry μ-entry Inv-cut μ-cut
-level-in-requires c κs = let s = c .before .before .before in (omega (arith, s .pre .0 .few), s .pre .0 .room)
+level-in-requires c κs = let s = c .before .before .before .before in (omega (arith, s .pre .0 .few), s .pre .0 .room)
 
 load-again : tie.Need-load-again Inv-load μ-load Inv-find μ-find Inv-down μ-down Inv-up μ-up Inv-entry μ-entry Inv-cut μ-cut
 load-again c =
-    let s = c .before .before .before .before in
+    let s = c .before .before .before .before .before in
     let p = c .before .before .before .load in
     let l = length-levels 100 (s .args .words .now) (s .pre .0 .room) in (
       simp length-set (p .inv .0),
@@ -282,7 +282,7 @@ load-again c =
 
 entry-holds : tie.Need-entry-holds Inv-load μ-load Inv-find μ-find Inv-down μ-down Inv-up μ-up Inv-entry μ-entry Inv-cut μ-cut
 entry-holds c =
-    let s = c .before .before in
+    let s = c .before .before .before in
     turn-start (s .args .text) (s .args .side) (take (s .args .entries) (entriesIn (s .args .buffer .now))) (take (s .args .kept) (c .before .load .levels)) (s .args .kept) (s .pre .0 .few) (s .pre .1 .own)
     (c .before .load .levels) (c .before .load .inv .0) refl (rw (loaded c) (s .pre .0 .sorted)) (rw (loaded c) (s .pre .0 .within))
 
@@ -303,7 +303,7 @@ with-sum-requires : tie.Need-with-sum-requires Inv-load μ-load Inv-find μ-find
 with-sum-requires c κs =
     let E = c .before .before .before .before in
     let h = c .before .before .before .entry-test .taken in
-    subst (IfSet LevelWithin) (sym (c .before .before .entry-at .ensures .says ∙ sym (ap (changeOf levelPlain) (in-buffer E h)))) (plain-within (numbers E h) (entry-within E h))
+    (subst (IfSet LevelWithin) (sym (c .before .before .entry-at .ensures .says ∙ sym (ap (changeOf levelPlain) (in-buffer E h)))) (plain-within (numbers E h) (entry-within E h)), St E .pre .3)
 
 find-holds : tie.Need-find-holds Inv-load μ-load Inv-find μ-find Inv-down μ-down Inv-up μ-up Inv-entry μ-entry Inv-cut μ-cut
 find-holds c = (bracket-start levelPrice (s c .args .side) (S c) (P c) (N c) (side-long c), omega arith)
@@ -428,19 +428,19 @@ entry-again-5 c =
     (remove-none levelPrice (s v .args .side) (A v) (N v) (p .low) (room v) le (P v) (p .inv .0 .ahead) high)
 
 cut-holds : tie.Need-cut-holds Inv-load μ-load Inv-find μ-find Inv-down μ-down Inv-up μ-up Inv-entry μ-entry Inv-cut μ-cut
-cut-holds c = (c .before .before .before .before .before .pre .0 .room, omega arith, refl, refl)
+cut-holds c = (c .before .before .before .before .before .before .pre .0 .room, omega arith, refl, refl)
 
 mul-level-3 : tie.Need-mul-level-3 Inv-load μ-load Inv-find μ-find Inv-down μ-down Inv-up μ-up Inv-entry μ-entry Inv-cut μ-cut
-mul-level-3 c = omega (arith, cut-eq (c .before .before) .1, c .before .before .before .before .before .before .before .pre .2)
+mul-level-3 c = omega (arith, cut-eq (c .before .before) .1, c .before .before .before .before .before .before .before .before .pre .2)
 
 array-copy-out-level-3 : tie.Need-array-copy-out-level-3 Inv-load μ-load Inv-find μ-find Inv-down μ-down Inv-up μ-up Inv-entry μ-entry Inv-cut μ-cut
-array-copy-out-level-3 c = omega (arith, cut-eq (c .before .before) .1, c .before .before .before .before .before .before .before .pre .2)
+array-copy-out-level-3 c = omega (arith, cut-eq (c .before .before) .1, c .before .before .before .before .before .before .before .before .pre .2)
 
 put-level-requires : tie.Need-put-level-requires Inv-load μ-load Inv-find μ-find Inv-down μ-down Inv-up μ-up Inv-entry μ-entry Inv-cut μ-cut
-put-level-requires c κs = (omega (arith, cut-eq (c .before .before .before .before) .1, c .before .before .before .before .before .before .before .before .before .pre .2, c .before .before .cut-test .taken), c .before .before .before .cut .inv .0)
+put-level-requires c κs = (omega (arith, cut-eq (c .before .before .before .before) .1, c .before .before .before .before .before .before .before .before .before .before .pre .2, c .before .before .cut-test .taken), c .before .before .before .cut .inv .0)
 
 add-i-2 : tie.Need-add-i-2 Inv-load μ-load Inv-find μ-find Inv-down μ-down Inv-up μ-up Inv-entry μ-entry Inv-cut μ-cut
-add-i-2 c = omega (arith, cut-eq (c .before .before .before .before .before) .1, c .before .before .before .before .before .before .before .before .before .before .pre .2)
+add-i-2 c = omega (arith, cut-eq (c .before .before .before .before .before) .1, c .before .before .before .before .before .before .before .before .before .before .before .pre .2)
 
 cut-again : tie.Need-cut-again Inv-load μ-load Inv-find μ-find Inv-down μ-down Inv-up μ-up Inv-entry μ-entry Inv-cut μ-cut
 cut-again c =
@@ -448,7 +448,7 @@ cut-again c =
     let q = cut-eq (c .before .before .before .before .before) in
     let E = c .before .before .before .before .before .before .before in
     let t : p .i < c .before .before .before .before .before .if5 .left = c .before .before .before .cut-test .taken in
-    let d : c .before .before .before .before .before .before .before .before .before .before .args .depth ≤ 100 = c .before .before .before .before .before .before .before .before .before .before .pre .2 in
+    let d : c .before .before .before .before .before .before .before .before .before .before .before .args .depth ≤ 100 = c .before .before .before .before .before .before .before .before .before .before .before .pre .2 in
     let l : length (E .entry .levels) ≡ 200 = E .entry .inv .long in
     let w = c .put-level .ensures in (
       w .room,

@@ -16,16 +16,16 @@ entries s = take (s .args .count) (entriesIn (s .args .buffer .now))
 
 returns : tie.Need-returns
 returns c =
-    let s = c .before in
+    let s = c .before .before in
     let a = s .args in
     (none-worked (a .text) (a .side) (a .depth) (keptIn (now (a .words)) (a .kept)) (entries s) (sym (c .if1 .taken) ∙ s .pre .2) (s .pre .0) (s .pre .4), λ z. refl)
 
 apply-requires : tie.Need-apply-requires
-apply-requires c κs = let p = c .before .before .pre in (p .0 .good, p .1, p .3)
+apply-requires c κs = let p = c .before .before .before .pre in (p .0 .good, p .1, p .3, p .5)
 
 returns-2 : tie.Need-returns-2
 returns-2 c =
-    let s = c .before .before .before in
+    let s = c .before .before .before .before in
     let a = s .args in
     (some-worked (a .text) (a .side) (a .depth) (keptIn (now (a .words)) (a .kept)) (entries s) (s .pre .0) (s .pre .1 .within) (c .apply .ensures), λ z. absurd (c .before .before .if1 .left z))
 

@@ -35,7 +35,7 @@ abbrev asksOf : tie.After-enter → SideAfter
 asksOf c = sideAfter (c .enter .last .1 .1 .1 .0) (c .enter .result .asks)
 
 enter-requires : tie.Need-enter-requires
-enter-requires c κs = c .before .before .before .before .pre .0 .passed
+enter-requires c κs = let s = c .before .before .before .before in (s .pre .0 .passed, s .pre .1)
 
 returns : tie.Need-returns
 unfolding keptStep

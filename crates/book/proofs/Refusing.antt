@@ -190,7 +190,7 @@ module _ (o : Outline) (d : Dialect) (bids asks : Levels) where
 
   module _ (replaced over : Bool) where
     -- what is found before check 13
-    abbrev before-sum : Answer
+    abbrev pub before-sum : Answer
     before-sum = judgedSides (o .kind) replaced (not (rulesOf d .cut) && over) (crosses levelPrice (held bids) (held asks))
 
     abbrev chain : Bool → Bool → Bool → Answer → Answer

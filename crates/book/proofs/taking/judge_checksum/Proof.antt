@@ -16,16 +16,18 @@ asksOf s = keptIn (now (s .args .asks)) (s .args .ask-count)
 
 returns : tie.Need-returns
 returns c =
-    let s = c .before .before .before .before in
+    let s = c .before .before .before .before .before in
     checksum-wrong (s .args .outline) (s .args .dialect) (bidsOf s) (asksOf s) (c .before .before .before .if1 .taken) (λ q. c .if2 .taken (q ∙ sym (c .before .before .checksum-of .ensures)))
 
 returns-2 : tie.Need-returns-2
 returns-2 c =
-    let s = c .before .before .before .before in
+    let s = c .before .before .before .before .before in
     checksum-right (s .args .outline) (s .args .dialect) (bidsOf s) (asksOf s) (c .before .before .before .if1 .taken) (c .if2 .left ∙ c .before .before .checksum-of .ensures)
 
 returns-3 : tie.Need-returns-3
-returns-3 c = checksum-unprinted (c .before .args .outline) (c .before .args .dialect) (bidsOf (c .before)) (asksOf (c .before)) (c .if1 .left)
+returns-3 c =
+    let s = c .before .before in
+    checksum-unprinted (s .args .outline) (s .args .dialect) (bidsOf s) (asksOf s) (c .if1 .left)
 
 pub judge-checksum-spec : {M : Type 1} → statement M
 judge-checksum-spec = tie.close (tie.spec (λ c κs. search needs) returns returns-2 returns-3)

@@ -2,7 +2,7 @@
 -- Assumes nothing.
 use mathlib.Core.Path.{_≡_, refl, sym, ap, _∙_, subst}
 use mathlib.Core.List.{List, map}
-use mathlib.Core.Bool.{Bool, true, false, true≢false, false≢true, _&&_, _||_, not, cond}
+use mathlib.Core.Bool.{Bool, true, false, true≢false, _&&_, _||_, not, cond}
 use Prim.Native.Nat.{ℕ}
 use native.Mathlib.Omega.{arith}
 use lib.Dec.{eqb, leb}
@@ -193,25 +193,10 @@ module _ (o : Outline) (d : Dialect) (bids asks : Levels) where
     abbrev pub before-sum : Answer
     before-sum = judgedSides (o .kind) replaced (not (rulesOf d .cut) && over) (crosses levelPrice (held bids) (held asks))
 
-    abbrev chain : Bool → Bool → Bool → Answer → Answer
-    chain x y z a = cond x PriceTwice (cond y TooManyLevels (cond z Crossed a))
-
     pub weighed-refused : isTaken before-sum ≡ false → before-sum ≡ weighed o d replaced over bids asks
-    unfolding weighed judgedSides isTaken answerNumber
-    weighed-refused h = at (isSnapshot (o .kind) && replaced) (not (rulesOf d .cut) && over) (crosses levelPrice (held bids) (held asks)) h
-      where
-        at : (x y z : Bool) → isTaken (chain x y z Taken) ≡ false → chain x y z Taken ≡ chain x y z (judgedChecksum o d bids asks)
-        at true y z e = refl
-        at false true z e = refl
-        at false false true e = refl
-        at false false false e = absurd (true≢false e)
+    unfolding weighed
+    weighed-refused h = sym (rw (h, weighed))
 
     pub weighed-sum : isTaken before-sum ≡ true → judgedChecksum o d bids asks ≡ weighed o d replaced over bids asks
-    unfolding weighed judgedSides isTaken answerNumber
-    weighed-sum h = at (isSnapshot (o .kind) && replaced) (not (rulesOf d .cut) && over) (crosses levelPrice (held bids) (held asks)) h
-      where
-        at : (x y z : Bool) → isTaken (chain x y z Taken) ≡ true → judgedChecksum o d bids asks ≡ chain x y z (judgedChecksum o d bids asks)
-        at true y z e = absurd (false≢true e)
-        at false true z e = absurd (false≢true e)
-        at false false true e = absurd (false≢true e)
-        at false false false e = refl
+    unfolding weighed
+    weighed-sum h = sym (rw (h, weighed))

@@ -8,7 +8,7 @@ use native.Mathlib.Omega.{arith}
 use borrow.Author.Tests.{ltb-false, le-ltb}
 use lib.Dec.{eqb, leb, ltb}
 use lib.ListN.{length, take, length-take, length-map}
-use Rattle.lifecycle.specs.Lifecycle.{statusOf, liveLifecycle, judgedUpdate}
+use Rattle.lifecycle.specs.Lifecycle.{statusOf, liveLifecycle, judgedUpdate, judgedSides}
 use Rattle.lifecycle.specs.declared.State.{State}
 use Rattle.lifecycle.proofs.Laws.{judged-snapshot, judged-new}
 use Rattle.answer.proofs.Laws.{taken-answer}
@@ -415,11 +415,14 @@ module _ (b : Book) (o : Outline) (buffer : List ℕ) (k : Passed b o buffer) wh
             (ltb-false (r .levels) (bids .count) (g .0), ltb-false (r .levels) (asks .count) (g .1))
 
     weighed-told : Received next (finished (bids .levels) (asks .levels) found)
-    unfolding weighed judgedChecksum isTaken answerNumber
+    unfolding weighed judgedSides judgedChecksum isTaken answerNumber
     weighed-told = at (isSnapshot (o .kind) && (bids .replaced || asks .replaced)) refl (not (r .cut) && over) refl (crosses levelPrice (held (bids .levels)) (held (asks .levels))) refl
       where
+        first : Bool → Bool → Bool → Answer
+        first x y z = cond x PriceTwice (cond y TooManyLevels (cond z Crossed Taken))
+
         at : (x : Bool) → (isSnapshot (o .kind) && (bids .replaced || asks .replaced)) ≡ x → (y : Bool) → (not (r .cut) && over) ≡ y → (z : Bool) → crosses levelPrice (held (bids .levels)) (held (asks .levels)) ≡ z
-            → Received next (finished (bids .levels) (asks .levels) (cond x PriceTwice (cond y TooManyLevels (cond z Crossed (cond (wrong (bids .levels) (asks .levels)) WrongChecksum Taken)))))
+            → Received next (finished (bids .levels) (asks .levels) (cond (isTaken (first x y z)) (cond (wrong (bids .levels) (asks .levels)) WrongChecksum Taken) (first x y z)))
         at true e y f z g = refuse-as PriceTwice (nine p m (twice-is ∙ e))
         at false e true f z g = refuse-as TooManyLevels (twelve p m (twice-is ∙ e) (passed-both judged .0) (passed-both judged .1) (many-is ∙ f))
         at false e false f true g = crossed-told (bids .levels) (asks .levels) (settles e f) g

@@ -5,7 +5,7 @@ use mathlib.Core.Bool.{Bool, true, false, _&&_, _||_, not, cond}
 use mathlib.Core.List.{List, map}
 use lib.Dec.{eqb, ltb}
 use lib.ListN.{length, take}
-use Rattle.lifecycle.specs.Lifecycle.{statusOf, liveLifecycle, refusedLifecycle, judgedUpdate}
+use Rattle.lifecycle.specs.Lifecycle.{statusOf, liveLifecycle, refusedLifecycle, judgedUpdate, judgedSides}
 use Rattle.answer.specs.Answers.{isTaken}
 use Rattle.decimal.specs.Decimal.{isZero}
 use Rattle.settings.specs.Rules.{rulesOf}
@@ -24,7 +24,7 @@ use Rattle.layout.specs.Layout.{isSnapshot, Printed, printed, unprinted}
 use Rattle.layout.specs.declared.Outline.{Outline}
 use Rattle.message.specs.Meaning.{Message, sidedEdit}
 use Rattle.answer.specs.declared.Answer.{Answer}
-use Rattle.answer.specs.declared.Answer.the-variants.{Taken, PriceTwice, TooManyLevels, WrongChecksum, Crossed}
+use Rattle.answer.specs.declared.Answer.the-variants.{Taken, WrongChecksum}
 use Rattle.message.specs.declared.Verdict.{Verdict}
 use Rattle.message.specs.declared.Verdict.the-variants.{Fails, Passes}
 use Rattle.reference.specs.Reference.{isShut, checksumOf, oneMore, verdict, After, answered, receive}
@@ -128,9 +128,8 @@ judgedChecksum o d bids asks =
 -- Checks 9, 12, 16 and 13.
 unfoldable pub weighed : Outline → Dialect → Bool → Bool → Levels → Levels → Answer
 weighed o d replaced over bids asks =
-    cond (isSnapshot (o .kind) && replaced) PriceTwice
-    (cond (not (rulesOf d .cut) && over) TooManyLevels
-    (cond (crosses levelPrice (held bids) (held asks)) Crossed (judgedChecksum o d bids asks)))
+    let found : Answer = judgedSides (o .kind) replaced (not (rulesOf d .cut) && over) (crosses levelPrice (held bids) (held asks)) in
+    cond (isTaken found) (judgedChecksum o d bids asks) found
 
 -- .. of what the entries made of the sides.
 abbrev pub weighedSides : Outline → Dialect → SideAfter → SideAfter → Answer

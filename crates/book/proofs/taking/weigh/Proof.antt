@@ -1,6 +1,6 @@
 -- `weigh` meets its contract: what is found before check 13, and then that.
 use mathlib.Core.Path.{_≡_, sym, ap, ap₂, _∙_}
-use mathlib.Core.Bool.{Bool, true, false, _&&_, _||_, not}
+use mathlib.Core.Bool.{Bool, _&&_, _||_, not}
 use lib.Dec.{ltb}
 use denote.Ref.{now}
 use Rattle.settings.specs.Rules.{rulesOf}

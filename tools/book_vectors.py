@@ -42,6 +42,9 @@ class Book:
         turns = [levels[i] for i in range(max(len(bids), len(asks))) for levels in (bids, asks) if i < len(levels)]
         return zlib.crc32(b":".join(price + b":" + size for price, size in turns))
 
+    def crossed(self, sides):
+        return all(sides) and max(sides[0]) >= min(sides[1])
+
     def refuse(self, number):
         if number not in (1, 5, 10):
             self.status = "waiting"
@@ -81,6 +84,8 @@ class Book:
         sides = self.after(said)
         if is_m and max(map(len, sides)) > MAX_LEVELS:
             return self.refuse(12)
+        if self.crossed(sides):
+            return self.refuse(16)
         if said.checksum is not None and said.checksum != self.checksum(sides):
             return self.refuse(13)
         self.sides, self.status, self.number = sides, "live", said.number
@@ -233,15 +238,16 @@ def twice(files):
         files.open(*settings)
         files.take(files.message(True, [("9", "2"), ("9.0", "3")], [("10", "1")], 1, 0), 9)
         files.take(files.message(True, [("9", "2")], [("10", "1"), ("11", "1"), ("10.00", "1")], 1, 0), 9)
-        files.take(files.message(True, [("9", "2")], [("9", "1")], 1), 0)
-        files.take(files.message(False, [("9", "2"), ("9.00", "5"), ("9.0", "4")], [("9.000", "0"), ("12", "0")], 2), 0)
+        files.take(files.message(True, [("9", "2")], [("9", "1")], 1), 16)
+        files.take(files.message(True, [("9", "2")], [("9.5", "1")], 1), 0)
+        files.take(files.message(False, [("9", "2"), ("9.00", "5"), ("9.0", "4")], [("9.500", "0"), ("12", "0")], 2), 0)
         files.ask_all(1)
         files.take(files.message(False, [("9", "0"), ("9", "7")], [("12", "3"), ("12", "0.0")], 3), 0)
         files.ask_all(1)
         files.take(files.message(False, [("9", "1")], [], 4, 5), 13)
         files.ask_all(1)
         files.back()
-        files.take(files.message(True, [("9", "1")], [("0.000000001", "9999999999.999999999")], 4), 0)
+        files.take(files.message(True, [("0.000000001", "9999999999.999999999")], [("9", "1")], 4), 0)
         files.write(200)
         files.back()
         files.ask_all(1)
@@ -276,25 +282,73 @@ def meanings(files):
 
 def cuts(files):
     files.heading("K cuts to the depth after the whole message; M refuses more than 100 levels")
-    rows = [("%d.5" % price, "1") for price in range(1, 13)]
+    low, high = ([("%d.5" % price, "1") for price in range(first, first + 12)] for first in (1, 21))
     files.open(*K10)
-    files.take(files.message(True, rows, rows), 0)
+    files.take(files.message(True, low, high), 0)
     files.ask("c")
-    files.take(files.message(False, [("100", "1"), ("100", "0"), ("99", "2"), ("12.5", "0")], [("0.5", "1"), ("1.5", "0")]), 0)
+    files.take(files.message(False, [("100", "1"), ("100", "0"), ("20", "2"), ("12.5", "0")], [("20.5", "1"), ("21.5", "0")]), 0)
     files.ask("c")
     for i in (0, 8, 9, 10):
         files.ask("b", i)
         files.ask("a", i)
     files.open(*M100)
-    hundred = [("%d" % price, "1") for price in range(1, 101)]
+    hundred, far = ([("%d" % price, "1") for price in range(first, first + 100)] for first in (1, 201))
     files.take(files.message(True, hundred, [], 1), 0)
-    files.take(files.message(False, [("0.5", "1"), ("100", "0")], hundred, 2), 0)
+    files.take(files.message(False, [("0.5", "1"), ("100", "0")], far, 2), 0)
     files.ask("c")
     files.take(files.message(False, [("0.25", "1")], [], 3, 0), 12)
     files.ask_all(0)
     files.take(files.message(True, hundred + [("101", "1")], [], 1, 0), 7)
-    files.take(files.message(True, hundred, hundred, 1), 0)
+    files.take(files.message(True, hundred, far, 1), 0)
     files.take(files.message(False, [("%d" % price, "1") for price in range(101, 201)], [], 2, 0), 12)
+
+
+def crossed(files):
+    files.heading("crossed: the best bid is not below the best ask, by value, after the whole message and the cut")
+    for settings in (K10, K11, M100):
+        files.open(*settings)
+        files.take(files.message(True, [("0.5", "1")], [("0.50", "2")], 1), 16)
+        files.ask_all(0)
+        files.take(files.message(True, [("0.500000001", "1"), ("0.1", "1")], [("0.50", "2"), ("9", "1")], 1), 16)
+        files.take(files.message(True, [("9999999999.999999999", "1")], [], 1), 0)
+        files.take(files.message(True, [], [("0.000000001", "1")], 1), 0)
+        files.ask_all(0)
+        files.take(files.message(True, [("0.499999999", "1")], [("0.5", "2")], 1), 0)
+        files.ask_all(0)
+        # equal, written alike or differently; above; with another checksum
+        for bid, wrong in (("0.5", None), ("0.500", None), ("0.500000000", 5), ("7", None), ("7", 5)):
+            files.take(files.message(False, [(bid, "1")], [], 2, wrong), 16)
+            files.ask_all(1)
+            files.take(files.message(False, [], [], 3), 10)
+            files.take(files.message(True, [("0.499999999", "1")], [("0.5", "2")], 1), 0)
+        files.take(files.message(False, [], [("0.499999999", "1")], 2), 16)
+        files.take(files.message(True, [("0.499999999", "1")], [("0.5", "2")], 1), 0)
+        # on the way, and not at the end
+        files.take(files.message(False, [("7", "1"), ("7.0", "0")], [], 2), 0)
+        files.take(files.message(False, [("7", "1")], [("0.50", "0"), ("7.000000001", "1")], 3), 0)
+        files.take(files.message(False, [], [("1", "1"), ("1.0", "0.0")], 4), 0)
+        files.ask_all(1)
+        files.back()
+        # one side goes, and the other may stand anywhere
+        files.take(files.message(False, [("7", "0"), ("0.499999999", "0")], [("0.000000001", "1")], 5), 0)
+        files.ask_all(1)
+    files.heading("crossed by the best of the levels that the cut leaves; the ones that it takes away come nowhere near")
+    files.open(*K10)
+    low = [("%d.5" % price, "1") for price in range(1, 13)]
+    files.take(files.message(True, low, [("12.50", "1")]), 16)
+    files.take(files.message(True, low, [("12.6", "1")]), 0)
+    files.take(files.message(False, [("12.6", "1"), ("0.5", "1")], []), 16)
+    files.take(files.message(True, low, [("12.6", "1")]), 0)
+    files.take(files.message(False, [], [("%d.5" % price, "1") for price in range(11, 40)]), 16)
+    files.take(files.message(True, [("1.5", "1")], [("%d.5" % price, "1") for price in range(2, 60)]), 0)
+    files.take(files.message(False, [("2.50", "1")], []), 16)
+    files.heading("crossed, with too many levels 12, with an old number 11, with neither 16")
+    hundred = [("%d" % price, "1") for price in range(1, 101)]
+    for number, bid, answer in ((8, "101", 12), (7, "101", 11), (8, "100", 16), (7, "100", 11)):
+        files.open(*M100)
+        files.take(files.message(True, hundred, [("100.5", "1")], 7), 0)
+        files.take(files.message(False, [(bid, "1")], [("50.0", "1")], number), answer)
+        files.ask_all(0)
 
 
 def written(files, pick):
@@ -312,12 +366,13 @@ def written(files, pick):
         files.open(*settings)
         number = 0
         for turn in range(60):
-            def rows(count, zeros):
-                return [("%d.%0*d" % (pick.randrange(1, 30), places, pick.randrange(10 ** places)) if (places := pick.randrange(0, 4)) else "%d" % pick.randrange(1, 30),
+            def rows(count, zeros, low):
+                return [("%d.%0*d" % (pick.randrange(low, low + 30), places, pick.randrange(10 ** places)) if (places := pick.randrange(0, 4)) else "%d" % pick.randrange(low, low + 30),
                          "0" if zeros and pick.random() < 0.3 else "%d.%d" % (pick.randrange(0, 5), pick.randrange(1, 10))) for _ in range(count)]
             number += pick.randrange(0, 3)
             snapshot = turn % 20 == 0 or files.book.status != "live"
-            bids, asks = rows(pick.randrange(0, 12), not snapshot), rows(pick.randrange(0, 12), not snapshot)
+            lowest = 25 if pick.random() < 0.03 else 31
+            bids, asks = rows(pick.randrange(0, 12), not snapshot, 1), rows(pick.randrange(0, 12), not snapshot, lowest)
             if snapshot:
                 bids, asks = (list({Decimal(price): (price, size) for price, size in side}.values()) for side in (bids, asks))
             wrong = 5 if pick.random() < 0.08 else None
@@ -338,6 +393,7 @@ def main():
     twice(files)
     meanings(files)
     cuts(files)
+    crossed(files)
     written(files, random.Random(6))
     for name, lines in (("stdin", files.cases), ("stdout", files.answers)):
         with open("crates/book_vectors/" + name, "wb") as out:

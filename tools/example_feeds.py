@@ -83,6 +83,10 @@ def m_feed():
     lines.append((m_message("snapshot", bids, asks, bids, asks, 3), "0 2 1"))
     bids = bids[:1]
     lines.append((m_message("update", [("8", "0.0")], [], bids, asks, 4), "0 1 1"))
+    # The best bid at the best ask, with a right checksum.
+    crossed = [("10.50", "1")] + bids
+    lines.append((m_message("update", crossed[:1], [], crossed, asks, 5), "16 - -"))
+    lines.append((m_message("snapshot", bids, asks, bids, asks, 6), "0 1 1"))
     return lines
 
 

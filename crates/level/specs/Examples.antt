@@ -7,7 +7,7 @@ use Rattle.decimal.specs.Decimal.{Number, value}
 use Rattle.edit.specs.declared.Side.the-variants.{Bids, Asks}
 use Rattle.edit.specs.Edit.{PriceLevel, shownPrice}
 use Rattle.edit.specs.Edit.{Edit, sets, removes}
-use Rattle.level.specs.Side.{names, namesTwice, without, apply, applyAll, place, ranked}
+use Rattle.level.specs.Side.{names, namesTwice, without, apply, applyAll, place, ranked, crosses}
 use Rattle.level.specs.Ranked.{standing, afterMessage, replaces, replaced}
 
 unfoldable decimal : ℕ → ℕ → Number
@@ -56,3 +56,16 @@ not-met = refl
 absent-price : afterMessage shownPrice Asks 10 (removes (decimal 6 0) ∷ []) (level 5 ∷ level 7 ∷ []) ≡ level 5 ∷ level 7 ∷ []
 unfolding level decimal afterMessage applyAll apply without ranked place value
 absent-price = refl
+
+-- one price on both sides, written differently, is crossed; a side alone is not
+equal-crossed : crosses shownPrice (half 5 1 ∷ []) (half 50 2 ∷ []) ≡ true
+unfolding half decimal crosses value
+equal-crossed = refl
+
+below-not-crossed : crosses shownPrice (level 4 ∷ []) (level 5 ∷ []) ≡ false
+unfolding level decimal crosses value
+below-not-crossed = refl
+
+alone-not-crossed : crosses shownPrice (level 4 ∷ []) [] ≡ false
+unfolding level decimal crosses
+alone-not-crossed = refl

@@ -6,20 +6,21 @@ use mathlib.Core.Bool.{Bool, true, false, true≢false, _&&_, cond}
 use lib.Dec.{leb}
 use Rattle.answer.specs.Answers.{leavesStatus}
 use Rattle.answer.specs.declared.Answer.{Answer}
-use Rattle.answer.specs.declared.Answer.the-variants.{NoSnapshot, OldNumber}
+use Rattle.answer.specs.declared.Answer.the-variants.{Taken, PriceTwice, NoSnapshot, OldNumber, TooManyLevels, Crossed}
 use Rattle.answer.specs.declared.Answer.the-variants as answer·
 use Rattle.settings.specs.Rules.{rulesOf}
 use Rattle.settings.specs.declared.Rules.{Rules}
 use Rattle.layout.specs.Layout.{isSnapshot}
 use Rattle.settings.specs.Kept.{configOf}
 use Rattle.settings.specs.declared.Settings.{Settings}
+use Rattle.layout.specs.declared.Kind.{Kind}
 use Rattle.layout.specs.declared.Outline.{Outline}
 use Rattle.message.specs.Meaning.{checked}
 use Rattle.message.specs.Verdict.{verdictOf}
 use Rattle.message.specs.declared.Verdict.{Verdict}
 use Rattle.message.specs.declared.Verdict.the-variants.{Fails, Passes}
 use Rattle.reference.specs.Reference.{isShut, isLive}
-use Rattle.lifecycle.specs.Lifecycle.{statusOf, refusedLifecycle, isOldBy, judgedUpdate, afterText, judged}
+use Rattle.lifecycle.specs.Lifecycle.{statusOf, refusedLifecycle, isOldBy, judgedUpdate, judgedSides, afterText, judged}
 use Rattle.lifecycle.specs.declared.State.{State}
 use Rattle.lifecycle.specs.declared.State.the-variants.{Waiting}
 use Rattle.lifecycle.specs.declared.Lifecycle.{Lifecycle}
@@ -69,7 +70,28 @@ module _ (state : State) (r : Rules) (n : ℕ) (o : Outline) where
     pub judged-new : isLive (statusOf state) ≡ true → (isOldBy r n o) ≡ false → Passes o ≡ judgedUpdate state r n o
     judged-new l e = sym (ap (λ (t : Bool). cond t (Fails OldNumber) (Passes o)) e) ∙ judged-live l
 
--- ---- checks 1 to 8 before them
+-- ---- checks 9, 12 and 16, one test at a time
+
+module _ (kind : Kind) (replaced over crossed : Bool) where
+  pub sides-twice : (isSnapshot kind && replaced) ≡ true → PriceTwice ≡ judgedSides kind replaced over crossed
+  unfolding judgedSides
+  sides-twice h = sym (rw (h, judgedSides))
+
+  module _ (a : (isSnapshot kind && replaced) ≡ false) where
+    pub sides-many : over ≡ true → TooManyLevels ≡ judgedSides kind replaced over crossed
+    unfolding judgedSides
+    sides-many h = sym (rw (a, h, judgedSides))
+
+    module _ (b : over ≡ false) where
+      pub sides-crossed : crossed ≡ true → Crossed ≡ judgedSides kind replaced over crossed
+      unfolding judgedSides
+      sides-crossed h = sym (rw (a, b, h, judgedSides))
+
+      pub sides-fit : crossed ≡ false → Taken ≡ judgedSides kind replaced over crossed
+      unfolding judgedSides
+      sides-fit h = sym (rw (a, b, h, judgedSides))
+
+-- ---- checks 1 to 8, before 10 and 11
 
 module _ (settings : Settings) (x : Lifecycle) (n : ℕ) (s : List ℕ) where
   pub judged-shut : isShut (statusOf (x .state)) ≡ true → Fails answer·.Shut ≡ judged settings x n s

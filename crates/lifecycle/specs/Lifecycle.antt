@@ -7,7 +7,7 @@ use lib.Dec.{leb, eqb}
 use lib.ListN.{length}
 use Rattle.answer.specs.Answers.{leavesStatus}
 use Rattle.answer.specs.declared.Answer.{Answer}
-use Rattle.answer.specs.declared.Answer.the-variants.{Taken, NoSnapshot, OldNumber}
+use Rattle.answer.specs.declared.Answer.the-variants.{Taken, PriceTwice, NoSnapshot, OldNumber, TooManyLevels, Crossed}
 use Rattle.answer.specs.declared.Answer.the-variants as answer·
 use Rattle.settings.specs.Settings.{good}
 use Rattle.settings.specs.Rules.{rulesOf}
@@ -81,6 +81,13 @@ judgedUpdate state r number o =
     (cond (isLive (statusOf state))
     (cond (isOldBy r number o) (Fails OldNumber) (Passes o))
     (Fails NoSnapshot))
+
+-- Checks 9, 12 and 16, by what its entries make of the sides.
+unfoldable pub judgedSides : Kind → Bool → Bool → Bool → Answer
+judgedSides kind replaced over crossed =
+    cond (isSnapshot kind && replaced) PriceTwice
+    (cond over TooManyLevels
+    (cond crossed Crossed Taken))
 
 -- What a message may be read with: of a book that is not shut the settings are good.
 pub record Ruled (settings : Settings) (now : Lifecycle) : Type 0 where

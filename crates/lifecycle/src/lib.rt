@@ -12,12 +12,13 @@ use settings::Dialect;
 use settings::Rules;
 use settings::Settings;
 use settings::rules_of;
+use text::both;
 use text::either;
 ghost use mathlib.Core.Path.{_≡_};
 ghost use mathlib.Core.Bool.{_&&_, _||_, not, cond};
 ghost use Rattle.layout.specs.Layout.{isSnapshot};
 ghost use Rattle.reference.specs.Reference.{isShut, oneMore};
-ghost use Rattle.lifecycle.specs.Lifecycle.{statusOf, firstState, answers, refusalOf, countsOf, liveLifecycle, refusedLifecycle, isOldBy, judgedUpdate, Ruled, JudgedAs};
+ghost use Rattle.lifecycle.specs.Lifecycle.{statusOf, firstState, answers, refusalOf, countsOf, liveLifecycle, refusedLifecycle, isOldBy, judgedUpdate, judgedSides, Ruled, JudgedAs};
 ghost use lib.ListN.{length};
 ghost use Rattle.edit.specs.Buffer.{bufferWords};
 
@@ -161,6 +162,23 @@ fn judge_update(state: State, rules: Rules, number: u64, outline: Outline) -> Ve
             Verdict::Passes(outline)
         }
     }
+}
+
+// Checks 9, 12 and 16 in this order: `replaced` says that some entry set a level where one stood by then, `over` that too many levels
+// stand on a side, `crossed` that the sides are crossed.
+pub fn judge_sides(kind: Kind, replaced: bool, over: bool, crossed: bool) -> Answer
+    ensures { λ r. ⌜ r ≡ judgedSides kind replaced over crossed ⌝ }
+{
+    if both(is_snapshot(kind), replaced) {
+        return Answer::PriceTwice;
+    }
+    if over {
+        return Answer::TooManyLevels;
+    }
+    if crossed {
+        return Answer::Crossed;
+    }
+    Answer::Taken
 }
 
 // How a book stands after a message that is taken.

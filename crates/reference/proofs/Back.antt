@@ -403,6 +403,7 @@ module _ (t : Config) (p : Reference) (r : Reached t p) (h : Sane p) (g : good t
           newer = λ e n. absurd (true≢false (of-update n));
           follows = λ e l n. absurd (true≢false (of-update n));
           few = rw (sides-back, open-terms) (omega arith, omega arith);
+          uncrossed = rw sides-back (r .uncrossed);
           checksum = rw (sides-back, open-terms) x;
         }
       where

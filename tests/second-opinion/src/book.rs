@@ -70,6 +70,14 @@ impl Sides {
         Sides { bids, asks }
     }
 
+    /// Both sides have levels, and the best bid is not below the best ask.
+    pub fn crossed(&self) -> bool {
+        match (self.bids.first(), self.asks.first()) {
+            (Some(bid), Some(ask)) => bid.price.value() >= ask.price.value(),
+            _ => false,
+        }
+    }
+
     fn cut(&mut self, depth: usize) {
         self.bids.truncate(depth);
         self.asks.truncate(depth);
@@ -114,14 +122,14 @@ impl Book {
     /// The answer number; the book is changed as the table says.
     pub fn take(&mut self, text: &[u8]) -> u8 {
         let Some(settings) = self.settings.clone() else { return 1 };
-        self.take_read(&settings, message::read(&settings, text))
+        self.take_read(&settings, &message::read(&settings, text))
     }
 
     /// As `take`, of a message that was read with these settings.
-    pub fn take_read(&mut self, settings: &Settings, read: Result<Message, Refusal>) -> u8 {
+    pub fn take_read(&mut self, settings: &Settings, read: &Result<Message, Refusal>) -> u8 {
         let refusal = match read {
-            Ok(message) => self.apply(settings, &message),
-            Err(refusal) => Err(refusal),
+            Ok(message) => self.apply(settings, message),
+            Err(refusal) => Err(*refusal),
         };
         match refusal {
             Ok(()) => 0,
@@ -146,7 +154,7 @@ impl Book {
         sides
     }
 
-    /// Checks 10 to 13, and the book after a taken message.
+    /// Checks 10 to 13 and 16, and the book after a taken message.
     fn apply(&mut self, settings: &Settings, message: &Message) -> Result<(), Refusal> {
         let is_update = message.kind == Kind::Update;
         let is_m = settings.dialect == Dialect::M;
@@ -159,6 +167,9 @@ impl Book {
         let sides = self.after(settings, message);
         if is_m && (sides.bids.len() > MAX_LEVELS || sides.asks.len() > MAX_LEVELS) {
             return Err(12);
+        }
+        if sides.crossed() {
+            return Err(16);
         }
         if message.checksum.is_some_and(|sum| sum != sides.checksum(settings.dialect)) {
             return Err(13);

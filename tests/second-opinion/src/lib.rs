@@ -5,11 +5,13 @@
 pub mod aimed;
 pub mod book;
 pub mod crc;
+pub mod crossed;
 pub mod damage;
 pub mod decimal;
 pub mod escapes;
 pub mod json;
 pub mod lines;
+pub mod making;
 pub mod message;
 pub mod random;
 pub mod replay;

@@ -1,7 +1,8 @@
 //! What came up in the calls that were compared, beside the answer numbers: the
 //! ends of the rules that chance alone would rarely reach.
 
-use crate::book::{Book, Scope};
+use crate::book::{Book, Scope, Sides};
+use crate::crossed;
 use crate::escapes;
 use crate::message::{self, BadText, Entry, Kind, Level, Message, Side};
 use crate::session::{Call, Session};
@@ -96,12 +97,14 @@ impl Seen {
 
     fn message(&mut self, book: &mut Book, settings: &Settings, text: &[u8]) {
         let read = message::read(settings, text);
-        let worked = read.as_ref().ok().map(|message| Side::BOTH.map(|side| worked(book, message, side)));
-        let levels: Vec<Level> = read.iter().flat_map(|message| &message.entries).map(|entry| entry.level).collect();
-        let answer = book.take_read(settings, read);
-        self.causes(settings, text, answer);
-        let Some(worked) = worked else { return };
-        for (most, end) in worked {
+        let before = book.sides.clone();
+        let answer = book.take_read(settings, &read);
+        self.texts(settings, text, answer);
+        let Ok(message) = read else { return };
+        // A refused message leaves the sides as they were.
+        let after = if answer == 0 { book.sides.clone() } else { book.after(settings, &message) };
+        self.causes(settings.dialect, crossed::seen(settings, &message, &before, &after, answer));
+        for (most, end) in Side::BOTH.map(|side| worked(&before, &message, side)) {
             match (settings.dialect, answer) {
                 (Dialect::K, 0) => {
                     if most == 200 {
@@ -122,16 +125,19 @@ impl Seen {
             }
         }
         if answer == 0 {
-            levels.iter().for_each(|level| self.digits(level));
+            message.entries.iter().for_each(|entry| self.digits(&entry.level));
         }
     }
 
-    /// Why a message got its answer, counted for each dialect.
-    fn causes(&mut self, settings: &Settings, text: &[u8], answer: u8) {
+    /// What the texts of a message brought up.
+    fn texts(&mut self, settings: &Settings, text: &[u8], answer: u8) {
         let bad = (answer == 8).then(|| &text[message::first_bad(Some(settings), text)]);
-        for cause in escapes::seen(settings, text, answer, bad) {
-            self.count(&of_dialect(settings.dialect, cause));
-        }
+        self.causes(settings.dialect, escapes::seen(settings, text, answer, bad));
+    }
+
+    /// Why a message got its answer, counted for each dialect.
+    fn causes(&mut self, dialect: Dialect, causes: Vec<&str>) {
+        causes.into_iter().for_each(|cause| self.count(&of_dialect(dialect, cause)));
     }
 
     fn digits(&mut self, level: &Level) {
@@ -205,13 +211,16 @@ fn of_dialect(dialect: Dialect, cause: &str) -> String {
 
 /// What every run has to bring up in each dialect.
 pub fn causes() -> Vec<String> {
-    let of = |dialect: Dialect| escapes::causes(dialect).into_iter().map(move |cause| of_dialect(dialect, cause));
+    let of = |dialect: Dialect| {
+        let all = [escapes::causes(dialect), crossed::causes(dialect)].concat();
+        all.into_iter().map(move |cause| of_dialect(dialect, cause))
+    };
     Dialect::ALL.into_iter().flat_map(of).collect()
 }
 
 /// The most levels that a side has while the message is worked, and how many before any cut.
-fn worked(book: &Book, message: &Message, side: Side) -> (usize, usize) {
-    let standing: &[Level] = if message.kind == Kind::Update { book.sides.side(side) } else { &[] };
+fn worked(before: &Sides, message: &Message, side: Side) -> (usize, usize) {
+    let standing: &[Level] = if message.kind == Kind::Update { before.side(side) } else { &[] };
     let mut prices: HashSet<u128> = standing.iter().map(|level| level.price.value()).collect();
     let mut most = prices.len();
     for Entry { level, .. } in message.entries.iter().filter(|entry| entry.side == side) {

@@ -1,7 +1,7 @@
 //! Sessions: an opening and the calls to one book, right ones and damaged ones.
 
 use crate::book::{Book, Scope, State};
-use crate::damage::{damage_bytes, damage_draft, damage_tree, pad};
+use crate::damage::{cross, damage_bytes, damage_draft, damage_tree, pad};
 use crate::escapes::respell;
 use crate::message::{Kind, Side};
 use crate::random::Random;
@@ -186,6 +186,9 @@ impl Source {
             Kind::Snapshot => snapshot(random, book, &self.market),
             Kind::Update => update(random, book, &self.market, filling),
         };
+        if random.percent(3) {
+            draft = cross(random, book, &self.market, draft);
+        }
         let damaged = random.percent(self.damage);
         let place = if damaged { random.below(10) } else { 10 };
         if place < 5 {

@@ -2,9 +2,12 @@
 
 use crate::settings::Dialect;
 
+/// Answer numbers are below this.
+pub const ANSWERS: usize = 17;
+
 #[derive(Default)]
 pub struct Tally {
-    counts: [[u64; 16]; 2],
+    counts: [[u64; ANSWERS]; 2],
 }
 
 fn row(dialect: Dialect) -> usize {
@@ -38,7 +41,7 @@ impl Tally {
     pub fn wrong(&self, lines: bool) -> Vec<String> {
         let mut wrong = Vec::new();
         for dialect in Dialect::ALL {
-            for answer in 0..self.counts[0].len() as u8 {
+            for answer in 0..ANSWERS as u8 {
                 let wanted = is_given(dialect, answer) && !(lines && (answer == 14 || answer == 15));
                 if wanted != (self.times(dialect, answer) > 0) {
                     wrong.push(format!("answer {answer} in {}: {} times", dialect.letter(), self.times(dialect, answer)));

@@ -1,6 +1,6 @@
 //! Drafts of right messages, from the book as it stands.
 
-use crate::book::Book;
+use crate::book::{Book, Sides};
 use crate::decimal::Decimal;
 use crate::message::{Entry, Kind, Level, Message, Side, MAX_ENTRIES};
 use crate::random::Random;
@@ -8,14 +8,17 @@ use crate::settings::{Dialect, Settings};
 use crate::value::{key, nested, quoted, raw, stray, text, Value};
 use std::collections::HashSet;
 
-/// The prices of a session: `spread` ticks around `middle`, each of 10^-`decimals`.
+/// The prices of a session: `spread` ticks on each side of `middle`, each of 10^-`decimals`.
 pub struct Market {
     pub decimals: u32,
     pub middle: u64,
     pub spread: u64,
-    /// Bids and asks share their prices.
-    pub crossed: bool,
+    /// How many prices in a hundred are drawn on the other side of the middle.
+    pub crossing: usize,
 }
+
+const ENDS: [&str; 8] =
+    ["9999999999.999999999", "9223372036.854775807", "9223372036.854775808", "0.000000001", "9999999999", "9999999999.0", "1", "0.1"];
 
 /// An entry as it is to be written.
 #[derive(Clone, Debug)]
@@ -37,29 +40,32 @@ pub struct Draft {
 impl Market {
     pub fn new(random: &mut Random) -> Market {
         let spread = random.pick(&[3, 12, 60, 130, 400]);
-        let crossed = random.percent(25);
+        let crossing = random.pick(&[0, 0, 0, 0, 0, 0, 1, 10]);
         if random.percent(8) {
             let middle = random.pick(&[1 << 63, (1 << 63) + 200, 9_999_999_999_999_990_000]);
-            return Market { decimals: 9, middle, spread, crossed };
+            return Market { decimals: 9, middle, spread, crossing };
         }
         let decimals = random.below(10) as u32;
         let middle = spread + 1 + random.next() % random.pick(&[1, 50, 100_000, 900_000_000]);
-        Market { decimals, middle, spread, crossed }
+        Market { decimals, middle, spread, crossing }
     }
 
     fn tick(&self, random: &mut Random, side: Side) -> u64 {
         let step = random.next() % self.spread;
-        match side {
-            _ if self.crossed => self.middle + step,
-            Side::Bid => self.middle - 1 - step,
-            Side::Ask => self.middle + step,
+        let below = (side == Side::Bid) != random.percent(self.crossing);
+        if below {
+            self.middle - 1 - step
+        } else {
+            self.middle + step
         }
     }
 
     /// A price above zero, now and then at the ends of what is allowed.
     pub fn price(&self, random: &mut Random, side: Side) -> String {
-        if random.percent(1) {
-            let ends = ["9999999999.999999999", "9223372036.854775807", "9223372036.854775808", "0.000000001", "9999999999", "9999999999.0", "1", "0.1"];
+        let middle = Decimal { digits: self.middle, decimals: self.decimals }.value();
+        let is_below = |end: &str| Decimal::read(end.as_bytes()).is_some_and(|end| end.value() < middle);
+        let ends: Vec<&str> = ENDS.into_iter().filter(|end| is_below(end) == (side == Side::Bid)).collect();
+        if random.percent(1) && !ends.is_empty() {
             return random.pick(&ends).to_string();
         }
         let tick = Decimal { digits: self.tick(random, side), decimals: self.decimals };
@@ -184,6 +190,12 @@ pub fn finished(book: &Book, mut draft: Draft) -> Draft {
 
 /// Nothing if a text of the draft is no decimal, or the book is shut.
 pub fn right_checksum(book: &Book, draft: &Draft) -> Option<u32> {
+    let dialect = book.settings.as_ref()?.dialect;
+    Some(sides_after(book, draft)?.checksum(dialect))
+}
+
+/// The sides after the draft, as for its checksum.
+pub fn sides_after(book: &Book, draft: &Draft) -> Option<Sides> {
     let settings = book.settings.as_ref()?;
     let entry = |line: &Line| {
         let price = Decimal::read(line.price.as_bytes())?;
@@ -192,7 +204,7 @@ pub fn right_checksum(book: &Book, draft: &Draft) -> Option<u32> {
     };
     let entries = draft.lines.iter().map(entry).collect::<Option<Vec<Entry>>>()?;
     let message = Message { kind: draft.kind, entries, checksum: None, gsn: 0 };
-    Some(book.after(settings, &message).checksum(settings.dialect))
+    Some(book.after(settings, &message))
 }
 
 impl Draft {

@@ -7,7 +7,7 @@ use second_opinion::random::Random;
 use second_opinion::script::{here, script, Script};
 use second_opinion::session::{answers, session, Call, Opening, Purpose, Session};
 use second_opinion::settings::Dialect;
-use second_opinion::tally::{is_given, Tally};
+use second_opinion::tally::{is_given, Tally, ANSWERS};
 
 #[test]
 fn every_answer_comes_up() {
@@ -18,7 +18,7 @@ fn every_answer_comes_up() {
         tally.count(session.dialect, &answers(&session));
     }
     for dialect in Dialect::ALL {
-        for answer in 0..16 {
+        for answer in 0..ANSWERS as u8 {
             assert_eq!(tally.times(dialect, answer) >= 10, is_given(dialect, answer), "{dialect:?} {answer}");
         }
     }

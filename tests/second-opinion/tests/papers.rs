@@ -279,6 +279,51 @@ fn the_samples_of_the_venues() {
 "timestamp": "1764643130040025000",
 "gsn": 2309207234
 }"#;
-    assert_eq!(book.take(sample), 13);
+    // Its bid stands above the example's ask; without asks its checksum is another book's.
+    assert_eq!(book.take(sample), 16);
     assert_eq!(book.take(sample), 10);
+    assert_eq!(open_with_bid(&mut book), 0);
+    assert_eq!(book.take(sample), 13);
+}
+
+fn open_with_bid(book: &mut Book) -> u8 {
+    let sum = second_opinion::crc::crc32(b"9:2");
+    let text = format!(
+        r#"{{"channel":"book","product":"BTC-VND","type":"snapshot","data":{{"bids":[["9","2"]],"asks":[]}},"checksum":{sum},"gsn":7}}"#
+    );
+    book.take(text.as_bytes())
+}
+
+#[test]
+fn a_crossed_book_is_no_book() {
+    let mut book = k_book();
+    let snapshot = |bid: &str, ask: &str| {
+        format!(r#"[0,{{"as":[["11","1","t"],["{ask}","1","t"]],"bs":[["{bid}","1","t"],["0.1","1","t"]]}},"book-10","XBT/USD"]"#)
+    };
+    for (bid, ask, answer) in [("0.5", "0.50", 16), ("2", "1", 16), ("10", "10", 16), ("1", "2", 0), ("0.999999999", "1", 0)] {
+        assert_eq!(book.take(snapshot(bid, ask).as_bytes()), answer, "{bid} {ask}");
+        assert_eq!(book.state == State::Live, answer == 0);
+    }
+    // By an update, whatever its checksum says.
+    let update = |sum: u32| format!(r#"[0,{{"b":[["1.00","2","t"]],"c":"{sum}"}},"book-10","XBT/USD"]"#);
+    let right = second_opinion::crc::crc32(b"111111002999999999111");
+    for sum in [right, 5] {
+        assert_eq!(line(&mut book, update(sum).as_bytes()), "16 - -");
+        assert_eq!(line(&mut book, snapshot("0.999999999", "1").as_bytes()), "0 2 2");
+    }
+    // M: too many levels and an old number come first.
+    let mut book = open(Dialect::M, 100, "a");
+    let hundred: Vec<String> = (1..=100).map(|price| format!(r#"["{price}","1"]"#)).collect();
+    let text: Vec<String> = (1..=100).rev().map(|price| format!("{price}:1")).collect();
+    let sum = second_opinion::crc::crc32(text.join(":").as_bytes());
+    assert_eq!(book.take(&m_text("snapshot", &hundred.join(","), sum, 7)), 0);
+    let crossing = |gsn: u64, bid: &str| {
+        let data = format!(r#"{{"bids":[["{bid}","1"]],"asks":[["50.0","1"]]}}"#);
+        format!(r#"{{"channel":"book","product":"a","type":"update","data":{data},"checksum":0,"gsn":{gsn}}}"#)
+    };
+    let mut again = book.clone();
+    assert_eq!(again.take(crossing(7, "101").as_bytes()), 11);
+    let mut again = book.clone();
+    assert_eq!(again.take(crossing(8, "101").as_bytes()), 12);
+    assert_eq!(book.take(crossing(8, "100").as_bytes()), 16);
 }

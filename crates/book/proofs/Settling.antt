@@ -444,18 +444,16 @@ module _ (b : Book) (o : Outline) (buffer : List ℕ) (k : Passed b o buffer) wh
 
 -- ---- checksums
 
-pub k-sums : (d : Dialect) (bids asks : Levels) → d ≡ K → Sound (rulesOf d .text) Bids bids → Sound (rulesOf d .text) Asks asks
+pub k-sums : (t : SumText) (bids asks : Levels) → t ≡ Stripped → Sound t Bids bids → Sound t Asks asks
     → kept·.Good Bids bids × kept·.Good Asks asks × All (Carries kPiece) (held bids) × All (Carries kPiece) (held asks)
-unfolding rulesOf
-k-sums d bids asks e x y =
-    let x′ : Sound Stripped Bids bids = subst (λ (z : Dialect). Sound (rulesOf z .text) Bids bids) e x in
-    let y′ : Sound Stripped Asks asks = subst (λ (z : Dialect). Sound (rulesOf z .text) Asks asks) e y in
+k-sums t bids asks e x y =
+    let x′ : Sound Stripped Bids bids = subst (λ (z : SumText). Sound z Bids bids) e x in
+    let y′ : Sound Stripped Asks asks = subst (λ (z : SumText). Sound z Asks asks) e y in
     (x′ .good, y′ .good, x′ .carried, y′ .carried)
 
-pub m-sums : (d : Dialect) (bids asks : Levels) → d ≡ M → Sound (rulesOf d .text) Bids bids → Sound (rulesOf d .text) Asks asks
+pub m-sums : (t : SumText) (bids asks : Levels) → t ≡ Interleaved → Sound t Bids bids → Sound t Asks asks
     → kept·.Good Bids bids × kept·.Good Asks asks × All (Carries mPiece) (held bids) × All (Carries mPiece) (held asks)
-unfolding rulesOf
-m-sums d bids asks e x y =
-    let x′ : Sound Interleaved Bids bids = subst (λ (z : Dialect). Sound (rulesOf z .text) Bids bids) e x in
-    let y′ : Sound Interleaved Asks asks = subst (λ (z : Dialect). Sound (rulesOf z .text) Asks asks) e y in
+m-sums t bids asks e x y =
+    let x′ : Sound Interleaved Bids bids = subst (λ (z : SumText). Sound z Bids bids) e x in
+    let y′ : Sound Interleaved Asks asks = subst (λ (z : SumText). Sound z Asks asks) e y in
     (x′ .good, y′ .good, x′ .carried, y′ .carried)

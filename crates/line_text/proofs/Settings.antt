@@ -8,7 +8,7 @@ use native.Mathlib.Omega.{arith}
 use borrow.Author.Tests.{lt-ltb, le-ltb, eq-eqb, ne-eqb}
 use lib.Dec.{eqb}
 use lib.ListN.{length, getD, take, drop, length-drop, drop-of-length-le}
-use lib.Seq.{drop-drop}
+use lib.Seq.{take-all, drop-drop}
 use Rattle.lines.specs.Lines.{bytesBefore}
 use Rattle.decimal.specs.Digits.{reads, refused}
 use Rattle.decimal.specs.Whole.{readWhole}
@@ -100,3 +100,11 @@ other-word [] h k = refl
 other-word (c ∷ []) h k = absurd (h refl)
 other-word (c ∷ (d ∷ [])) h k = absurd (k refl)
 other-word (c ∷ (d ∷ (e ∷ w))) h k = refl
+
+-- what was found, with the name as a part of the line that goes on to its end
+pub found-config : (line : List ℕ) (t : Config) (r : FirstLine) → Found line t r
+    → record { dialect = r .dialect; depth = r .depth; name = take (length line - r .name) (drop (r .name) line) } ≡ t
+unfolding configOn
+found-config line t r f =
+    let l = length-drop (r .name) line in
+    ap (λ (name : List ℕ). record { dialect = r .dialect; depth = r .depth; name = name }) (take-all (length line - r .name) (drop (r .name) line) (omega arith)) ∙ f .same

@@ -156,7 +156,7 @@ pub fn causes(dialect: Dialect) -> Vec<&'static str> {
     let both = [SNAPSHOT, UPDATE, ALIKE, DIFFERENTLY, ABOVE, RIGHT, WRONG, MIDWAY, BESIDE, ONE_SIDE];
     match dialect {
         Dialect::K => [both.as_slice(), &[CUT]].concat(),
-        Dialect::M => [both.as_slice(), &[MANY, OLD]].concat(),
+        Dialect::M1 | Dialect::M2 => [both.as_slice(), &[MANY, OLD]].concat(),
     }
 }
 

@@ -18,8 +18,8 @@ use Rattle.book.specs.declared.Book.{Book}
 use Rattle.feed.specs.declared.Stream.{Stream}
 use Rattle.feed.specs.declared.Block.{Block}
 use Rattle.feed.specs.declared.Answered.{Answered}
-use Rattle.feed.specs.Feed.{session, output, carried, maxReply}
-use Rattle.feed.specs.Stream.{State, lineOneAwaited, bookOpen, Transcript, extend, after, begun, SoFar, stateOf, transcriptOf, Holds, pendingOf, AnsweredBlock, Finished, AnsweredLines}
+use Rattle.feed.specs.Feed.{session, output, carried, maxReply, processing}
+use Rattle.feed.specs.Stream.{State, lineOneAwaited, bookOpen, Transcript, extend, after, begun, SoFar, FeedProgress, answering, lastLines, stateOf, transcriptOf, Holds, pendingOf, AnsweredBlock, Finished, AnsweredLines}
 use Rattle.feed.proofs.Blocks.{same-after, after-append, after-session}
 
 -- ---- a block more
@@ -136,17 +136,22 @@ module _ {s before filled : List ℕ} {r : Answered} (isOpen : Bool) (p : Refere
 
   pub first-answered : {e : ℕ} {book : Book} → isOpen ≡ false → e ≡ 0 + bytesBefore lineEnd (drop 0 s) → e < length s → Opened (lineOne (take e s)) book →
       AnsweredLines s (e + 1) (bookOpen (shows book)) before r filled → AnsweredLines s 0 (stateOf isOpen p) before r filled
-  unfolding stateOf after extend
+  unfolding stateOf after extend answering
   first-answered {e} {book} f is h o a =
       let z : e - 0 ≡ e = omega arith in
       let n : complete (drop 0 s) ≡ take (e - 0) (drop 0 s) ∷ complete (drop (e + 1) s) = next-complete s 0 e is h in
+      let book-is : opened (lineOne (take (e - 0) (drop 0 s))) ≡ shows book = ap (λ (k : ℕ). opened (lineOne (take k (drop 0 s)))) z ∙ sym (o .same) in
       record {
         good = a .good;
         within = a .within;
         room = a .room;
+        same = sym (ap (λ (b : Bool). answering (stateOf b p) (complete (drop 0 s)) before) f
+            ∙ ap (λ (ls : List (List ℕ)). answering lineOneAwaited ls before) n
+            ∙ ap (λ (q : Reference). answering (bookOpen q) (complete (drop (e + 1) s)) before) book-is
+            ∙ sym (a .same));
         lines = λ said. ap (λ (b : Bool). after (record { state = stateOf b p; replies = said }) (complete (drop 0 s))) f
             ∙ ap (after (record { state = lineOneAwaited; replies = said })) n
-            ∙ ap (λ (q : Reference). after (record { state = bookOpen q; replies = said }) (complete (drop (e + 1) s))) (ap (λ (k : ℕ). opened (lineOne (take k (drop 0 s)))) z ∙ sym (o .same))
+            ∙ ap (λ (q : Reference). after (record { state = bookOpen q; replies = said }) (complete (drop (e + 1) s))) book-is
             ∙ a .lines said;
         past = a .past;
         rest = a .rest ∙ sym (next-unfinished s 0 e is h);
@@ -156,18 +161,22 @@ module _ {s before filled : List ℕ} {r : Answered} (isOpen : Bool) (p : Refere
 
 pub none-answered : (s buffer : List ℕ) (book : Book) (isOpen : Bool) {e : ℕ} → isOpen ≡ false → Good book → e ≡ 0 + bytesBefore lineEnd (drop 0 s) → length s ≤ e →
     AnsweredLines s 0 (stateOf isOpen (shows book)) buffer (record { book = book; next = 0; written = 0; opened = false }) buffer
-unfolding stateOf
+unfolding stateOf answering
 none-answered s buffer book isOpen {e} f good is h =
+    let none : complete (drop 0 s) ≡ [] = no-more s 0 e is h in
     record {
       good = good;
       within = zero-le;
       room = zero-le;
+      same = ap (λ (ls : List (List ℕ)). record { state = lineOneAwaited; buffer = buffer; past = 0; left = ls }) none
+          ∙ sym (ap (λ (b : Bool). answering (stateOf b (shows book)) (complete (drop 0 s)) buffer) f
+          ∙ ap (λ (ls : List (List ℕ)). answering lineOneAwaited ls buffer) none);
       lines = λ said. ap (λ (b : Bool). after (record { state = stateOf b (shows book); replies = said }) (complete (drop 0 s))) f
           ∙ ap (λ (w : List ℕ). after (record { state = lineOneAwaited; replies = w }) (complete (drop 0 s))) (sym (append-nil said));
       past = refl;
       rest = refl;
-      all = λ _. no-more s 0 e is h;
-      one = λ _ _. no-more s 0 e is h;
+      all = λ _. none;
+      one = λ _ _. none;
     }
 
 -- ---- a block
@@ -254,25 +263,47 @@ unfolding lastLine
 last-line [] h = absurd (omega (arith, h))
 last-line (c ∷ s) h = refl
 
+last-lines : (s : List ℕ) → 0 < length s → lastLines s ≡ complete (s ++ (lineEnd ∷ []))
+unfolding lastLines
+last-lines [] h = absurd (omega (arith, h))
+last-lines (c ∷ s) h = refl
+
+nothing : (state : State) (buffer : List ℕ) → answering state [] buffer ≡ record { state = state; buffer = buffer; past = 0; left = [] }
+unfolding answering processing
+nothing (bookOpen p) buffer = refl
+nothing lineOneAwaited buffer = refl
+
 module _ (stream : Stream) (input : List ℕ) {filled : List ℕ} where
-  pub finished-none : stream .to ≡ stream .from → Finished stream input filled 0 filled
-  unfolding after lastLine
+  pub finished-none : stream .to ≡ stream .from → Finished stream input filled 0 input filled
+  unfolding after lastLine lastLines
   finished-none e =
       let z : stream .to - stream .from ≡ 0 = omega arith in
       let p : pendingOf stream input ≡ [] = ap (λ (n : ℕ). take n (drop (stream .from) input)) z in
+      let n = ap (λ (x : List ℕ). answering (stateOf (stream .opened) (shows (stream .book))) (lastLines x) filled) p ∙ nothing (stateOf (stream .opened) (shows (stream .book))) filled in
       record {
         room = zero-le;
-        past = refl;
-        last = λ none said. append-nil said ∙ ap (λ (x : List ℕ). after (transcriptOf stream said) (lastLine x) .replies) (sym p);
+        kept = refl;
+        written = sym (ap (λ (x : FeedProgress). x .past) n);
+        bytes = sym (ap (λ (x : FeedProgress). x .buffer) n);
         all = λ none text said h. append-nil said ∙ ap (λ (x : List ℕ). after (transcriptOf stream said) (lastLine x) .replies) (sym p) ∙ last-said h none;
       }
 
-  pub finished-last : {before : List ℕ} {r : Answered} → Holds stream input → stream .to < length input → (stream .to ≡ stream .from → ⊥) → maxReply ≤ length before →
+  pub finished-last : {before input' : List ℕ} {r : Answered} → Holds stream input → stream .to < length input → (stream .to ≡ stream .from → ⊥) → maxReply ≤ length before → input' ≡ input →
       AnsweredLines (take (stream .to + 1 - stream .from) (drop (stream .from) (set input (stream .to) lineEnd))) 0 (stateOf (stream .opened) (shows (stream .book))) before r filled →
-      Finished stream input before (r .written) filled
+      Finished stream input before (r .written) input' filled
   unfolding after
-  finished-last {before} {r} holds within some room a =
-      record { room = a .room; past = a .past; last = last; all = λ none text said h. last none said ∙ last-said h none }
+  finished-last {before} {input'} {r} holds within some room kept a =
+      let o = holds .order in
+      let l = part-length input (stream .from) (stream .to) o (holds .within) in
+      let n = a .same ∙ ap (λ (ls : List (List ℕ)). answering (stateOf (stream .opened) (shows (stream .book))) ls before)
+      (ap complete (part-ended input (stream .from) (stream .to) lineEnd o within) ∙ sym (last-lines (pendingOf stream input) (omega arith))) in
+      record {
+        room = a .room;
+        kept = kept;
+        written = ap (λ (x : FeedProgress). x .past) n;
+        bytes = ap (λ (x : FeedProgress). x .buffer) n;
+        all = λ none text said h. last none said ∙ last-said h none;
+      }
     where
       last : complete (pendingOf stream input) ≡ [] → (said : List ℕ) → said ++ take (r .written) filled ≡ after (transcriptOf stream said) (lastLine (pendingOf stream input)) .replies
       last none said =

@@ -4,14 +4,14 @@ use mathlib.Core.Path.{_≡_}
 use mathlib.Core.Bool.{Bool, true, false}
 use mathlib.Core.List.{List, [], _∷_, _++_}
 use lib.ListN.{length, take, drop}
-use Rattle.lines.specs.Lines.{complete, unfinished, lastLine}
+use Rattle.lines.specs.Lines.{lineEnd, complete, unfinished}
 use Rattle.line_text.specs.Opening.{lineOne}
 use Rattle.reference.specs.Reference.{Reference, opened, receive}
 use Rattle.book.specs.Shown.{Good, shows}
 use Rattle.feed.specs.declared.Stream.{Stream}
 use Rattle.feed.specs.declared.Block.{Block}
 use Rattle.feed.specs.declared.Answered.{Answered}
-use Rattle.feed.specs.Feed.{replyTo, session, output, carried, maxReply}
+use Rattle.feed.specs.Feed.{replyTo, session, output, carried, maxReply, Progress, processing}
 
 -- ---- line by line
 
@@ -41,6 +41,29 @@ begun = record { state = lineOneAwaited; replies = [] }
 pub record SoFar (text : List ℕ) (t : Transcript) (pending : List ℕ) : Type 0 where
   pub lines : after t (complete pending) ≡ after begun (complete text)
   pub rest : take carried (unfinished pending) ≡ take carried (unfinished text)
+
+-- ---- as far as a buffer has room for the replies
+
+-- What a feed has come to after some lines, the buffer, the position past the replies, and the lines that are left.
+pub record FeedProgress : Type 0 where
+  pub state : State
+  pub buffer : List ℕ
+  pub past : ℕ
+  pub left : List (List ℕ)
+
+abbrev pub ofBook : Progress → FeedProgress
+ofBook x = record { state = bookOpen (x .book); buffer = x .buffer; past = x .past; left = x .left }
+
+-- Line 1 opens the book, if it is awaited; every later line is a message.
+unfoldable pub answering : State → List (List ℕ) → List ℕ → FeedProgress
+answering (bookOpen p) ls buffer = ofBook (processing ls p buffer 0)
+answering lineOneAwaited [] buffer = record { state = lineOneAwaited; buffer = buffer; past = 0; left = [] }
+answering lineOneAwaited (line ∷ ls) buffer = ofBook (processing ls (opened (lineOne line)) buffer 0)
+
+-- The lines at the end of the input: a line end follows what was not answered, unless that is nothing.
+unfoldable pub lastLines : List ℕ → List (List ℕ)
+lastLines [] = []
+lastLines (c ∷ s) = complete (c ∷ s ++ (lineEnd ∷ []))
 
 -- ---- in the code's terms
 
@@ -85,11 +108,12 @@ pub record AnsweredBlock (stream : Stream) (input : List ℕ) (got : ℕ) (befor
   pub all : r .more ≡ false → (text said : List ℕ) → SoFar text (transcriptOf stream said) (pendingOf stream input) →
       said ++ take (r .written) buffer' ≡ session (complete (text ++ take got (drop (stream .to) input)))
 
--- At the end of the input: the last line is answered, if it isn't empty, and the replies are those to the whole text.
-pub record Finished (stream : Stream) (input before : List ℕ) (r : ℕ) (buffer' : List ℕ) : Type 0 where
+-- At the end of the input: the last lines are answered, and where no whole line was left, the replies are those to the whole text. The input buffer is as before.
+pub record Finished (stream : Stream) (input before : List ℕ) (r : ℕ) (input' buffer' : List ℕ) : Type 0 where
   pub room : r ≤ length buffer'
-  pub past : drop r buffer' ≡ drop r before
-  pub last : complete (pendingOf stream input) ≡ [] → (said : List ℕ) → said ++ take r buffer' ≡ after (transcriptOf stream said) (lastLine (pendingOf stream input)) .replies
+  pub kept : input' ≡ input
+  pub written : r ≡ answering (stateOf (stream .opened) (shows (stream .book))) (lastLines (pendingOf stream input)) before .past
+  pub bytes : buffer' ≡ answering (stateOf (stream .opened) (shows (stream .book))) (lastLines (pendingOf stream input)) before .buffer
   pub all : complete (pendingOf stream input) ≡ [] → (text said : List ℕ) → SoFar text (transcriptOf stream said) (pendingOf stream input) →
       said ++ take r buffer' ≡ output text
 
@@ -98,6 +122,8 @@ pub record AnsweredLines (s : List ℕ) (from : ℕ) (state : State) (before : L
   pub good : Good (r .book)
   pub within : r .next ≤ length s
   pub room : r .written ≤ length buffer'
+  pub same : record { state = stateOf (r .opened) (shows (r .book)); buffer = buffer'; past = r .written; left = complete (drop (r .next) s) }
+      ≡ answering state (complete (drop from s)) before
   pub lines : (said : List ℕ) → after (record { state = state; replies = said }) (complete (drop from s))
       ≡ after (record { state = stateOf (r .opened) (shows (r .book)); replies = said ++ take (r .written) buffer' }) (complete (drop (r .next) s))
   pub past : drop (r .written) buffer' ≡ drop (r .written) before

@@ -6,8 +6,9 @@ use mathlib.Core.List.{List, [], _∷_, _++_, append-nil}
 use native.Mathlib.Decide.{decLt}
 use native.Mathlib.Nat.{zero-add}
 use native.Mathlib.Omega.{arith}
+use borrow.Author.Tests.{lt-ltb, le-ltb}
 use lib.ListN.{length, take, drop, set, length-take, length-drop}
-use lib.Seq.{length-take-le, take-add, take-take, drop-drop, drop-at, paste, take-paste, take-all, set-split, drop-set-add, take-set-le}
+use lib.Seq.{length-take-le, take-add, take-take, drop-drop, drop-at, paste, take-paste, drop-paste, take-all, set-split, drop-set-add, take-set-le}
 use Rattle.lines.specs.Lines.{bytesBefore, lineEnd, complete, unfinished, lastLine, linesOf}
 use Rattle.lines.proofs.Split.{none-complete, none-unfinished, next-complete, next-unfinished, no-more}
 use Rattle.lines.proofs.Blocks.{Unended, unended-take, unfinished-unended, none-unended, complete-split, unfinished-split, ended-complete, cut-again, same-last, same-complete, same-unfinished}
@@ -116,6 +117,13 @@ part-moved s a e held most order within is =
           ap (λ (n : ℕ). take n (drop a s)) k ∙ sym (take-all most (take (e - a) (drop a s)) (omega arith))
     ]
 
+-- what stands behind a part that was moved to the front
+pub part-behind : (s : List ℕ) (a e held : ℕ) → a ≤ e → e ≤ length s → held ≤ e - a → drop held (paste s 0 (drop a s) held) ≡ drop held s
+part-behind s a e held order within most =
+    let l = length-drop a s in
+    ap (λ (n : ℕ). drop n (paste s 0 (drop a s) held)) (sym (zero-add held)) ∙ drop-paste s 0 (drop a s) held (omega arith) (omega arith)
+    ∙ ap (λ (n : ℕ). drop n s) (zero-add held)
+
 -- a byte stored behind a part
 pub part-ended : (s : List ℕ) (a e b : ℕ) → a ≤ e → e < length s → take (e + 1 - a) (drop a (set s e b)) ≡ take (e - a) (drop a s) ++ (b ∷ [])
 part-ended s a e b order within =
@@ -198,9 +206,12 @@ module _ (stream : Stream) (input : List ℕ) (got : ℕ) {before filled : List 
   whole : part ≡ pendingOf stream input ++ block
   whole = part-more input (stream .from) (stream .to) got (holds .order)
 
-  answered : (said : List ℕ) → after (transcriptOf stream said) (complete (pendingOf stream input ++ block))
-      ≡ after (record { state = stateOf (r .opened) (shows (r .book)); replies = said ++ take (r .written) filled }) (complete (drop (r .next) part))
-  answered said = ap (λ (x : List ℕ). after (transcriptOf stream said) (complete x)) (sym whole) ∙ a .lines said
+  came-to : (ls : List (List ℕ)) → complete (drop (r .next) part) ≡ ls →
+      record { state = stateOf (r .opened) (shows (r .book)); buffer = filled; past = r .written; left = ls }
+      ≡ answering (stateOf (stream .opened) (shows (stream .book))) (complete (pendingOf stream input ++ block)) before
+  came-to ls e =
+      ap (λ (x : List (List ℕ)). record { state = stateOf (r .opened) (shows (r .book)); buffer = filled; past = r .written; left = x }) (sym e)
+      ∙ a .same ∙ ap (λ (x : List ℕ). answering (stateOf (stream .opened) (shows (stream .book))) (complete x) before) whole
 
   reached : (text said : List ℕ) → SoFar text (transcriptOf stream said) (pendingOf stream input) →
       SoFar (text ++ block) (record { state = stateOf (r .opened) (shows (r .book)); replies = said ++ take (r .written) filled }) (drop (r .next) part)
@@ -217,10 +228,13 @@ module _ (stream : Stream) (input : List ℕ) (got : ℕ) {before filled : List 
         holds = record { good = a .good; order = answered-within; within = fits };
         room = a .room;
         so-far = λ text said h. subst (λ (x : List ℕ). SoFar (text ++ block) (record { state = stateOf (r .opened) (shows (r .book)); replies = said ++ take (r .written) filled }) x) left (reached text said h);
+        same = came-to (complete (take (stream .to + got - (stream .from + r .next)) (drop (stream .from + r .next) input))) (ap complete left);
         past = a .past;
+        more = sym (lt-ltb (length filled) (r .written + maxReply) (omega arith));
         kept = λ _. refl;
-        full = λ _. omega arith;
-        lines = λ said. answered said ∙ ap (λ (x : List ℕ). after (record { state = stateOf (r .opened) (shows (r .book)); replies = said ++ take (r .written) filled }) (complete x)) left;
+        end-kept = λ _. refl;
+        front = λ e. absurd (let z : _≡_ {A = ℕ} 0 1 = cc in omega arith);
+        behind = λ e. absurd (let z : _≡_ {A = ℕ} 0 1 = cc in omega arith);
         left-over = λ _. ap unfinished (sym left) ∙ a .rest ∙ ap unfinished whole;
         carried-over = λ e. absurd (let z : _≡_ {A = ℕ} 0 1 = cc in omega arith);
         short = λ e. absurd (let z : _≡_ {A = ℕ} 0 1 = cc in omega arith);
@@ -238,21 +252,24 @@ module _ (stream : Stream) (input : List ℕ) (got : ℕ) {before filled : List 
       let pending : take (held - 0) (drop 0 moved) ≡ take carried (drop (r .next) part) =
       ap (λ (n : ℕ). take n (drop 0 moved)) z ∙ ap (take held) bytes
       ∙ part-moved input (stream .from + r .next) (stream .to + got) held carried answered-within fits is ∙ ap (take carried) (sym left) in
+      let none-held : complete (take (held - 0) (drop 0 moved)) ≡ [] = ap complete pending ∙ carried-none (drop (r .next) part) none in
       record {
         holds = record { good = a .good; order = zero-le; within = inside };
         room = a .room;
         so-far = λ text said h.
             subst (λ (x : List ℕ). SoFar (text ++ block) (record { state = stateOf (r .opened) (shows (r .book)); replies = said ++ take (r .written) filled }) x) (sym pending)
             (carried-over (reached text said h) none);
-        full = λ e. absurd (let z : _≡_ {A = ℕ} 0 1 = cc in omega arith);
+        same = came-to (complete (take (held - 0) (drop 0 moved))) (none ∙ sym none-held);
         past = a .past;
+        more = sym (le-ltb (length filled) (r .written + maxReply) (omega arith));
         kept = λ e. absurd (let z : _≡_ {A = ℕ} 0 1 = cc in omega arith);
+        end-kept = λ e. absurd (let z : _≡_ {A = ℕ} 0 1 = cc in omega arith);
+        front = λ _. refl;
+        behind = λ _. ap (drop held) bytes ∙ part-behind input (stream .from + r .next) (stream .to + got) held answered-within fits (omega arith);
         short = λ _. omega arith;
-        lines = λ said. answered said
-            ∙ ap (after (record { state = stateOf (r .opened) (shows (r .book)); replies = said ++ take (r .written) filled })) (none ∙ sym (ap complete pending ∙ carried-none (drop (r .next) part) none));
         left-over = λ e. absurd (let z : _≡_ {A = ℕ} 0 1 = cc in omega arith);
         carried-over = λ _. pending ∙ ap (take carried) (sym (none-unfinished (drop (r .next) part) (none-unended (drop (r .next) part) none)) ∙ a .rest ∙ ap unfinished whole);
-        none-left = λ _. ap complete pending ∙ carried-none (drop (r .next) part) none;
+        none-left = λ _. none-held;
         all = λ _ text said h. all-said (reached text said h) none;
       }
 
@@ -285,6 +302,7 @@ module _ (stream : Stream) (input : List ℕ) {filled : List ℕ} where
         kept = refl;
         written = sym (ap (λ (x : FeedProgress). x .past) n);
         bytes = sym (ap (λ (x : FeedProgress). x .buffer) n);
+        past = refl;
         all = λ none text said h. append-nil said ∙ ap (λ (x : List ℕ). after (transcriptOf stream said) (lastLine x) .replies) (sym p) ∙ last-said h none;
       }
 
@@ -302,6 +320,7 @@ module _ (stream : Stream) (input : List ℕ) {filled : List ℕ} where
         kept = kept;
         written = ap (λ (x : FeedProgress). x .past) n;
         bytes = ap (λ (x : FeedProgress). x .buffer) n;
+        past = a .past;
         all = λ none text said h. last none said ∙ last-said h none;
       }
     where

@@ -1,8 +1,9 @@
 -- A feed that comes in blocks: what was replied to the text so far. Assumes nothing: these are definitions.
-use Prim.Native.Nat.{ℕ, _+_, _-_, _≤_, _<_}
+use Prim.Native.Nat.{ℕ, _+_, _-_, _≤_}
 use mathlib.Core.Path.{_≡_}
 use mathlib.Core.Bool.{Bool, true, false}
 use mathlib.Core.List.{List, [], _∷_, _++_}
+use lib.Dec.{ltb}
 use lib.ListN.{length, take, drop}
 use Rattle.lines.specs.Lines.{lineEnd, complete, unfinished}
 use Rattle.line_text.specs.Opening.{lineOne}
@@ -88,21 +89,28 @@ pub record Started (r : Stream) : Type 0 where
   pub none : r .to ≡ 0
   pub so-far : (input : List ℕ) → SoFar [] (transcriptOf r []) (pendingOf r input)
 
--- After `got` bytes more: the lines that end in the bytes which were not answered before and in these are answered, as many as there is room for; what
--- they leave unfinished is kept, or as much of it as is carried over. So all that was read so far is accounted for, and once no room is missing, the replies
--- are those to all the lines that end in it. Of the input buffer nothing else is said once bytes were moved in it.
+-- After `got` bytes more: the lines that end in the bytes which were not answered before and in these are answered, as many as there is room for. If there is
+-- room for a further reply, what they leave unfinished, or as much of it as is carried over, is moved to the front of the input buffer, and if not, all bytes stay
+-- where they are. So all that was read so far is accounted for, and once no room is missing, the replies are those to all the lines that end in it.
 pub record AnsweredBlock (stream : Stream) (input : List ℕ) (got : ℕ) (before : List ℕ) (r : Block) (input' buffer' : List ℕ) : Type 0 where
   pub holds : Holds (r .stream) input'
   pub room : r .written ≤ length buffer'
+  pub same : record {
+    state = stateOf (r .stream .opened) (shows (r .stream .book));
+    buffer = buffer';
+    past = r .written;
+    left = complete (pendingOf (r .stream) input');
+  } ≡ answering (stateOf (stream .opened) (shows (stream .book))) (complete (pendingOf stream input ++ take got (drop (stream .to) input))) before
   pub past : drop (r .written) buffer' ≡ drop (r .written) before
+  pub more : r .more ≡ ltb (length buffer') (r .written + maxReply)
   pub kept : r .more ≡ true → input' ≡ input
-  pub full : r .more ≡ true → length buffer' < r .written + maxReply
+  pub end-kept : r .more ≡ true → r .stream .to ≡ stream .to + got
+  pub left-over : r .more ≡ true → unfinished (pendingOf (r .stream) input') ≡ unfinished (pendingOf stream input ++ take got (drop (stream .to) input))
+  pub front : r .more ≡ false → r .stream .from ≡ 0
+  pub carried-over : r .more ≡ false → pendingOf (r .stream) input' ≡ take carried (unfinished (pendingOf stream input ++ take got (drop (stream .to) input)))
+  pub behind : r .more ≡ false → drop (r .stream .to) input' ≡ drop (r .stream .to) input
   pub short : r .more ≡ false → r .stream .to ≤ carried
   pub none-left : r .more ≡ false → complete (pendingOf (r .stream) input') ≡ []
-  pub lines : (said : List ℕ) → after (transcriptOf stream said) (complete (pendingOf stream input ++ take got (drop (stream .to) input)))
-      ≡ after (transcriptOf (r .stream) (said ++ take (r .written) buffer')) (complete (pendingOf (r .stream) input'))
-  pub left-over : r .more ≡ true → unfinished (pendingOf (r .stream) input') ≡ unfinished (pendingOf stream input ++ take got (drop (stream .to) input))
-  pub carried-over : r .more ≡ false → pendingOf (r .stream) input' ≡ take carried (unfinished (pendingOf stream input ++ take got (drop (stream .to) input)))
   pub so-far : (text said : List ℕ) → SoFar text (transcriptOf stream said) (pendingOf stream input) →
       SoFar (text ++ take got (drop (stream .to) input)) (transcriptOf (r .stream) (said ++ take (r .written) buffer')) (pendingOf (r .stream) input')
   pub all : r .more ≡ false → (text said : List ℕ) → SoFar text (transcriptOf stream said) (pendingOf stream input) →
@@ -114,6 +122,7 @@ pub record Finished (stream : Stream) (input before : List ℕ) (r : ℕ) (input
   pub kept : input' ≡ input
   pub written : r ≡ answering (stateOf (stream .opened) (shows (stream .book))) (lastLines (pendingOf stream input)) before .past
   pub bytes : buffer' ≡ answering (stateOf (stream .opened) (shows (stream .book))) (lastLines (pendingOf stream input)) before .buffer
+  pub past : drop r buffer' ≡ drop r before
   pub all : complete (pendingOf stream input) ≡ [] → (text said : List ℕ) → SoFar text (transcriptOf stream said) (pendingOf stream input) →
       said ++ take r buffer' ≡ output text
 

@@ -237,10 +237,10 @@ module _ {s : List ℕ} {p : Reference} {before : List ℕ} {r : Processed} {fil
   processed-one : length (complete s) ≤ 1 → maxReply ≤ length before → complete (drop (r .next) s) ≡ []
   processed-one few room = ap (λ (x : Progress). x .left) (h .same) ∙ processing-one (complete s) p before few room
 
-  pub processed-from : (whole : List ℕ) (from : ℕ) → s ≡ drop from whole → from ≤ length whole → length filled ≡ length before →
-      AnsweredLines whole from (bookOpen p) before (record { book = r .book; next = from + r .next; written = r .written; opened = true }) filled
+  pub processed-from : (whole : List ℕ) (from : ℕ) → s ≡ drop from whole → from ≤ length whole → length filled ≡ length before → (book : Book) →
+      AnsweredLines whole from (bookOpen p) book before (record { book = r .book; next = from + r .next; written = r .written; opened = true }) filled
   unfolding stateOf answering
-  processed-from whole from e within same =
+  processed-from whole from e within same book =
       let w = h .within in
       let l : length s ≡ length whole - from = ap length e ∙ length-drop from whole in
       let room = h .room in
@@ -253,6 +253,7 @@ module _ {s : List ℕ} {p : Reference} {before : List ℕ} {r : Processed} {fil
             ∙ ap ofBook (h .same) ∙ ap (λ (x : List ℕ). ofBook (processing (complete x) p before 0)) e;
         lines = λ said. ap (λ (x : List ℕ). after (record { state = bookOpen p; replies = said }) (complete x)) (sym e) ∙ processed-lines said
             ∙ ap (λ (x : List ℕ). after (record { state = bookOpen (shows (r .book)); replies = said ++ take (r .written) filled }) (complete x)) d;
+        awaited = λ e. absurd (let z : _≡_ {A = ℕ} 0 1 = cc in omega arith);
         past = processed-past;
         rest = ap unfinished (sym d) ∙ h .rest ∙ ap unfinished e;
         all = λ k. ap complete (sym d) ∙ processed-all k;

@@ -137,13 +137,22 @@ part-ended s a e b order within =
 
 -- ---- line 1, or the messages
 
-module _ {s before filled : List ℕ} {r : Answered} (isOpen : Bool) (p : Reference) where
-  pub as-opened : isOpen ≡ true → AnsweredLines s 0 (bookOpen p) before r filled → AnsweredLines s 0 (stateOf isOpen p) before r filled
+-- an open book stays open
+stays-open : {s : List ℕ} {from : ℕ} {p : Reference} {book : Book} {before : List ℕ} {r : Answered} {filled : List ℕ} → AnsweredLines s from (bookOpen p) book before r filled →
+    r .opened ≡ false → ⊥
+unfolding stateOf answering
+stays-open {s} {from} {p} {book} {before} {r} a e =
+    let q = sym (ap (λ (b : Bool). stateOf b (shows (r .book))) e) ∙ ap (λ (x : FeedProgress). x .state) (a .same) in
+    let z : _≡_ {A = ℕ} 0 1 = cc in
+    omega arith
+
+module _ {s before filled : List ℕ} {r : Answered} (isOpen : Bool) (old : Book) where
+  pub as-opened : isOpen ≡ true → AnsweredLines s 0 (bookOpen (shows old)) old before r filled → AnsweredLines s 0 (stateOf isOpen (shows old)) old before r filled
   unfolding stateOf
-  as-opened e a = subst (λ (b : Bool). AnsweredLines s 0 (stateOf b p) before r filled) (sym e) a
+  as-opened e a = subst (λ (b : Bool). AnsweredLines s 0 (stateOf b (shows old)) old before r filled) (sym e) a
 
   pub first-answered : {e : ℕ} {book : Book} → isOpen ≡ false → e ≡ 0 + bytesBefore lineEnd (drop 0 s) → e < length s → Opened (lineOne (take e s)) book →
-      AnsweredLines s (e + 1) (bookOpen (shows book)) before r filled → AnsweredLines s 0 (stateOf isOpen p) before r filled
+      AnsweredLines s (e + 1) (bookOpen (shows book)) book before r filled → AnsweredLines s 0 (stateOf isOpen (shows old)) old before r filled
   unfolding stateOf after extend answering
   first-answered {e} {book} f is h o a =
       let z : e - 0 ≡ e = omega arith in
@@ -153,14 +162,15 @@ module _ {s before filled : List ℕ} {r : Answered} (isOpen : Bool) (p : Refere
         good = a .good;
         within = a .within;
         room = a .room;
-        same = sym (ap (λ (b : Bool). answering (stateOf b p) (complete (drop 0 s)) before) f
+        same = sym (ap (λ (b : Bool). answering (stateOf b (shows old)) (complete (drop 0 s)) before) f
             ∙ ap (λ (ls : List (List ℕ)). answering lineOneAwaited ls before) n
             ∙ ap (λ (q : Reference). answering (bookOpen q) (complete (drop (e + 1) s)) before) book-is
             ∙ sym (a .same));
-        lines = λ said. ap (λ (b : Bool). after (record { state = stateOf b p; replies = said }) (complete (drop 0 s))) f
+        lines = λ said. ap (λ (b : Bool). after (record { state = stateOf b (shows old); replies = said }) (complete (drop 0 s))) f
             ∙ ap (after (record { state = lineOneAwaited; replies = said })) n
             ∙ ap (λ (q : Reference). after (record { state = bookOpen q; replies = said }) (complete (drop (e + 1) s))) book-is
             ∙ a .lines said;
+        awaited = λ k. absurd (stays-open a k);
         past = a .past;
         rest = a .rest ∙ sym (next-unfinished s 0 e is h);
         all = a .all;
@@ -168,7 +178,7 @@ module _ {s before filled : List ℕ} {r : Answered} (isOpen : Bool) (p : Refere
       }
 
 pub none-answered : (s buffer : List ℕ) (book : Book) (isOpen : Bool) {e : ℕ} → isOpen ≡ false → Good book → e ≡ 0 + bytesBefore lineEnd (drop 0 s) → length s ≤ e →
-    AnsweredLines s 0 (stateOf isOpen (shows book)) buffer (record { book = book; next = 0; written = 0; opened = false }) buffer
+    AnsweredLines s 0 (stateOf isOpen (shows book)) book buffer (record { book = book; next = 0; written = 0; opened = false }) buffer
 unfolding stateOf answering
 none-answered s buffer book isOpen {e} f good is h =
     let none : complete (drop 0 s) ≡ [] = no-more s 0 e is h in
@@ -181,6 +191,7 @@ none-answered s buffer book isOpen {e} f good is h =
           ∙ ap (λ (ls : List (List ℕ)). answering lineOneAwaited ls buffer) none);
       lines = λ said. ap (λ (b : Bool). after (record { state = stateOf b (shows book); replies = said }) (complete (drop 0 s))) f
           ∙ ap (λ (w : List ℕ). after (record { state = lineOneAwaited; replies = w }) (complete (drop 0 s))) (sym (append-nil said));
+      awaited = λ _. refl;
       past = refl;
       rest = refl;
       all = λ _. none;
@@ -190,7 +201,7 @@ none-answered s buffer book isOpen {e} f good is h =
 -- ---- a block
 
 module _ (stream : Stream) (input : List ℕ) (got : ℕ) {before filled : List ℕ} {r : Answered} (holds : Holds stream input) (fits : stream .to + got ≤ length input)
-    (a : AnsweredLines (take (stream .to + got - stream .from) (drop (stream .from) input)) 0 (stateOf (stream .opened) (shows (stream .book))) before r filled) where
+    (a : AnsweredLines (take (stream .to + got - stream .from) (drop (stream .from) input)) 0 (stateOf (stream .opened) (shows (stream .book))) (stream .book) before r filled) where
   abbrev part : List ℕ
   part = take (stream .to + got - stream .from) (drop (stream .from) input)
 
@@ -230,6 +241,7 @@ module _ (stream : Stream) (input : List ℕ) (got : ℕ) {before filled : List 
         so-far = λ text said h. subst (λ (x : List ℕ). SoFar (text ++ block) (record { state = stateOf (r .opened) (shows (r .book)); replies = said ++ take (r .written) filled }) x) left (reached text said h);
         same = came-to (complete (take (stream .to + got - (stream .from + r .next)) (drop (stream .from + r .next) input))) (ap complete left);
         past = a .past;
+        awaited = a .awaited;
         more = sym (lt-ltb (length filled) (r .written + maxReply) (omega arith));
         kept = λ _. refl;
         end-kept = λ _. refl;
@@ -261,6 +273,7 @@ module _ (stream : Stream) (input : List ℕ) (got : ℕ) {before filled : List 
             (carried-over (reached text said h) none);
         same = came-to (complete (take (held - 0) (drop 0 moved))) (none ∙ sym none-held);
         past = a .past;
+        awaited = a .awaited;
         more = sym (le-ltb (length filled) (r .written + maxReply) (omega arith));
         kept = λ e. absurd (let z : _≡_ {A = ℕ} 0 1 = cc in omega arith);
         end-kept = λ e. absurd (let z : _≡_ {A = ℕ} 0 1 = cc in omega arith);
@@ -307,7 +320,7 @@ module _ (stream : Stream) (input : List ℕ) {filled : List ℕ} where
       }
 
   pub finished-last : {before input' : List ℕ} {r : Answered} → Holds stream input → stream .to < length input → (stream .to ≡ stream .from → ⊥) → maxReply ≤ length before → input' ≡ input →
-      AnsweredLines (take (stream .to + 1 - stream .from) (drop (stream .from) (set input (stream .to) lineEnd))) 0 (stateOf (stream .opened) (shows (stream .book))) before r filled →
+      AnsweredLines (take (stream .to + 1 - stream .from) (drop (stream .from) (set input (stream .to) lineEnd))) 0 (stateOf (stream .opened) (shows (stream .book))) (stream .book) before r filled →
       Finished stream input before (r .written) input' filled
   unfolding after
   finished-last {before} {input'} {r} holds within some room kept a =

@@ -8,7 +8,8 @@ use lib.ListN.{length, take, drop}
 use Rattle.lines.specs.Lines.{lineEnd, complete, unfinished}
 use Rattle.line_text.specs.Opening.{lineOne}
 use Rattle.reference.specs.Reference.{Reference, opened, receive}
-use Rattle.book.specs.Shown.{Good, shows}
+use Rattle.book.specs.Shown.{Good, shows, Opened}
+use Rattle.book.specs.declared.Book.{Book}
 use Rattle.feed.specs.declared.Stream.{Stream}
 use Rattle.feed.specs.declared.Block.{Block}
 use Rattle.feed.specs.declared.Answered.{Answered}
@@ -84,9 +85,11 @@ pub record Holds (stream : Stream) (input : List ℕ) : Type 0 where
 abbrev pub pendingOf : Stream → List ℕ → List ℕ
 pendingOf stream input = take (stream .to - stream .from) (drop (stream .from) input)
 
+-- Nothing is read; the book is that of an empty line 1, which is shut.
 pub record Started (r : Stream) : Type 0 where
   pub holds : (input : List ℕ) → Holds r input
   pub none : r .to ≡ 0
+  pub shut : Opened (lineOne []) (r .book)
   pub so-far : (input : List ℕ) → SoFar [] (transcriptOf r []) (pendingOf r input)
 
 -- After `got` bytes more: the lines that end in the bytes which were not answered before and in these are answered, as many as there is room for. If there is
@@ -102,6 +105,7 @@ pub record AnsweredBlock (stream : Stream) (input : List ℕ) (got : ℕ) (befor
     left = complete (pendingOf (r .stream) input');
   } ≡ answering (stateOf (stream .opened) (shows (stream .book))) (complete (pendingOf stream input ++ take got (drop (stream .to) input))) before
   pub past : drop (r .written) buffer' ≡ drop (r .written) before
+  pub awaited : r .stream .opened ≡ false → r .stream .book ≡ stream .book
   pub more : r .more ≡ ltb (length buffer') (r .written + maxReply)
   pub kept : r .more ≡ true → input' ≡ input
   pub end-kept : r .more ≡ true → r .stream .to ≡ stream .to + got
@@ -127,12 +131,13 @@ pub record Finished (stream : Stream) (input before : List ℕ) (r : ℕ) (input
       said ++ take r buffer' ≡ output text
 
 -- The lines of a text from a position on, as far as the buffer had room.
-pub record AnsweredLines (s : List ℕ) (from : ℕ) (state : State) (before : List ℕ) (r : Answered) (buffer' : List ℕ) : Type 0 where
+pub record AnsweredLines (s : List ℕ) (from : ℕ) (state : State) (book : Book) (before : List ℕ) (r : Answered) (buffer' : List ℕ) : Type 0 where
   pub good : Good (r .book)
   pub within : r .next ≤ length s
   pub room : r .written ≤ length buffer'
   pub same : record { state = stateOf (r .opened) (shows (r .book)); buffer = buffer'; past = r .written; left = complete (drop (r .next) s) }
       ≡ answering state (complete (drop from s)) before
+  pub awaited : r .opened ≡ false → r .book ≡ book
   pub lines : (said : List ℕ) → after (record { state = state; replies = said }) (complete (drop from s))
       ≡ after (record { state = stateOf (r .opened) (shows (r .book)); replies = said ++ take (r .written) buffer' }) (complete (drop (r .next) s))
   pub past : drop (r .written) buffer' ≡ drop (r .written) before

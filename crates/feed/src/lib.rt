@@ -181,7 +181,7 @@ struct Answered {
 // Line 1, if it was not read yet, and the messages after it.
 fn answer_lines(book: Book, opened: bool, s: &[u8], table: &[u32], buffer: &mut [u8]) -> Answered
     requires { ⌜ Good book × ShiftTable (now table) ⌝ }
-    ensures { λ r. ⌜ AnsweredLines (now (s .entry)) 0 (stateOf opened (shows book)) (now (buffer .entry)) r (now (buffer .exit)) ⌝ }
+    ensures { λ r. ⌜ AnsweredLines (now (s .entry)) 0 (stateOf opened (shows book)) book (now (buffer .entry)) r (now (buffer .exit)) ⌝ }
 {
     if opened {
         return answer_from(book, s, 0, table, buffer);
@@ -201,7 +201,7 @@ fn answer_lines(book: Book, opened: bool, s: &[u8], table: &[u32], buffer: &mut 
 // The messages from a position on.
 fn answer_from(book: Book, s: &[u8], from: usize, table: &[u32], buffer: &mut [u8]) -> Answered
     requires { ⌜ Good book × (from ≤ length (now s)) × ShiftTable (now table) ⌝ }
-    ensures { λ r. ⌜ AnsweredLines (now (s .entry)) from (bookOpen (shows book)) (now (buffer .entry)) r (now (buffer .exit)) ⌝ }
+    ensures { λ r. ⌜ AnsweredLines (now (s .entry)) from (bookOpen (shows book)) book (now (buffer .entry)) r (now (buffer .exit)) ⌝ }
 {
     let processed = process_lines(book, &s[from..], table, buffer);
     let after = processed.book;

@@ -14,8 +14,8 @@ use crate::settings::{Dialect, Settings};
 use crate::traffic::{finished, large, respelled, size, zero, Draft, Line};
 use crate::value::{key, Blanks, Value};
 
-const AT: u64 = 1 << 63;
-const LARGEST: u64 = 9_999_999_999_999_999_999;
+const AT: u128 = 1 << 63;
+const LARGEST: u128 = 9_999_999_999_999_999_999;
 
 /// One session for each depth, and some for each other end.
 pub fn sessions(random: &mut Random, purpose: Purpose) -> Vec<Session> {
@@ -150,9 +150,9 @@ fn prices(random: &mut Random, count: usize) -> Vec<Decimal> {
     prices_from(random, base, count)
 }
 
-fn prices_from(random: &mut Random, base: u64, count: usize) -> Vec<Decimal> {
-    let decimals = if base > AT / 2 { 9 } else { random.below(10) as u32 };
-    let step = |place: usize| Decimal { digits: base + place as u64, decimals };
+fn prices_from(random: &mut Random, base: u128, count: usize) -> Vec<Decimal> {
+    let decimals = if base > AT / 2 { random.pick(&[9, 12]) } else { random.below(13) as u32 };
+    let step = |place: usize| Decimal { digits: base + place as u128, decimals };
     let mut all: Vec<Decimal> = (0..count).map(step).collect();
     random.shuffle(&mut all);
     all
@@ -292,7 +292,7 @@ fn in_and_out(random: &mut Random, book: &Book, side: Side, all: &[Decimal], com
 }
 
 /// Prices and sizes of 19 digits from `base` on, taken one after another.
-fn digits(random: &mut Random, purpose: Purpose, dialect: Dialect, base: u64) -> Session {
+fn digits(random: &mut Random, purpose: Purpose, dialect: Dialect, base: u128) -> Session {
     let depth = if dialect == Dialect::K { random.pick(&[10, 57, 100]) } else { 100 };
     let mut making = Making::new(purpose, dialect, depth);
     let all = prices_from(random, base, 240);

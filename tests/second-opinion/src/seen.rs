@@ -86,10 +86,10 @@ impl Seen {
 
     fn level(&mut self, book: &Book, scope: Scope, side: Side, place: u64) {
         let (_, level) = book.level(scope, side, place);
-        if level.price.digits >= 1 << 63 {
+        if level.price.words()[0] >= 1 << 63 {
             self.count(PRICE_SHOWN);
         }
-        if level.size.digits >= 1 << 63 {
+        if level.size.words()[0] >= 1 << 63 {
             self.count(SIZE_SHOWN);
         }
     }
@@ -137,8 +137,8 @@ impl Seen {
     fn digits(&mut self, level: &Level) {
         const AT: u64 = 1 << 63;
         for (digits, names) in [
-            (level.price.digits, [PRICE_BELOW, PRICE_AT, PRICE_ABOVE]),
-            (level.size.digits, [SIZE_BELOW, SIZE_AT, SIZE_ABOVE]),
+            (level.price.words()[0], [PRICE_BELOW, PRICE_AT, PRICE_ABOVE]),
+            (level.size.words()[0], [SIZE_BELOW, SIZE_AT, SIZE_ABOVE]),
         ] {
             if digits + 1 == AT {
                 self.count(names[0]);

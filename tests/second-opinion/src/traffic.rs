@@ -1,7 +1,7 @@
 //! Drafts of right messages, from the book as it stands.
 
 use crate::book::Book;
-use crate::decimal::Decimal;
+use crate::decimal::{Decimal, MAX_DECIMALS};
 use crate::message::{Entry, Kind, Level, Message, Side, MAX_ENTRIES};
 use crate::random::Random;
 use crate::settings::{Dialect, Settings};
@@ -11,8 +11,8 @@ use std::collections::HashSet;
 /// The prices of a session: `spread` ticks around `middle`, each of 10^-`decimals`.
 pub struct Market {
     pub decimals: u32,
-    pub middle: u64,
-    pub spread: u64,
+    pub middle: u128,
+    pub spread: u128,
     /// Bids and asks share their prices.
     pub crossed: bool,
 }
@@ -38,17 +38,20 @@ impl Market {
     pub fn new(random: &mut Random) -> Market {
         let spread = random.pick(&[3, 12, 60, 130, 400]);
         let crossed = random.percent(25);
-        if random.percent(8) {
-            let middle = random.pick(&[1 << 63, (1 << 63) + 200, 9_999_999_999_999_990_000]);
-            return Market { decimals: 9, middle, spread, crossed };
+        if random.percent(12) {
+            let (middle, decimals) = random.pick(&[
+                (1 << 63, 9), ((1 << 63) + 200, 9), (9_999_999_999_999_990_000, 9), (1 << 63, 12), (1 << 64, 12), (1 << 73, 12),
+                (9_999_999_999_999_999_990_000, 12), (1_000_000_000_000, 12),
+            ]);
+            return Market { decimals, middle, spread, crossed };
         }
-        let decimals = random.below(10) as u32;
-        let middle = spread + 1 + random.next() % random.pick(&[1, 50, 100_000, 900_000_000]);
+        let decimals = random.below(13) as u32;
+        let middle = spread + 1 + u128::from(random.next()) % random.pick(&[1, 50, 100_000, 900_000_000]);
         Market { decimals, middle, spread, crossed }
     }
 
-    fn tick(&self, random: &mut Random, side: Side) -> u64 {
-        let step = random.next() % self.spread;
+    fn tick(&self, random: &mut Random, side: Side) -> u128 {
+        let step = u128::from(random.next()) % self.spread;
         match side {
             _ if self.crossed => self.middle + step,
             Side::Bid => self.middle - 1 - step,
@@ -59,7 +62,10 @@ impl Market {
     /// A price above zero, now and then at the ends of what is allowed.
     pub fn price(&self, random: &mut Random, side: Side) -> String {
         if random.percent(1) {
-            let ends = ["9999999999.999999999", "9223372036.854775807", "9223372036.854775808", "0.000000001", "9999999999", "9999999999.0", "1", "0.1"];
+            let ends = [
+                "9999999999.999999999999", "9999999999.999999999", "9223372036.854775807", "9223372036.854775808", "0.000000001",
+                "0.000000000001", "9999999999", "9999999999.0", "1", "0.1",
+            ];
             return random.pick(&ends).to_string();
         }
         let tick = Decimal { digits: self.tick(random, side), decimals: self.decimals };
@@ -71,7 +77,7 @@ impl Market {
 pub fn respelled(random: &mut Random, decimal: Decimal, chance: usize) -> String {
     let mut spelled = decimal;
     let chance = if random.percent(3) { 95 } else { chance };
-    while spelled.decimals < 9 && random.percent(chance) {
+    while spelled.decimals < MAX_DECIMALS && random.percent(chance) {
         spelled = Decimal { digits: spelled.digits * 10, decimals: spelled.decimals + 1 };
     }
     while spelled.decimals > 0 && spelled.digits % 10 == 0 && random.percent(chance) {
@@ -83,35 +89,39 @@ pub fn respelled(random: &mut Random, decimal: Decimal, chance: usize) -> String
 /// A size above zero.
 pub fn size(random: &mut Random) -> String {
     match random.below(30) {
-        0 => "9999999999.999999999".to_string(),
-        1 => "0.000000001".to_string(),
+        0 => random.pick(&["9999999999.999999999", "9999999999.999999999999", "9999999999"]).to_string(),
+        1 => random.pick(&["0.000000001", "0.000000000001", "0.0000000010", "0.000000000100"]).to_string(),
         2 => "0.00000500".to_string(),
         3 => large(random).text(),
         _ => {
-            let decimals = random.below(10);
+            let decimals = random.below(13);
             let most = random.between(1, 9 + decimals) as u32;
-            let digits = 1 + random.next() % 10u64.pow(most);
+            let digits = 1 + random.wide() % 10u128.pow(most);
             Decimal { digits, decimals: decimals as u32 }.text()
         }
     }
 }
 
-/// 19 digits that are about 2^63 as one number, or above it.
+/// 19 digits that are about 2^63 as one number, or above it; or up to 22 digits, with twelve decimals.
 pub fn large(random: &mut Random) -> Decimal {
-    const AT: u64 = 1 << 63;
-    const END: u64 = 10_000_000_000_000_000_000;
+    const AT: u128 = 1 << 63;
+    const END: u128 = 10_000_000_000_000_000_000;
     let digits = match random.below(6) {
         0 => AT - 1,
         1 => AT,
         2 => AT + 1,
         3 => END - 1,
-        _ => AT + random.next() % (END - AT),
+        _ => AT + random.wide() % (END - AT),
     };
+    if random.percent(40) {
+        let past = random.pick(&[0, 1, 999, 500]);
+        return Decimal { digits: 1000 * digits + past, decimals: 12 };
+    }
     Decimal { digits, decimals: 9 }
 }
 
 pub fn zero(random: &mut Random) -> String {
-    Decimal { digits: 0, decimals: random.below(10) as u32 }.text()
+    Decimal { digits: 0, decimals: random.below(13) as u32 }.text()
 }
 
 /// A right snapshot with different prices.

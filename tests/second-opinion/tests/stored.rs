@@ -25,8 +25,14 @@ fn number(text: &[u8]) -> usize {
     String::from_utf8_lossy(text).parse().expect("a number")
 }
 
+/// The digits up to the ninth decimal, and what tells the rest: how many decimals there are, up to 9, else
+/// a 1 and the digits past the ninth.
 fn digits(decimal: Decimal) -> String {
-    format!("{}/{}", decimal.digits, decimal.decimals)
+    let [digits, past, decimals] = decimal.words();
+    match decimals {
+        0..=9 => format!("{digits}/{decimals}"),
+        _ => format!("{digits}/1{past:0width$}", width = decimals as usize - 9),
+    }
 }
 
 /// What `message_vectors` says of a message that passes.

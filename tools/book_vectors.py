@@ -16,7 +16,7 @@ from decimal import Decimal
 
 import message_vectors as message
 
-MAX_LEVELS, MAX_UPDATES, ROOM = 100, 4294967295, 20000
+MAX_LEVELS, MAX_UPDATES, ROOM, SUMMED = 100, 4294967295, 20000, 25
 
 
 def stripped(text):
@@ -39,6 +39,8 @@ class Book:
         bids, asks = (self.ranked(side, levels) for side, levels in enumerate(sides))
         if self.settings[0] == b"K":
             return zlib.crc32(b"".join(stripped(price) + stripped(size) for price, size in asks[:10] + bids[:10]))
+        if self.settings[0] == b"M2":
+            bids, asks = bids[:SUMMED], asks[:SUMMED]
         turns = [levels[i] for i in range(max(len(bids), len(asks))) for levels in (bids, asks) if i < len(levels)]
         return zlib.crc32(b":".join(price + b":" + size for price, size in turns))
 
@@ -78,8 +80,8 @@ class Book:
                 return self.refuse(9)
         if not said.snapshot and self.status != "live":
             return 10
-        is_m = self.settings[0] == b"M"
-        if is_m and not said.snapshot and said.number <= self.number:
+        is_m = self.settings[0] != b"K"
+        if is_m and not said.snapshot and (said.number <= self.number or said.previous not in (None, self.number)):
             return self.refuse(11)
         sides = self.after(said)
         if is_m and max(map(len, sides)) > MAX_LEVELS:
@@ -167,8 +169,8 @@ class Files:
             self.book = new
         self.say(b"r", told)
 
-    def message(self, snapshot, bids, asks, number=0, checksum=None):
-        """A message of the book's dialect with the checksum that the book will have, or another."""
+    def message(self, snapshot, bids, asks, number=0, checksum=None, previous=None):
+        """A message of the book's dialect with the checksum that the book will have and, in M2, the number before, or with others."""
         dialect, depth, name = self.book.settings
         def listed(rows):
             return b"[" + b",".join(b'["%s","%s"%s]' % (price.encode(), size.encode(), b',"1.0"' if dialect == b"K" else b"") for price, size in rows) + b"]"
@@ -176,14 +178,15 @@ class Files:
             if dialect == b"K":
                 body = (b'{"as":%s,"bs":%s}' % (listed(asks), listed(bids)) if snapshot else b'{"a":%s,"b":%s,"c":"%d"}' % (listed(asks), listed(bids), printed))
                 return b'[1,%s,"book-%d","%s"]' % (body, depth, name)
-            return (b'{"channel":"book","product":"%s","type":"%s","data":{"bids":%s,"asks":%s},"checksum":%d,"gsn":%d}'
-                    % (name, b"snapshot" if snapshot else b"update", listed(bids), listed(asks), printed, number))
+            last = b',"prev_gsn":%d' % (self.book.number if previous is None else previous) if dialect == b"M2" and not snapshot else b""
+            return (b'{"channel":"book","product":"%s","type":"%s","data":{"bids":%s,"asks":%s},"checksum":%d,"gsn":%d%s}'
+                    % (name, b"snapshot" if snapshot else b"update", listed(bids), listed(asks), printed, number, last))
         if checksum is None:
             checksum = self.book.checksum(self.book.after(message.check(*self.book.settings, make(0))))
         return make(checksum)
 
 
-K10, K11, M100 = (b"K", 10, b"XBT/USD"), (b"K", 11, b"XBT/USD"), (b"M", 100, b"BTC-VND")
+K10, K11, M100, M2 = (b"K", 10, b"XBT/USD"), (b"K", 11, b"XBT/USD"), (b"M", 100, b"BTC-VND"), (b"M2", 100, b"BTC-VND")
 
 
 def session(files):
@@ -203,7 +206,7 @@ def session(files):
 
 def depths(files):
     files.heading("depth 9, 10, 100, 101 in K, 99, 100, 101 in M: shut or not")
-    for dialect, depth in ((b"K", 9), (b"K", 10), (b"K", 100), (b"K", 101), (b"M", 99), (b"M", 100), (b"M", 101), (b"L", 10)):
+    for dialect, depth in ((b"K", 9), (b"K", 10), (b"K", 100), (b"K", 101), (b"M", 99), (b"M", 100), (b"M", 101), (b"M1", 100), (b"M1", 99), (b"M2", 100), (b"M2", 25), (b"M3", 100), (b"L", 10)):
         files.open(dialect, depth, b"XBT/USD")
         files.ask_all(0)
         files.take("7")
@@ -303,9 +306,57 @@ def cuts(files):
     files.take(files.message(False, [("%d" % price, "1") for price in range(101, 201)], [], 2, 0), 12)
 
 
+def linked(files):
+    files.heading("M2: the number before; the gsn must still be greater")
+    start = [("9", "2")], [("10", "1")]
+    for number, previous, answer in ((8, 7, 0), (9, 7, 0), (8, 6, 11), (8, 8, 11), (8, 0, 11), (7, 7, 11), (6, 7, 11), (7, 6, 11), (9999999999999999999, 7, 0)):
+        files.open(*M2)
+        files.take(files.message(True, *start, 7), 0)
+        files.take(files.message(False, [("8", "3")], [], number, None, previous), answer)
+        files.ask_all(0)
+    files.take(files.message(False, [("8", "4")], [], 9999999999999999999, None, 9999999999999999999), 11)
+    files.open(*M2)
+    files.take(files.message(True, *start, 9999999999999999997), 0)
+    files.take(files.message(False, [], [], 9999999999999999998), 0)
+    files.take(files.message(False, [], [], 9999999999999999999, None, 9999999999999999997), 11)
+    # a wrong number before comes before too many levels, a crossed book and a wrong checksum
+    files.take(files.message(True, [("%d" % price, "1") for price in range(1, 101)], [("200", "1")], 3), 0)
+    files.take(files.message(False, [("300", "1")], [], 4, 5, 2), 11)
+    files.heading("M2: missing, twice, not whole; in a snapshot, in data and in M1 it is passed over")
+    for before, after, answer in ((b',"prev_gsn":7', b"", 6), (b',"prev_gsn":7', b',"prev_gsn":7,"prev_gsn":7', 6), (b':7}', b':"7"}', 6), (b':7}', b":7.0}", 6),
+                                  (b"prev_gsn", b"prev\\u005fgsn", 0), (b'{"bids"', b'{"prev_gsn":5,"bids"', 0), (b',"prev_gsn":7', b',"prev_gsn":7,"x":{"prev_gsn":5}', 0)):
+        files.open(*M2)
+        files.take(files.message(True, *start, 7).replace(b'"gsn":7', b'"gsn":7,"prev_gsn":"x","prev_gsn":[]'), 0)
+        text = files.message(False, [("8", "3")], [], 8)
+        assert before in text
+        files.take(text.replace(before, after), answer)
+        files.ask_all(0)
+    for dialect in (b"M", b"M1"):
+        files.open(dialect, 100, b"BTC-VND")
+        files.take(files.message(True, *start, 7), 0)
+        files.take(files.message(False, [("8", "3")], [], 8).replace(b'"gsn":8', b'"gsn":8,"prev_gsn":5,"prev_gsn":null'), 0)
+        files.ask_all(1)
+        files.back()
+    files.heading("24, 25 and 26 levels a side, and unequal sides: M2 sums 25, M1 all")
+    for bids, asks in ((24, 24), (25, 25), (26, 26), (25, 26), (26, 25), (24, 26), (26, 24), (0, 26), (30, 1), (100, 100)):
+        sides = [("%d" % price, "1") for price in range(101 - bids, 101)], [("%d.5" % price, "2") for price in range(101, 101 + asks)]
+        for settings, other in ((M2, M100), (M100, M2)):
+            files.open(*settings)
+            files.take(files.message(True, *sides, 7), 0)
+            files.take(files.message(False, [("%d" % (101 - bids), "3")] if bids else [], [], 8), 0)
+            files.write(len(files.book.text()))
+            files.back()
+            files.ask_all(0)
+            mine = files.book
+            files.book = Book(*other)
+            theirs = files.message(True, *sides, 7)
+            files.book = mine
+            files.take(theirs, 0 if max(bids, asks) <= SUMMED else 13)
+
+
 def crossed(files):
     files.heading("crossed: the best bid is not below the best ask, by value, after the whole message and the cut")
-    for settings in (K10, K11, M100):
+    for settings in (K10, K11, M100, M2):
         files.open(*settings)
         files.take(files.message(True, [("0.5", "1")], [("0.50", "2")], 1), 16)
         files.ask_all(0)
@@ -353,7 +404,7 @@ def crossed(files):
 
 def written(files, pick):
     files.heading("buffers of every length about the text's")
-    for settings in (K10, K11, M100):
+    for settings in (K10, K11, M100, M2):
         files.open(*settings)
         files.take(files.message(True, [("0.05000", "0.00000500"), ("0.05", "1")][:1], [("0.05005", "0.00000500")], 7), 0)
         text = files.book.text()
@@ -362,7 +413,7 @@ def written(files, pick):
         files.back()
         files.ask_all(1)
     files.heading("long histories")
-    for settings in (K10, K11, M100, (b"K", 100, b"!")):
+    for settings in (K10, K11, M100, M2, (b"K", 100, b"!")):
         files.open(*settings)
         number = 0
         for turn in range(60):
@@ -394,6 +445,7 @@ def main():
     meanings(files)
     cuts(files)
     crossed(files)
+    linked(files)
     written(files, random.Random(6))
     for name, lines in (("stdin", files.cases), ("stdout", files.answers)):
         with open("crates/book_vectors/" + name, "wb") as out:

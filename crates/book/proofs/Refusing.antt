@@ -143,7 +143,7 @@ module _ (p : Reference) (m : Message) (h : isSnapshot (m .kind) ≡ true) where
   unfolding isOld
   snapshot-not-old = at (rules p .numbered)
     where
-      at : (t : Bool) → (t && (not (isSnapshot (m .kind)) && leb (m .number) (p .last .number))) ≡ false
+      at : (t : Bool) → (t && (not (isSnapshot (m .kind)) && (leb (m .number) (p .last .number) || (rules p .linked && not (eqb (m .previous) (p .last .number)))))) ≡ false
       at true = rw h
       at false = refl
 
@@ -159,7 +159,7 @@ pub update-lacks : (p : Reference) (m : Message) (t : Bool) → isSnapshot (m .k
 unfolding lacksSnapshot
 update-lacks p m t h k = rw (h, k, lacksSnapshot)
 
-pub update-old : (p : Reference) (m : Message) → isSnapshot (m .kind) ≡ false → isOld p m ≡ (rules p .numbered && leb (m .number) (p .last .number))
+pub update-old : (p : Reference) (m : Message) → isSnapshot (m .kind) ≡ false → isOld p m ≡ (rules p .numbered && (leb (m .number) (p .last .number) || (rules p .linked && not (eqb (m .previous) (p .last .number)))))
 unfolding isOld
 update-old p m h = rw (h, isOld)
 

@@ -8,7 +8,7 @@ use native.Mathlib.Omega.{arith}
 use borrow.Author.Tests.{ltb-false, le-ltb}
 use lib.Dec.{eqb, leb, ltb}
 use lib.ListN.{length, take, length-take, length-map}
-use Rattle.lifecycle.specs.Lifecycle.{statusOf, liveLifecycle, judgedUpdate, judgedSides}
+use Rattle.lifecycle.specs.Lifecycle.{statusOf, liveLifecycle, isOldBy, judgedUpdate, judgedSides}
 use Rattle.lifecycle.specs.declared.State.{State}
 use Rattle.lifecycle.proofs.Laws.{judged-snapshot, judged-new}
 use Rattle.answer.proofs.Laws.{taken-answer}
@@ -127,10 +127,10 @@ unfolding editsOf editsFor
 edits-are side o buffer = sided-edits side (entriesOf o buffer)
 
 -- an update that passes checks 10 and 11 comes to a live book, and is not old
-update-passed : (state : State) (m : Bool) (n : ℕ) (o : Outline) → isSnapshot (o .kind) ≡ false → judgedUpdate state m n o ≡ Passes o
-    → (isLive (statusOf state) ≡ true) × ((m && leb (o .number) n) ≡ false)
+update-passed : (state : State) (r : Rules) (n : ℕ) (o : Outline) → isSnapshot (o .kind) ≡ false → judgedUpdate state r n o ≡ Passes o
+    → (isLive (statusOf state) ≡ true) × (isOldBy r n o ≡ false)
 unfolding judgedUpdate
-update-passed state m n o h j = at (isSnapshot (o .kind)) (isLive (statusOf state)) (m && leb (o .number) n) h j
+update-passed state r n o h j = at (isSnapshot (o .kind)) (isLive (statusOf state)) (isOldBy r n o) h j
   where
     at : (t x y : Bool) → t ≡ false → cond t (Passes o) (cond x (cond y (Fails OldNumber) (Passes o)) (Fails NoSnapshot)) ≡ Passes o → (x ≡ true) × (y ≡ false)
     at true x y g e = absurd (true≢false g)
@@ -261,27 +261,27 @@ module _ (b : Book) (o : Outline) (buffer : List ℕ) (k : Passed b o buffer) wh
   update-waits : isSnapshot (o .kind) ≡ false → isLive (p .status) ≡ false → Received next (refusedStep b NoSnapshot)
   update-waits h x = refuse-as NoSnapshot (ten p m (update-names-once m (h)) (update-lacks p m false (h) x))
 
-  old-is : isSnapshot (o .kind) ≡ false → isOld p m ≡ (r .numbered && leb (o .number) (b .number))
-  unfolding shows configOf
+  old-is : isSnapshot (o .kind) ≡ false → isOld p m ≡ (isOldBy r (b .number) o)
+  unfolding shows configOf isOldBy
   old-is h = update-old p m h
 
-  update-is-old : isSnapshot (o .kind) ≡ false → isLive (p .status) ≡ true → (r .numbered && leb (o .number) (b .number)) ≡ true → Received next (refusedStep b OldNumber)
+  update-is-old : isSnapshot (o .kind) ≡ false → isLive (p .status) ≡ true → (isOldBy r (b .number) o) ≡ true → Received next (refusedStep b OldNumber)
   update-is-old h y x = refuse-as OldNumber (eleven p m (update-names-once m (h)) (update-lacks p m true (h) y) (old-is h ∙ x))
 
   -- .. of a message whose book is this one's
-  pub judged-told : (s : List ℕ) → receive p s ≡ next → (v : Verdict) → v ≡ judgedUpdate (b .lifecycle .state) (r .numbered) (b .number) o → Judged b s buffer v
+  pub judged-told : (s : List ℕ) → receive p s ≡ next → (v : Verdict) → v ≡ judgedUpdate (b .lifecycle .state) r (b .number) o → Judged b s buffer v
   unfolding judgedUpdate Judged shows statusOf
-  judged-told s n v e = subst (Judged b s buffer) (sym e) (at (isSnapshot (o .kind)) refl (isLive (statusOf (b .lifecycle .state))) refl (r .numbered && leb (o .number) (b .number)) refl)
+  judged-told s n v e = subst (Judged b s buffer) (sym e) (at (isSnapshot (o .kind)) refl (isLive (statusOf (b .lifecycle .state))) refl (isOldBy r (b .number) o) refl)
     where
-      at : (t : Bool) → isSnapshot (o .kind) ≡ t → (x : Bool) → isLive (statusOf (b .lifecycle .state)) ≡ x → (y : Bool) → (r .numbered && leb (o .number) (b .number)) ≡ y
+      at : (t : Bool) → isSnapshot (o .kind) ≡ t → (x : Bool) → isLive (statusOf (b .lifecycle .state)) ≡ x → (y : Bool) → (isOldBy r (b .number) o) ≡ y
           → Judged b s buffer (cond t (Passes o) (cond x (cond y (Fails OldNumber) (Passes o)) (Fails NoSnapshot)))
-      at true h x f y g = (record { passed = k; updates = sym (judged-snapshot (b .lifecycle .state) (r .numbered) (b .number) o h) }, n)
+      at true h x f y g = (record { passed = k; updates = sym (judged-snapshot (b .lifecycle .state) r (b .number) o h) }, n)
       at false h true f true g = told-as (refusedStep b OldNumber) n (update-is-old h f g)
-      at false h true f false g = (record { passed = k; updates = sym (judged-new (b .lifecycle .state) (r .numbered) (b .number) o h f g) }, n)
+      at false h true f false g = (record { passed = k; updates = sym (judged-new (b .lifecycle .state) r (b .number) o h f g) }, n)
       at false h false f y g = told-as (refusedStep b NoSnapshot) n (update-waits h f)
 
   -- a message that passes them
-  module _ (judged : judgedUpdate (b .lifecycle .state) (r .numbered) (b .number) o ≡ Passes o) where
+  module _ (judged : judgedUpdate (b .lifecycle .state) r (b .number) o ≡ Passes o) where
     passed-both : (lacksSnapshot p m ≡ false) × (isOld p m ≡ false)
     unfolding shows
     passed-both = at (isSnapshot (o .kind)) refl
@@ -289,7 +289,7 @@ module _ (b : Book) (o : Outline) (buffer : List ℕ) (k : Passed b o buffer) wh
         at : (t : Bool) → isSnapshot (o .kind) ≡ t → (lacksSnapshot p m ≡ false) × (isOld p m ≡ false)
         at true h = (snapshot-lacks-none p m (h), snapshot-not-old p m (h))
         at false h =
-            let w = update-passed (b .lifecycle .state) (r .numbered) (b .number) o h judged in
+            let w = update-passed (b .lifecycle .state) r (b .number) o h judged in
             (update-lacks p m true (h) (w .0), old-is h ∙ w .1)
 
   -- ---- the sides that entries are applied to
@@ -366,7 +366,7 @@ module _ (b : Book) (o : Outline) (buffer : List ℕ) (k : Passed b o buffer) wh
 
   -- ---- the whole of checks 9, 12, 16 and 13
 
-  module _ (judged : judgedUpdate (b .lifecycle .state) (r .numbered) (b .number) o ≡ Passes o) (bids asks : SideAfter)
+  module _ (judged : judgedUpdate (b .lifecycle .state) r (b .number) o ≡ Passes o) (bids asks : SideAfter)
       (wb : Worked t Bids (b .settings .depth) (editsFor Bids es) (sideBefore o (b .bids)) bids)
       (wa : Worked t Asks (b .settings .depth) (editsFor Asks es) (sideBefore o (b .asks)) asks) where
     abbrev over : Bool
@@ -444,18 +444,16 @@ module _ (b : Book) (o : Outline) (buffer : List ℕ) (k : Passed b o buffer) wh
 
 -- ---- checksums
 
-pub k-sums : (d : Dialect) (bids asks : Levels) → d ≡ K → Sound (rulesOf d .text) Bids bids → Sound (rulesOf d .text) Asks asks
+pub k-sums : (t : SumText) (bids asks : Levels) → t ≡ Stripped → Sound t Bids bids → Sound t Asks asks
     → kept·.Good Bids bids × kept·.Good Asks asks × All (Carries kPiece) (held bids) × All (Carries kPiece) (held asks)
-unfolding rulesOf
-k-sums d bids asks e x y =
-    let x′ : Sound Stripped Bids bids = subst (λ (z : Dialect). Sound (rulesOf z .text) Bids bids) e x in
-    let y′ : Sound Stripped Asks asks = subst (λ (z : Dialect). Sound (rulesOf z .text) Asks asks) e y in
+k-sums t bids asks e x y =
+    let x′ : Sound Stripped Bids bids = subst (λ (z : SumText). Sound z Bids bids) e x in
+    let y′ : Sound Stripped Asks asks = subst (λ (z : SumText). Sound z Asks asks) e y in
     (x′ .good, y′ .good, x′ .carried, y′ .carried)
 
-pub m-sums : (d : Dialect) (bids asks : Levels) → d ≡ M → Sound (rulesOf d .text) Bids bids → Sound (rulesOf d .text) Asks asks
+pub m-sums : (t : SumText) (bids asks : Levels) → t ≡ Interleaved → Sound t Bids bids → Sound t Asks asks
     → kept·.Good Bids bids × kept·.Good Asks asks × All (Carries mPiece) (held bids) × All (Carries mPiece) (held asks)
-unfolding rulesOf
-m-sums d bids asks e x y =
-    let x′ : Sound Interleaved Bids bids = subst (λ (z : Dialect). Sound (rulesOf z .text) Bids bids) e x in
-    let y′ : Sound Interleaved Asks asks = subst (λ (z : Dialect). Sound (rulesOf z .text) Asks asks) e y in
+m-sums t bids asks e x y =
+    let x′ : Sound Interleaved Bids bids = subst (λ (z : SumText). Sound z Bids bids) e x in
+    let y′ : Sound Interleaved Asks asks = subst (λ (z : SumText). Sound z Asks asks) e y in
     (x′ .good, y′ .good, x′ .carried, y′ .carried)

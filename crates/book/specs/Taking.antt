@@ -43,7 +43,7 @@ abbrev pub printedOf : Outline → Printed
 printedOf o = cond (o .printed) (printed (o .checksum)) unprinted
 
 abbrev pub messageIn : Outline → List ℕ → Message
-messageIn o buffer = record { kind = o .kind; edits = map sidedEdit (entriesOf o buffer); checksum = printedOf o; number = o .number }
+messageIn o buffer = record { kind = o .kind; edits = map sidedEdit (entriesOf o buffer); checksum = printedOf o; number = o .number; previous = o .previous }
 
 pub record Passed (b : Book) (o : Outline) (buffer : List ℕ) : Type 0 where
   pub good : Good b
@@ -102,7 +102,7 @@ afterIn b o buffer = answered (shows b) (messageIn o buffer) (verdict (shows b) 
 -- What checks 10 and 11 leave.
 pub record Ready (b : Book) (o : Outline) (buffer : List ℕ) : Type 0 where
   pub passed : Passed b o buffer
-  pub updates : judgedUpdate (b .lifecycle .state) (rulesOf (b .settings .dialect) .numbered) (b .number) o ≡ Passes o
+  pub updates : judgedUpdate (b .lifecycle .state) (rulesOf (b .settings .dialect)) (b .number) o ≡ Passes o
 
 -- What checks 1 to 8, 10 and 11 find.
 unfoldable pub Judged : Book → List ℕ → List ℕ → Verdict → Type 0

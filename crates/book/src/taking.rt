@@ -31,6 +31,7 @@ use lifecycle::refused;
 use lifecycle::updates_after;
 use message::Verdict;
 use settings::Dialect;
+use settings::SumText;
 use settings::rules_of;
 use side::Applied;
 use sides::apply_entries;
@@ -315,9 +316,14 @@ fn checksum_of<'a>(
     requires { ⌜ Sound (rulesOf dialect .text) Bids (keptIn (now bids) «bid_count») × Sound (rulesOf dialect .text) Asks (keptIn (now asks) «ask_count») × ShiftTable (now table) ⌝ }
     ensures { λ r. ⌜ r ≡ checksumOf (rulesOf dialect) (record { bids = map shown (held (keptIn (now (bids .entry)) «bid_count»)); asks = map shown (held (keptIn (now (asks .entry)) «ask_count»)) }) ⌝ }
 {
-    match dialect {
-        Dialect::K => checksum::k_checksum(bids, bid_count, asks, ask_count, table),
-        Dialect::M => checksum::m_checksum(bids, bid_count, asks, ask_count, table),
-        Dialect::Unknown => 0,
+    let rules = rules_of(dialect);
+    let text = rules.text;
+    match text {
+        SumText::Stripped => {
+            checksum::k_checksum(rules.summed, bids, bid_count, asks, ask_count, table)
+        }
+        SumText::Interleaved => {
+            checksum::m_checksum(rules.summed, bids, bid_count, asks, ask_count, table)
+        }
     }
 }

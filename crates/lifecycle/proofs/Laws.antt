@@ -9,6 +9,7 @@ use Rattle.answer.specs.declared.Answer.{Answer}
 use Rattle.answer.specs.declared.Answer.the-variants.{Taken, PriceTwice, NoSnapshot, OldNumber, TooManyLevels, Crossed}
 use Rattle.answer.specs.declared.Answer.the-variants as answer·
 use Rattle.settings.specs.Rules.{rulesOf}
+use Rattle.settings.specs.declared.Rules.{Rules}
 use Rattle.layout.specs.Layout.{isSnapshot}
 use Rattle.settings.specs.Kept.{configOf}
 use Rattle.settings.specs.declared.Settings.{Settings}
@@ -19,7 +20,7 @@ use Rattle.message.specs.Verdict.{verdictOf}
 use Rattle.message.specs.declared.Verdict.{Verdict}
 use Rattle.message.specs.declared.Verdict.the-variants.{Fails, Passes}
 use Rattle.reference.specs.Reference.{isShut, isLive}
-use Rattle.lifecycle.specs.Lifecycle.{statusOf, refusedLifecycle, judgedUpdate, judgedSides, afterText, judged}
+use Rattle.lifecycle.specs.Lifecycle.{statusOf, refusedLifecycle, isOldBy, judgedUpdate, judgedSides, afterText, judged}
 use Rattle.lifecycle.specs.declared.State.{State}
 use Rattle.lifecycle.specs.declared.State.the-variants.{Waiting}
 use Rattle.lifecycle.specs.declared.Lifecycle.{Lifecycle}
@@ -35,38 +36,38 @@ refused-waits x a h = sym (rw (h, refusedLifecycle))
 
 -- ---- checks 10 and 11 in numbers, one test at a time
 
-module _ (state : State) (m : Bool) (n : ℕ) (o : Outline) where
-  pub judged-snapshot : isSnapshot (o .kind) ≡ true → Passes o ≡ judgedUpdate state m n o
+module _ (state : State) (r : Rules) (n : ℕ) (o : Outline) where
+  pub judged-snapshot : isSnapshot (o .kind) ≡ true → Passes o ≡ judgedUpdate state r n o
   unfolding judgedUpdate
   judged-snapshot h = sym (pick (isSnapshot (o .kind)) h)
     where
-      pick : (t : Bool) → t ≡ true → cond t (Passes o) (cond (isLive (statusOf state)) (cond (m && leb (o .number) n) (Fails OldNumber) (Passes o)) (Fails NoSnapshot)) ≡ Passes o
+      pick : (t : Bool) → t ≡ true → cond t (Passes o) (cond (isLive (statusOf state)) (cond (isOldBy r n o) (Fails OldNumber) (Passes o)) (Fails NoSnapshot)) ≡ Passes o
       pick true e = refl
       pick false e = absurd (true≢false (sym e))
 
   module _ (h : isSnapshot (o .kind) ≡ false) where
-    pub judged-idle : isLive (statusOf state) ≡ false → Fails NoSnapshot ≡ judgedUpdate state m n o
+    pub judged-idle : isLive (statusOf state) ≡ false → Fails NoSnapshot ≡ judgedUpdate state r n o
     unfolding judgedUpdate
     judged-idle l = sym (pick (isSnapshot (o .kind)) (isLive (statusOf state)) h l)
       where
-        pick : (t x : Bool) → t ≡ false → x ≡ false → cond t (Passes o) (cond x (cond (m && leb (o .number) n) (Fails OldNumber) (Passes o)) (Fails NoSnapshot)) ≡ Fails NoSnapshot
+        pick : (t x : Bool) → t ≡ false → x ≡ false → cond t (Passes o) (cond x (cond (isOldBy r n o) (Fails OldNumber) (Passes o)) (Fails NoSnapshot)) ≡ Fails NoSnapshot
         pick true x e f = absurd (true≢false e)
         pick false true e f = absurd (true≢false f)
         pick false false e f = refl
 
-    pub judged-live : isLive (statusOf state) ≡ true → cond (m && leb (o .number) n) (Fails OldNumber) (Passes o) ≡ judgedUpdate state m n o
+    pub judged-live : isLive (statusOf state) ≡ true → cond (isOldBy r n o) (Fails OldNumber) (Passes o) ≡ judgedUpdate state r n o
     unfolding judgedUpdate
     judged-live l = sym (pick (isSnapshot (o .kind)) (isLive (statusOf state)) h l)
       where
-        pick : (t x : Bool) → t ≡ false → x ≡ true → cond t (Passes o) (cond x (cond (m && leb (o .number) n) (Fails OldNumber) (Passes o)) (Fails NoSnapshot)) ≡ cond (m && leb (o .number) n) (Fails OldNumber) (Passes o)
+        pick : (t x : Bool) → t ≡ false → x ≡ true → cond t (Passes o) (cond x (cond (isOldBy r n o) (Fails OldNumber) (Passes o)) (Fails NoSnapshot)) ≡ cond (isOldBy r n o) (Fails OldNumber) (Passes o)
         pick true x e f = absurd (true≢false e)
         pick false true e f = refl
         pick false false e f = absurd (true≢false (sym f))
 
-    pub judged-old : isLive (statusOf state) ≡ true → (m && leb (o .number) n) ≡ true → Fails OldNumber ≡ judgedUpdate state m n o
+    pub judged-old : isLive (statusOf state) ≡ true → (isOldBy r n o) ≡ true → Fails OldNumber ≡ judgedUpdate state r n o
     judged-old l e = sym (ap (λ (t : Bool). cond t (Fails OldNumber) (Passes o)) e) ∙ judged-live l
 
-    pub judged-new : isLive (statusOf state) ≡ true → (m && leb (o .number) n) ≡ false → Passes o ≡ judgedUpdate state m n o
+    pub judged-new : isLive (statusOf state) ≡ true → (isOldBy r n o) ≡ false → Passes o ≡ judgedUpdate state r n o
     judged-new l e = sym (ap (λ (t : Bool). cond t (Fails OldNumber) (Passes o)) e) ∙ judged-live l
 
 -- ---- checks 9, 12 and 16, one test at a time
@@ -98,6 +99,6 @@ module _ (settings : Settings) (x : Lifecycle) (n : ℕ) (s : List ℕ) where
   judged-shut u = sym (rw (u, judged))
 
   pub judged-open : isShut (statusOf (x .state)) ≡ false → (v : Verdict) → verdictOf s (checked (configOf settings) s) ≡ v
-      → afterText (x .state) (rulesOf (settings .dialect) .numbered) n v ≡ judged settings x n s
+      → afterText (x .state) (rulesOf (settings .dialect)) n v ≡ judged settings x n s
   unfolding judged
   judged-open u v h = sym (rw (u, judged, h))

@@ -165,6 +165,10 @@ module _ (p : Reference) (m : Message) where
       at false = refl
   ready-has (restarts e k) = rw (of-snapshot k, lacksSnapshot)
 
+  new-update : isOld p m ≡ false → rules p .numbered ≡ true → m .kind ≡ Update → (leb (m .number) (p .last .number) || (rules p .linked && not (eqb (m .previous) (p .last .number)))) ≡ false
+  unfolding isOld
+  new-update h e k = rw (of-update k) at (where-rule (rules p .numbered) _ h e)
+
   verdict-acceptable : isShut (p .status) ≡ false → isTaken (verdict p m) ≡ true → Acceptable p m
   unfolding verdict namesPriceTwice isOld hasTooMany hasCrossed hasWrongChecksum
   verdict-acceptable u h =
@@ -172,7 +176,8 @@ module _ (p : Reference) (m : Message) where
       record {
         ready = ready-from u (f .1);
         once = λ k. or-none (namesTwice (pricesOf (editsFor Bids m))) (namesTwice (pricesOf (editsFor Asks m))) (rw (of-snapshot k) at (f .0));
-        newer = λ e k. leb-false (m .number) (p .last .number) (rw (of-update k) at (where-rule (rules p .numbered) (not (isSnapshot (m .kind)) && leb (m .number) (p .last .number)) (f .2) e));
+        newer = λ e k. leb-false (m .number) (p .last .number) (or-none (leb (m .number) (p .last .number)) (rules p .linked && not (eqb (m .previous) (p .last .number))) (new-update (f .2) e k) .0);
+        follows = λ e l k. eqb-true (m .previous) (p .last .number) (not-false _ (where-rule (rules p .linked) (not (eqb (m .previous) (p .last .number))) (or-none (leb (m .number) (p .last .number)) (rules p .linked && not (eqb (m .previous) (p .last .number))) (new-update (f .2) e k) .1) l));
         few =
             let o = or-none (ltb (rules p .levels) (length (sidesAfter p m .bids))) (ltb (rules p .levels) (length (sidesAfter p m .asks))) (f .3) in
             (ltb-false (rules p .levels) (length (sidesAfter p m .bids)) (o .0), ltb-false (rules p .levels) (length (sidesAfter p m .asks)) (o .1));
@@ -192,9 +197,12 @@ module _ (p : Reference) (m : Message) where
   unfolding isOld
   acceptable-newer a = only-where (rules p .numbered) _ (λ e. at (isSnapshot (m .kind)) refl e)
     where
-      at : (b : Bool) → isSnapshot (m .kind) ≡ b → rules p .numbered ≡ true → (not b && leb (m .number) (p .last .number)) ≡ false
+      at : (b : Bool) → isSnapshot (m .kind) ≡ b → rules p .numbered ≡ true
+          → (not b && (leb (m .number) (p .last .number) || (rules p .linked && not (eqb (m .previous) (p .last .number))))) ≡ false
       at true k e = refl
-      at false k e = lt-leb (m .number) (p .last .number) (a .newer e (an-update (m .kind) k))
+      at false k e =
+          neither _ _ (lt-leb (m .number) (p .last .number) (a .newer e (an-update (m .kind) k)))
+          (only-where (rules p .linked) _ (λ l. ap not (eq-eqb (m .previous) (p .last .number) (a .follows e l (an-update (m .kind) k)))))
 
   acceptable-few : Acceptable p m → hasTooMany p m ≡ false
   unfolding hasTooMany

@@ -128,6 +128,7 @@ module _ (p q : Reference) (m : Message) (k : m .kind ≡ Snapshot) (h : p .conf
         ready = r;
         once = a .once;
         newer = λ e n. absurd (true≢false (sym (of-snapshot k) ∙ of-update n));
+        follows = λ e l n. absurd (true≢false (sym (of-snapshot k) ∙ of-update n));
         few = rw (← sides-fresh, ← h) (a .few);
         uncrossed = rw (← sides-fresh) (a .uncrossed);
         checksum = rw (← sides-fresh, ← h) (a .checksum);

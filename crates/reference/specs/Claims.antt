@@ -77,6 +77,8 @@ pub record Acceptable (p : Reference) (m : Message) : Type 0 where
   pub once : m .kind ≡ Snapshot → (namesTwice (pricesOf (editsFor Bids m)) ≡ false) × (namesTwice (pricesOf (editsFor Asks m)) ≡ false)
   -- Where messages are numbered, an update's number is greater than the book's.
   pub newer : rules p .numbered ≡ true → m .kind ≡ Update → p .last .number < m .number
+  -- Where updates are linked too, an update names the book's number as the one before its own.
+  pub follows : rules p .numbered ≡ true → rules p .linked ≡ true → m .kind ≡ Update → m .previous ≡ p .last .number
   -- No more levels stand on a side afterwards than may.
   pub few : (length (sidesAfter p m .bids) ≤ rules p .levels) × (length (sidesAfter p m .asks) ≤ rules p .levels)
   -- The book is not crossed afterwards.

@@ -113,9 +113,9 @@ namesPriceTwice m = isSnapshot (m .kind) && (namesTwice (pricesOf (editsFor Bids
 unfoldable pub lacksSnapshot : Reference → Message → Bool
 lacksSnapshot p m = not (isSnapshot (m .kind)) && not (isLive (p .status))
 
--- 11: an update whose sequence number is not greater
+-- 11: an update whose sequence number is not greater, or, where updates are linked, does not follow the book's
 unfoldable pub isOld : Reference → Message → Bool
-isOld p m = rules p .numbered && (not (isSnapshot (m .kind)) && leb (m .number) (p .last .number))
+isOld p m = rules p .numbered && (not (isSnapshot (m .kind)) && (leb (m .number) (p .last .number) || (rules p .linked && not (eqb (m .previous) (p .last .number)))))
 
 -- 12: too many levels on a side after the message
 unfoldable pub hasTooMany : Reference → Message → Bool
@@ -216,7 +216,7 @@ sideOf Asks p = p .last .sides .asks
 -- The text of the book as a snapshot.
 unfoldable pub textIn : Dialect → Reference → List ℕ
 textIn K p = kSnapshot (p .config .depth) (p .config .name) (p .last .sides .bids) (p .last .sides .asks)
-textIn M p = mSnapshot (p .config .name) (p .last .sides .bids) (p .last .sides .asks) (checksumOf (rulesOf M) (p .last .sides)) (p .last .number)
+textIn (M e) p = mSnapshot (p .config .name) (p .last .sides .bids) (p .last .sides .asks) (checksumOf (rulesOf (M e)) (p .last .sides)) (p .last .number)
 textIn Unknown p = []
 
 unfoldable pub snapshotText : Reference → List ℕ

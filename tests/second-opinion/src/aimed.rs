@@ -6,6 +6,7 @@ use crate::book::{Book, State};
 use crate::crossed;
 use crate::damage::BAD_DECIMALS;
 use crate::decimal::Decimal;
+use crate::linked;
 use crate::escapes::{misspell, misspelled, respell, respell_wholly, spelled, twice};
 use crate::making::{prices, prices_from, removal, set, sets, Making, AT, LARGEST};
 use crate::message::{Kind, Side, MAX_ENTRIES, MAX_MESSAGE};
@@ -24,14 +25,19 @@ pub fn sessions(random: &mut Random, purpose: Purpose) -> Vec<Session> {
     let mut all: Vec<Session> = DEPTHS.map(|depth| deep(random, purpose, depth)).collect();
     for _ in 0..4 {
         all.push(deep(random, purpose, 100));
-        all.push(overfull(random, purpose));
-        all.push(midway(random, purpose));
+        for dialect in [Dialect::M1, Dialect::M2] {
+            all.push(overfull(random, purpose, dialect));
+            all.push(midway(random, purpose, dialect));
+        }
     }
-    for dialect in [Dialect::K, Dialect::M] {
+    for dialect in Dialect::ALL {
         for base in BASES {
             all.push(digits(random, purpose, dialect, base));
         }
         all.extend([true, false].map(|few| crossed::session(random, purpose, dialect, few)));
+        if dialect != Dialect::K {
+            all.push(linked::session(random, purpose, dialect));
+        }
         all.push(bad_texts(random, purpose, dialect));
         all.extend(NAMES.map(|name| escaped(random, purpose, dialect, name)));
     }
@@ -40,15 +46,16 @@ pub fn sessions(random: &mut Random, purpose: Purpose) -> Vec<Session> {
 
 /// One of them.
 pub fn one(random: &mut Random, purpose: Purpose) -> Session {
-    let dialect = random.pick(&[Dialect::K, Dialect::M]);
-    match random.below(8) {
+    let dialect = random.pick(&Dialect::ALL);
+    let m = random.pick(&[Dialect::M1, Dialect::M2]);
+    match random.below(9) {
         0 => {
             let depth = random.between(10, 100) as u64;
             deep(random, purpose, depth)
         }
         1 => deep(random, purpose, 100),
-        2 => overfull(random, purpose),
-        3 => midway(random, purpose),
+        2 => overfull(random, purpose, m),
+        3 => midway(random, purpose, m),
         4 => bad_texts(random, purpose, dialect),
         5 => {
             let name = random.pick(&NAMES);
@@ -58,6 +65,7 @@ pub fn one(random: &mut Random, purpose: Purpose) -> Session {
             let few = random.percent(50);
             crossed::session(random, purpose, dialect, few)
         }
+        7 => linked::session(random, purpose, m),
         _ => {
             let base = random.pick(&BASES);
             digits(random, purpose, dialect, base)
@@ -106,8 +114,8 @@ fn best_last(side: Side, prices: &mut [Decimal]) {
 }
 
 /// 100 levels stand in an M book and 100 more come: refused 12.
-fn overfull(random: &mut Random, purpose: Purpose) -> Session {
-    let mut making = Making::new(purpose, Dialect::M, 100);
+fn overfull(random: &mut Random, purpose: Purpose, dialect: Dialect) -> Session {
+    let mut making = Making::new(purpose, dialect, 100);
     let [bids, asks] = prices(random, 2 * MAX_ENTRIES);
     let all = [(Side::Bid, bids), (Side::Ask, asks)];
     let lines = |random: &mut Random, from: usize, to: usize| -> Vec<Line> {
@@ -130,8 +138,8 @@ fn overfull(random: &mut Random, purpose: Purpose) -> Session {
 }
 
 /// M updates that pass 100 levels and end with at most 100, or now and then with 101.
-fn midway(random: &mut Random, purpose: Purpose) -> Session {
-    let mut making = Making::new(purpose, Dialect::M, 100);
+fn midway(random: &mut Random, purpose: Purpose, dialect: Dialect) -> Session {
+    let mut making = Making::new(purpose, dialect, 100);
     let all = prices(random, 250);
     let standing = Side::BOTH.map(|_| random.pick(&[100, 100, 99, 80, 60]));
     let mut lines = Vec::new();
@@ -294,7 +302,7 @@ fn escape_value(random: &mut Random, dialect: Dialect, tree: &mut Value) {
 pub const FIRST_LINES: [&str; 16] = [
     "first line missing", "first line empty", "first line with two blanks", "first line with a tab",
     "first line with a trailing blank", "first line with a leading blank", "first line with byte 13",
-    "first line of dialect KK", "first line of dialect M1", "first line of depth 010 or 0100",
+    "first line of dialect KK", "first line of dialect M0, M3 or M22", "first line of depth 010 or 0100",
     "first line of depth +10 or +100", "first line of a depth that is not allowed", "first line with a name of 17 bytes",
     "first line with a name with a quote", "first line with a name with a backslash", "first line without a name",
 ];
@@ -309,7 +317,7 @@ fn bad_lines(kind: usize) -> &'static [&'static str] {
         5 => &[" K 10 x", " M 100 x"],
         6 => &["K 10 x\r", "M 100 x\r", "\r", "K 10\r x", "K\r 10 x", "\rM 100 x"],
         7 => &["KK 10 x", "KK 100 x"],
-        8 => &["M1 100 x", "M1 10 x"],
+        8 => &["M0 100 x", "M3 100 x", "M22 100 x", "M 2 100 x", "M2.0 100 x", "m2 100 x"],
         9 => &["K 010 x", "M 0100 x", "K 0100 x"],
         10 => &["K +10 x", "M +100 x", "K +100 x"],
         11 => &["K 9 x", "K 101 x", "M 99 x", "M 101 x", "M 10 x", "K 0 x", "K 10.0 x", "K 1e1 x", "M -100 x", "K 18446744073709551626 x"],
@@ -327,8 +335,8 @@ pub fn bad_first_lines() -> Vec<(&'static str, Session)> {
     for (kind, name) in FIRST_LINES.iter().enumerate() {
         for line in bad_lines(kind) {
             let calls = if kind == 0 { vec![] } else { lenient(line) };
-            let dialect = if line.contains('M') { Dialect::M } else { Dialect::K };
-            all.push((*name, Session { dialect, opening: Opening::Line(line.as_bytes().to_vec()), calls }));
+            let dialect = if line.contains('M') { Dialect::M1 } else { Dialect::K };
+            all.push((*name, Session { dialect, opening: Opening(line.as_bytes().to_vec()), calls }));
         }
     }
     all
@@ -353,7 +361,7 @@ fn lenient(line: &str) -> Vec<Call> {
 /// and inputs that end there.
 pub fn files(random: &mut Random) -> Vec<Session> {
     let mut all = Vec::new();
-    for dialect in [Dialect::K, Dialect::M] {
+    for dialect in Dialect::ALL {
         for past in [-2, -1, 0, 1, 2, 700] {
             all.push(file(random, dialect, past, false));
             all.push(file(random, dialect, past, true));
@@ -367,7 +375,7 @@ pub fn files(random: &mut Random) -> Vec<Session> {
 fn file(random: &mut Random, dialect: Dialect, past: i64, ends: bool) -> Session {
     let mut making = Making::new(Purpose::Lines, dialect, 100);
     let all = prices(random, 120);
-    let mut length = format!("{} 100 XBT/USD\n", dialect.letter()).len();
+    let mut length = format!("{} 100 XBT/USD\n", dialect.name()).len();
     let blocks = if ends { random.between(1, 2) } else { 3 };
     for block in 1..=blocks {
         let end = (block * BLOCK).saturating_add_signed(past as isize);

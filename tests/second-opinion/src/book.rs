@@ -8,6 +8,9 @@ use std::collections::HashMap;
 
 pub const MAX_LEVELS: usize = 100;
 
+/// The levels of a side that M2 sums.
+pub const SUMMED: usize = 25;
+
 #[derive(Clone, Copy, Debug, PartialEq, Eq)]
 pub enum State {
     Shut,
@@ -86,7 +89,8 @@ impl Sides {
     pub fn checksum_text(&self, dialect: Dialect) -> String {
         match dialect {
             Dialect::K => self.text_k(),
-            Dialect::M => self.text_m(),
+            Dialect::M1 => self.text_m(usize::MAX),
+            Dialect::M2 => self.text_m(SUMMED),
         }
     }
 
@@ -99,9 +103,10 @@ impl Sides {
         best.map(|level| level.price.stripped() + &level.size.stripped()).collect()
     }
 
-    fn text_m(&self) -> String {
+    /// Of the best `most` levels of each side.
+    fn text_m(&self, most: usize) -> String {
         let mut parts = Vec::new();
-        for place in 0..self.bids.len().max(self.asks.len()) {
+        for place in 0..self.bids.len().max(self.asks.len()).min(most) {
             for side in [&self.bids, &self.asks] {
                 if let Some(level) = side.get(place) {
                     parts.push(format!("{}:{}", level.price.text(), level.size.text()));
@@ -157,11 +162,12 @@ impl Book {
     /// Checks 10 to 13 and 16, and the book after a taken message.
     fn apply(&mut self, settings: &Settings, message: &Message) -> Result<(), Refusal> {
         let is_update = message.kind == Kind::Update;
-        let is_m = settings.dialect == Dialect::M;
+        let is_m = settings.dialect != Dialect::K;
         if is_update && self.state != State::Live {
             return Err(10);
         }
-        if is_m && is_update && message.gsn <= self.number {
+        let wrong_previous = message.previous.is_some_and(|previous| previous != self.number);
+        if is_m && is_update && (message.gsn <= self.number || wrong_previous) {
             return Err(11);
         }
         let sides = self.after(settings, message);
@@ -245,10 +251,10 @@ impl Book {
                 let (asks, bids) = (entries_text(&self.sides.asks, stamp), entries_text(&self.sides.bids, stamp));
                 format!("[0,{{\"as\":{asks},\"bs\":{bids}}},\"book-{depth}\",\"{name}\"]")
             }
-            Dialect::M => {
+            Dialect::M1 | Dialect::M2 => {
                 let (bids, asks) = (entries_text(&self.sides.bids, ""), entries_text(&self.sides.asks, ""));
                 let data = format!("{{\"bids\":{bids},\"asks\":{asks}}}");
-                let (sum, gsn) = (self.sides.checksum(Dialect::M), self.number);
+                let (sum, gsn) = (self.sides.checksum(settings.dialect), self.number);
                 format!("{{\"channel\":\"book\",\"product\":\"{name}\",\"type\":\"snapshot\",\"data\":{data},\"checksum\":{sum},\"gsn\":{gsn}}}")
             }
         }

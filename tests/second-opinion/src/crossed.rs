@@ -73,7 +73,13 @@ fn whole(random: &mut Random, making: &mut Making, all: &[Vec<Decimal>; 2]) {
 /// An update that crosses; with a wrong checksum or an old number in some turns.
 fn over(random: &mut Random, making: &mut Making, place: usize) {
     let side = random.pick(&Side::BOTH);
-    let Some(line) = crossing(random, making, side) else { return };
+    let Some(mut line) = crossing(random, making, side) else { return };
+    if place == 8 {
+        // The other side's best price, written differently if that can be.
+        let best = making.book.sides.side(other(side))[0].price;
+        let other_text = (0..20).map(|_| respelled(random, best, 90)).find(|text| *text != best.text());
+        line.price = other_text.unwrap_or(best.text());
+    }
     let mut draft = making.draft(random, Kind::Update, vec![line]);
     match place {
         6 => draft.checksum = (random.next() as u32).to_string(),
@@ -156,7 +162,7 @@ pub fn causes(dialect: Dialect) -> Vec<&'static str> {
     let both = [SNAPSHOT, UPDATE, ALIKE, DIFFERENTLY, ABOVE, RIGHT, WRONG, MIDWAY, BESIDE, ONE_SIDE];
     match dialect {
         Dialect::K => [both.as_slice(), &[CUT]].concat(),
-        Dialect::M => [both.as_slice(), &[MANY, OLD]].concat(),
+        Dialect::M1 | Dialect::M2 => [both.as_slice(), &[MANY, OLD]].concat(),
     }
 }
 

@@ -29,13 +29,14 @@ const MISNAMED: [&str; 18] = [
 
 /// One fault in the draft's texts.
 pub fn damage_draft(random: &mut Random, book: &Book, market: &Market, draft: Draft) -> Draft {
-    match (random.below(16), draft.kind) {
+    match (random.below(18), draft.kind) {
         (0 | 1, _) => bad_decimal(random, book, market, draft),
         (2, _) => zeros(random, book, market, draft),
         (3 | 4, _) | (5..=9, Kind::Snapshot) => doubled(random, book, market, draft),
         (5..=9, Kind::Update) | (10, _) => crowd(random, book, market, draft),
         (11 | 12, _) => old_gsn(random, book, draft),
         (13, _) => cross(random, book, market, draft),
+        (14 | 15, _) => wrong_previous(random, book, draft),
         _ => wrong_checksum(random, draft),
     }
 }
@@ -112,6 +113,25 @@ fn old_gsn(random: &mut Random, book: &Book, mut draft: Draft) -> Draft {
         _ => book.number,
     };
     draft.gsn = number.to_string();
+    draft
+}
+
+/// Another number before, or one that is none.
+fn wrong_previous(random: &mut Random, book: &Book, mut draft: Draft) -> Draft {
+    let number = book.number;
+    draft.previous = match random.below(8) {
+        0 => number.saturating_sub(1).to_string(),
+        1 => number.saturating_add(1).to_string(),
+        2 => draft.gsn.clone(),
+        3 => random.pick(&BAD_WHOLE).to_string(),
+        4 => format!("\"{number}\""),
+        5 => "9999999999999999999".to_string(),
+        6 => "0".to_string(),
+        _ => (random.next() % 1_000_000_000_000).to_string(),
+    };
+    if random.percent(20) {
+        draft = old_gsn(random, book, draft);
+    }
     draft
 }
 
@@ -341,7 +361,7 @@ fn bad_whole(random: &mut Random, settings: &Settings, tree: &mut Value) {
             }
         }
         (_, Value::Object(members)) => {
-            let name = key(random.pick(&["gsn", "checksum"]));
+            let name = key(random.pick(&["gsn", "checksum", "prev_gsn"]));
             members.iter_mut().filter(|member| member.0 == name).for_each(|member| member.1 = bad.clone());
         }
         _ => {}

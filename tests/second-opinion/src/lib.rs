@@ -11,6 +11,7 @@ pub mod decimal;
 pub mod escapes;
 pub mod json;
 pub mod lines;
+pub mod linked;
 pub mod making;
 pub mod message;
 pub mod random;

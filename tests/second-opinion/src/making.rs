@@ -18,7 +18,9 @@ pub struct Making {
     pub settings: Settings,
     pub book: Book,
     pub calls: Vec<Call>,
-    purpose: Purpose,
+    pub purpose: Purpose,
+    /// The dialect as the first line says it.
+    pub spelled: &'static str,
 }
 
 impl Making {
@@ -28,7 +30,7 @@ impl Making {
 
     pub fn named(purpose: Purpose, dialect: Dialect, depth: u64, name: &str) -> Making {
         let settings = Settings { dialect, depth, name: name.as_bytes().to_vec() };
-        Making { book: Book::open(Some(settings.clone())), settings, calls: vec![], purpose }
+        Making { book: Book::open(Some(settings.clone())), settings, calls: vec![], purpose, spelled: dialect.name() }
     }
 
     /// The lines as a draft, with the checksum of the book after it and a number that fits.
@@ -37,7 +39,8 @@ impl Making {
             Kind::Snapshot => random.below(1000).to_string(),
             Kind::Update => (self.book.number + 1).to_string(),
         };
-        finished(&self.book, Draft { kind, lines, checksum: String::new(), gsn })
+        let previous = self.book.number.to_string();
+        finished(&self.book, Draft { kind, lines, checksum: String::new(), gsn, previous })
     }
 
     pub fn value(&self, random: &mut Random, kind: Kind, lines: Vec<Line>) -> Value {
@@ -99,10 +102,7 @@ impl Making {
 
     pub fn made(self) -> Session {
         let Settings { dialect, depth, name } = self.settings;
-        let opening = match self.purpose {
-            Purpose::Lines => Opening::Line([format!("{} {depth} ", dialect.letter()).as_bytes(), &name].concat()),
-            Purpose::Calls => Opening::Words { dialect: dialect.letter() as u8, depth, name },
-        };
+        let opening = Opening([format!("{} {depth} ", self.spelled).as_bytes(), &name].concat());
         Session { dialect, opening, calls: self.calls }
     }
 }

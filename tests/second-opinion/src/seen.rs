@@ -4,6 +4,7 @@
 use crate::book::{Book, Scope, Sides};
 use crate::crossed;
 use crate::escapes;
+use crate::linked;
 use crate::message::{self, BadText, Entry, Kind, Level, Message, Side};
 use crate::session::{Call, Session};
 use crate::settings::{Dialect, Settings};
@@ -76,6 +77,7 @@ impl Seen {
     pub fn session(&mut self, session: &Session) {
         let mut book = Book::open(session.opening.settings());
         let Some(settings) = book.settings.clone() else { return };
+        self.causes(settings.dialect, linked::seen_opening(&settings, session.opening.line()));
         for call in &session.calls {
             match call {
                 Call::Message(text) => self.message(&mut book, &settings, text),
@@ -97,13 +99,14 @@ impl Seen {
 
     fn message(&mut self, book: &mut Book, settings: &Settings, text: &[u8]) {
         let read = message::read(settings, text);
-        let before = book.sides.clone();
+        let (before, number) = (book.sides.clone(), book.number);
         let answer = book.take_read(settings, &read);
         self.texts(settings, text, answer);
         let Ok(message) = read else { return };
         // A refused message leaves the sides as they were.
         let after = if answer == 0 { book.sides.clone() } else { book.after(settings, &message) };
         self.causes(settings.dialect, crossed::seen(settings, &message, &before, &after, answer));
+        self.causes(settings.dialect, linked::seen(settings, &message, number, &before, &after, answer));
         for (most, end) in Side::BOTH.map(|side| worked(&before, &message, side)) {
             match (settings.dialect, answer) {
                 (Dialect::K, 0) => {
@@ -114,8 +117,8 @@ impl Seen {
                         self.depths.insert(settings.depth);
                     }
                 }
-                (Dialect::M, 12) if most == 200 => self.count(FULL_M),
-                (Dialect::M, 0) if most > 100 => {
+                (Dialect::M1 | Dialect::M2, 12) if most == 200 => self.count(FULL_M),
+                (Dialect::M1 | Dialect::M2, 0) if most > 100 => {
                     self.count(MIDWAY);
                     if end == 100 {
                         self.count(MIDWAY_FULL);
@@ -133,6 +136,7 @@ impl Seen {
     fn texts(&mut self, settings: &Settings, text: &[u8], answer: u8) {
         let bad = (answer == 8).then(|| &text[message::first_bad(Some(settings), text)]);
         self.causes(settings.dialect, escapes::seen(settings, text, answer, bad));
+        self.causes(settings.dialect, linked::seen_texts(settings, text, answer));
     }
 
     /// Why a message got its answer, counted for each dialect.
@@ -206,13 +210,13 @@ impl Seen {
 }
 
 fn of_dialect(dialect: Dialect, cause: &str) -> String {
-    format!("{}: {cause}", dialect.letter())
+    format!("{}: {cause}", dialect.name())
 }
 
 /// What every run has to bring up in each dialect.
 pub fn causes() -> Vec<String> {
     let of = |dialect: Dialect| {
-        let all = [escapes::causes(dialect), crossed::causes(dialect)].concat();
+        let all = [escapes::causes(dialect), crossed::causes(dialect), linked::causes(dialect)].concat();
         all.into_iter().map(move |cause| of_dialect(dialect, cause))
     };
     Dialect::ALL.into_iter().flat_map(of).collect()

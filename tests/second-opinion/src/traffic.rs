@@ -35,6 +35,8 @@ pub struct Draft {
     pub lines: Vec<Line>,
     pub checksum: String,
     pub gsn: String,
+    /// `prev_gsn`, where the dialect has it.
+    pub previous: String,
 }
 
 impl Market {
@@ -141,7 +143,8 @@ pub fn snapshot(random: &mut Random, book: &Book, market: &Market) -> Draft {
         2 => book.number.to_string(),
         _ => (random.next() % 1_000_000_000_000).to_string(),
     };
-    finished(book, Draft { kind: Kind::Snapshot, lines, checksum: String::new(), gsn })
+    let previous = book.number.to_string();
+    finished(book, Draft { kind: Kind::Snapshot, lines, checksum: String::new(), gsn, previous })
 }
 
 /// A right update; with `filling` it mostly adds levels.
@@ -157,7 +160,8 @@ pub fn update(random: &mut Random, book: &Book, market: &Market, filling: bool) 
     }
     let step = random.pick(&[1, 1, 1, 2, 1000]);
     let gsn = book.number.saturating_add(step).min(9_999_999_999_999_999_999).to_string();
-    finished(book, Draft { kind: Kind::Update, lines, checksum: String::new(), gsn })
+    let previous = book.number.to_string();
+    finished(book, Draft { kind: Kind::Update, lines, checksum: String::new(), gsn, previous })
 }
 
 /// A level set or, with `removing` in a hundred, removed. In a crowded book no new price comes.
@@ -203,7 +207,7 @@ pub fn sides_after(book: &Book, draft: &Draft) -> Option<Sides> {
         Some(Entry { side: line.side, level: Level { price, size } })
     };
     let entries = draft.lines.iter().map(entry).collect::<Option<Vec<Entry>>>()?;
-    let message = Message { kind: draft.kind, entries, checksum: None, gsn: 0 };
+    let message = Message { kind: draft.kind, entries, checksum: None, gsn: 0, previous: None };
     Some(book.after(settings, &message))
 }
 
@@ -212,7 +216,7 @@ impl Draft {
     pub fn value(&self, random: &mut Random, settings: &Settings) -> Value {
         match settings.dialect {
             Dialect::K => self.value_k(random, settings),
-            Dialect::M => self.value_m(random, settings),
+            Dialect::M1 | Dialect::M2 => self.value_m(random, settings),
         }
     }
 
@@ -270,7 +274,8 @@ impl Draft {
             (key("asks"), self.entries(random, Side::Ask, |_| vec![])),
         ];
         if random.percent(30) {
-            data.push((key("gsn"), stray(random)));
+            let name = random.pick(&["gsn", "gsn", "prev_gsn"]);
+            data.push((key(name), stray(random)));
         }
         pass_over(random, &mut data);
         random.shuffle(&mut data);
@@ -282,6 +287,12 @@ impl Draft {
             (key("checksum"), raw(&self.checksum)),
             (key("gsn"), raw(&self.gsn)),
         ];
+        if settings.dialect == Dialect::M2 && self.kind == Kind::Update {
+            members.push((key("prev_gsn"), raw(&self.previous)));
+        } else if random.percent(15) {
+            // Passed over, whatever it holds.
+            members.push((key("prev_gsn"), if random.percent(30) { raw(&self.previous) } else { stray(random) }));
+        }
         pass_over(random, &mut members);
         if random.percent(50) {
             random.shuffle(&mut members);
@@ -302,7 +313,7 @@ fn timestamp(random: &mut Random) -> Vec<Value> {
 /// Members that are not named, with anything in them.
 fn pass_over(random: &mut Random, members: &mut Vec<(Vec<u8>, Value)>) {
     while random.percent(15) {
-        let name = random.pick(&["timestamp", "x", "", "prev_gsn", "\u{e9}", "A", "bs ", "version"]);
+        let name = random.pick(&["timestamp", "x", "", "prev_sequence", "\u{e9}", "A", "bs ", "version"]);
         let value = match random.below(3) {
             0 => stray(random),
             1 => text("1764643130040025000"),

@@ -38,6 +38,9 @@ fn passed(message: &Message) -> String {
         line += &format!(" checksum {checksum}");
     }
     line += &format!(" number {}", message.gsn);
+    if let Some(previous) = message.previous {
+        line += &format!(" previous {previous}");
+    }
     for entry in &message.entries {
         let letter = if entry.side == Side::Bid { "b" } else { "a" };
         line += &format!(" {letter} {} {}", digits(entry.level.price), digits(entry.level.size));

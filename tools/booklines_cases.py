@@ -32,6 +32,11 @@ def m_message(name, kind, bids, asks, checksum, gsn):
     ).encode()
 
 
+def m2_update(bids, text, gsn, previous):
+    """An update of bids; the text is what is summed afterwards."""
+    return m_message("A-B", "update", bids, [], zlib.crc32(text.encode()), gsn)[:-1] + b',"prev_gsn":%d}' % previous
+
+
 K = k_snapshot(10, "A/B", [("9", "2")], [("10", "1"), ("11", "1")])
 M = m_message("A-B", "snapshot", [("9", "2")], [("10", "1")], zlib.crc32(b"9:2:10:1"), 7)
 
@@ -85,6 +90,21 @@ CASES = [
     ("a last line without a line end", b"K 10 A/B\n" + K, b"0 1 2\n"),
     ("a last line of one byte", b"K 10 A/B\n" + K + b"\nx", b"0 1 2\n3 - -\n"),
     ("a byte 13 before a line end", b"K 10 A/B\n" + K + b"\r\n", b"0 1 2\n"),
+    ("M1, which is M", opens(b"M1 100 A-B", M), b"0 1 1\n"),
+    ("M2", opens(b"M2 100 A-B", M), b"0 1 1\n"),
+    ("M3", opens(b"M3 100 A-B", M), b"1 - -\n"),
+    ("M2, depth 25", opens(b"M2 25 A-B", M), b"1 - -\n"),
+    ("M 2", opens(b"M 2 100 A-B", M), b"1 - -\n"),
+    ("m2", opens(b"m2 100 A-B", M), b"1 - -\n"),
+    ("an M2 update", b"M2 100 A-B\n" + M + b"\n" + m2_update([("9", "0")], "10:1", 8, 7) + b"\n" + m2_update([("9", "2")], "9:2:10:1", 9, 8) + b"\n",
+     b"0 1 1\n0 0 1\n0 1 1\n"),
+    ("an M2 update after a gap", b"M2 100 A-B\n" + M + b"\n" + m2_update([("9", "0")], "10:1", 9, 8) + b"\n", b"0 1 1\n11 - -\n"),
+    ("an M update in M2", b"M2 100 A-B\n" + M + b"\n" + m_message("A-B", "update", [], [], zlib.crc32(b"9:2:10:1"), 8) + b"\n", b"0 1 1\n6 - -\n"),
+    ("an M2 update in M1", b"M1 100 A-B\n" + M + b"\n" + m2_update([("9", "0")], "10:1", 9, 3) + b"\n", b"0 1 1\n0 0 1\n"),
+    ("a crossed snapshot for K", opens(b"K 10 A/B", k_snapshot(10, "A/B", [("9", "2"), ("10.0", "1")], [("10", "1")])), b"16 - -\n"),
+    ("a crossed snapshot for M", opens(b"M 100 A-B", m_message("A-B", "snapshot", [("9", "2")], [("9", "1")], zlib.crc32(b"9:2:9:1"), 7)), b"16 - -\n"),
+    ("a crossed update", b"M 100 A-B\n" + M + b"\n" + m_message("A-B", "update", [("10", "2")], [], zlib.crc32(b"10:2:10:1:9:2"), 8) + b"\n",
+     b"0 1 1\n16 - -\n"),
     ("an escaped slash in the pair", opens(b"K 10 A/B", K.replace(b"A/B", b"A\\/B")), b"0 1 2\n"),
     ("every byte of a name escaped", opens(b"K 10 A/B", K.replace(b"A/B", b"\\u0041\\u002f\\u0042").replace(b"as", b"\\u0061\\u0073")), b"0 1 2\n"),
     ("a pair that means another", b"K 10 A/B\n" + K + b"\n" + K.replace(b"A/B", b"A\\\\/B") + b"\n", b"0 1 2\n5 1 2\n"),

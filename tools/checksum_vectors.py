@@ -44,14 +44,16 @@ def shown(text):
 
 
 def show():
-    bids, asks = list(book["b"].values()), list(book["a"].values())
+    bids, asks = shown_sides = list(book["b"].values()), list(book["a"].values())
     if book["dialect"] == "K":
         text = "".join(t.replace(".", "").lstrip("0") for level in asks[:10] + bids[:10] for t in level)
     else:
+        if book["dialect"] == "M2":
+            bids, asks = bids[:25], asks[:25]
         levels = [side[i] for i in range(max(len(bids), len(asks))) for side in (bids, asks) if i < len(side)]
         text = ":".join(p + ":" + s for p, s in levels)
     lines.append("=")
-    for name, side in (("bids", bids), ("asks", asks)):
+    for name, side in zip(("bids", "asks"), shown_sides):
         out.append(name + "".join(f" {shown(p)}:{shown(s)}" for p, s in side))
     out.append(f"sum {zlib.crc32(text.encode())}")
 
@@ -91,8 +93,20 @@ for dialect in "KM":
         show()
         message(side, *((str(1001 + 2 * i), "1." + "0" * (i % 9 + 1)) for i in range(100)))
         show()
+# 24 to 27 levels a side and unequal sides: M2 sums 25 of them, as 003 has it; a change past the 25th leaves its sum as it was
+for dialect in ("M2", "M1"):
+    new(dialect, 100)
+    for bids, asks in ((24, 24), (25, 24), (25, 25), (26, 25), (26, 26), (27, 40), (0, 40), (40, 3)):
+        for side, count in (("b", bids), ("a", asks)):
+            message(side, *((p, "0") for p, _ in book[side].values()))
+            message(side, *((f"{100 + i}.5", f"{i + 1}.0") for i in range(count)))
+        show()
+    before = out[-1]
+    message("b", ("100.5", "7"))
+    show()
+    assert (out[-1] == before) == (dialect == "M2")
 # texts of 23 bytes, and prices that the last digits alone tell apart, or 2^64 of them
-for dialect, depth in (("K", 10), ("K", 100), ("M", 100)):
+for dialect, depth in (("K", 10), ("K", 100), ("M", 100), ("M2", 100)):
     new(dialect, depth)
     for side, low in (("b", 9999999999_999999999900), ("a", 2**64 - 3), ("a", 1)):
         message(side, *((twelve(low + i), twelve(9999999999_999999999999 - i)) for i in range(0, 20, 3)))
@@ -102,7 +116,7 @@ for dialect, depth in (("K", 10), ("K", 100), ("M", 100)):
     message("a", (twelve(1), "1"), (twelve(1 + 2**64), "2"), (twelve(2**64 - 3), "0"))
     show()
 # two hundred updates of a few entries, near the top and anywhere
-for dialect, depth in (("K", 10), ("K", 25), ("K", 100), ("M", 100)):
+for dialect, depth in (("K", 10), ("K", 25), ("K", 100), ("M", 100), ("M2", 100)):
     new(dialect, depth)
     for turn in range(50):
         for side in "ab":

@@ -11,9 +11,9 @@ def k_checksum(bids, asks):
     return zlib.crc32("".join(plain(p) + plain(s) for p, s in asks[:10] + bids[:10]).encode())
 
 
-def m_checksum(bids, asks):
+def m_checksum(bids, asks, most=100):
     levels = []
-    for i in range(max(len(bids), len(asks))):
+    for i in range(min(max(len(bids), len(asks)), most)):
         levels += bids[i : i + 1] + asks[i : i + 1]
     return zlib.crc32(":".join(f"{p}:{s}" for p, s in levels).encode())
 
@@ -33,11 +33,11 @@ def k_update(changed, bids, asks):
     return "[336," + ",".join("{" + o + "}" for o in objects) + ',"book-10","XBT/USD"]'
 
 
-def m_message(kind, bid_entries, ask_entries, bids, asks, gsn):
+def m_message(kind, bid_entries, ask_entries, bids, asks, gsn, most=100):
     rows = lambda levels: "[" + ",".join(f'["{p}","{s}"]' for p, s in levels) + "]"
     return (
         f'{{"channel":"book","product":"BTC-VND","type":"{kind}","data":{{"bids":{rows(bid_entries)},"asks":{rows(ask_entries)}}},'
-        f'"checksum":{m_checksum(bids, asks)},"gsn":{gsn}}}'
+        f'"checksum":{m_checksum(bids, asks, most)},"gsn":{gsn}}}'
     )
 
 
@@ -83,10 +83,33 @@ def m_feed():
     lines.append((m_message("snapshot", bids, asks, bids, asks, 3), "0 2 1"))
     bids = bids[:1]
     lines.append((m_message("update", [("8", "0.0")], [], bids, asks, 4), "0 1 1"))
+    # The best bid at the best ask, with a right checksum.
+    crossed = [("10.50", "1")] + bids
+    lines.append((m_message("update", crossed[:1], [], crossed, asks, 5), "16 - -"))
+    lines.append((m_message("snapshot", bids, asks, bids, asks, 6), "0 1 1"))
     return lines
 
 
-for name, lines in [("k", k_feed()), ("k-recovery", k_recovery_feed()), ("m", m_feed())]:
+def m2_feed():
+    """Thirty bids, of which 25 are summed; each update names the number before it."""
+    def update(bid_entries, gsn, previous):
+        text = m_message("update", bid_entries, [], bids, asks, gsn, 25)
+        return text[:-1] + f',"prev_gsn":{previous}}}'
+
+    bids = [(f"{price}", "1") for price in range(130, 100, -1)]
+    asks = [("131", "0.5")]
+    lines = [("M2 100 BTC-VND", None)]
+    lines.append((m_message("snapshot", bids, asks, bids, asks, 7, 25), "0 30 1"))
+    bids = bids[:-1]
+    lines.append((update([("101", "0")], 8, 7), "0 29 1"))
+    bids = [("130", "2.00")] + bids[1:]
+    lines.append((update([("130", "2.00")], 12, 8), "0 29 1"))
+    lines.append((update([], 14, 13), "11 - -"))
+    lines.append((m_message("snapshot", bids, asks, bids, asks, 14, 25), "0 29 1"))
+    return lines
+
+
+for name, lines in [("k", k_feed()), ("k-recovery", k_recovery_feed()), ("m", m_feed()), ("m2", m2_feed())]:
     with open(f"examples/{name}.feed", "w") as feed, open(f"examples/{name}.replies", "w") as replies:
         for line, reply in lines:
             feed.write(line + "\n")

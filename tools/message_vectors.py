@@ -10,6 +10,7 @@ MAX_NESTING = 16
 MAX_ENTRIES = 100
 MAX_CHECKSUM = 4294967295
 MAX_INPUT = 262144
+M_DIALECTS = (b"M", b"M1", b"M2")
 
 # ---- JSON, RFC 8259, by positions
 
@@ -125,7 +126,7 @@ def need(number, holds):
 
 
 def good_settings(dialect, depth, name):
-    good_depth = 10 <= depth <= 100 if dialect == b"K" else dialect == b"M" and depth == 100
+    good_depth = 10 <= depth <= 100 if dialect == b"K" else dialect in M_DIALECTS and depth == 100
     return good_depth and 1 <= len(name) <= 16 and all(33 <= byte <= 126 and byte not in b'"\\' for byte in name)
 
 
@@ -146,8 +147,8 @@ def checksum(text):
 class Read:
     """A message of the layout: the bids' and the asks' arrays, or None."""
 
-    def __init__(self, snapshot, bids, asks, checksum, number):
-        self.snapshot, self.bids, self.asks, self.checksum, self.number = snapshot, bids, asks, checksum, number
+    def __init__(self, snapshot, bids, asks, checksum, number, previous=None):
+        self.snapshot, self.bids, self.asks, self.checksum, self.number, self.previous = snapshot, bids, asks, checksum, number, previous
 
 
 def once(values):
@@ -175,7 +176,7 @@ def k_layout(elements):
     return Read(False, *((over_all[name] or [None])[0] for name in (b"b", b"a")), printed, 0)
 
 
-def m_layout(message):
+def m_layout(message, linked):
     for name in (b"channel", b"product"):
         once(message.named(name))
     kind = once(message.named(b"type"))
@@ -184,7 +185,8 @@ def m_layout(message):
     bids, asks = once(data.named(b"bids")), once(data.named(b"asks"))
     printed = checksum(of_kind(once(message.named(b"checksum")), "number").text)
     number = whole(of_kind(once(message.named(b"gsn")), "number").text)
-    return Read(kind.equals(b"snapshot"), bids, asks, printed, number)
+    previous = whole(of_kind(once(message.named(b"prev_gsn")), "number").text) if linked and kind.equals(b"update") else None
+    return Read(kind.equals(b"snapshot"), bids, asks, printed, number, previous)
 
 
 def entries(dialect, side):
@@ -224,7 +226,7 @@ def check(dialect, depth, name, text):
     except NotJson:
         raise Refused(3) from None
     addressed(dialect, depth, name, message)
-    said = k_layout(message.held) if dialect == b"K" else m_layout(message)
+    said = k_layout(message.held) if dialect == b"K" else m_layout(message, dialect == b"M2")
     said.rows = [entries(dialect, said.bids), entries(dialect, said.asks)]
     need(7, all(len(rows) <= MAX_ENTRIES for rows in said.rows))
     bad = []
@@ -266,6 +268,8 @@ def answer(settings, text):
     if said.checksum is not None:
         line += b" checksum %d" % said.checksum
     line += b" number %d" % said.number
+    if said.previous is not None:
+        line += b" previous %d" % said.previous
     return 0, b"".join([line, *entry_texts(said.rows), b" bad 0 0"])
 
 
@@ -273,6 +277,8 @@ def answer(settings, text):
 
 K_BOOK = (b"K", 10, b"XBT/USD")
 M_BOOK = (b"M", 100, b"BTC-VND")
+M2_BOOK = (b"M2", 100, b"BTC-VND")
+BOOKS = {"K": K_BOOK, "M": M_BOOK, "M2": M2_BOOK}
 
 
 def k(*objects, number="0", channel='"book-10"', pair='"XBT/USD"'):
@@ -670,6 +676,52 @@ def m_entry_cases():
     yield 0, '\t { "channel" : "book" , "product" : "BTC-VND" , "type" : "update" , "data" : { "asks" : [ ] , "bids" : [ [ "1" , "0" ] ] } , "checksum" : 5 , "gsn" : 7 } \r'
 
 
+def m2_cases():
+    yield "M2: an update has the number before once, written as a whole number; a snapshot's is passed over"
+    row = rows(m_row())
+    for previous in ("0", "7", "4294967296", "9223372036854775808", "9999999999999999999"):
+        yield 0, m(("prev_gsn", previous), kind="update", data=m_data(row))
+        yield 0, members(("prev_gsn", previous), *m_pairs("update"))
+    yield 6, m(kind="update")
+    yield 0, m(kind="snapshot")
+    for bad in NOT_WHOLE + ['"7"', '"\\u0037"', '["7"]']:
+        yield 6, m(("prev_gsn", bad), kind="update")
+        yield 0, m(("prev_gsn", bad), kind="snapshot")
+    for bad in ("07", "00", "+7", "7.", ""):
+        yield 3, m(("prev_gsn", bad), kind="update")
+        yield 3, m(("prev_gsn", bad), kind="snapshot")
+    yield 6, m(("prev_gsn", "7"), ("prev_gsn", "7"), kind="update")
+    yield 6, m(("prev_gsn", "7"), ("prev_gsn", '"x"'), kind="update")
+    yield 6, m(("prev_gsn", "7"), ("prev\\u005fgsn", "7"), kind="update")
+    yield 6, m(("prev_gsn", "7"), (hexed("prev_gsn"), "7"), kind="update")
+    yield 0, m(("prev_gsn", "7"), ("prev_gsn", "7"), kind="snapshot")
+    yield 0, m((hexed("prev_gsn"), "7"), kind="update")
+    yield 0, m(("\\u0070rev_gs\\u006E", "7"), kind="update")
+    for name in ("prev-gsn", "Prev_gsn", "prev_sequence", "prev_gs", "prev_gsnn", "\\u0170rev_gsn", "gsn_prev"):
+        yield 6, m((name, "7"), kind="update")
+        yield 0, m((name, "7"), ("prev_gsn", "6"), kind="update")
+    yield 6, m(kind="update", data=m_data("[]", "[]", ("prev_gsn", "7")))
+    yield 0, m(("prev_gsn", "7"), kind="update", data=m_data("[]", "[]", ("prev_gsn", "null"), ("gsn", '"x"')))
+    yield 6, m(("x", '{"prev_gsn":7}'), kind="update")
+    yield "M2: the other checks as in M"
+    yield 5, m(("prev_gsn", "7"), kind="update", leave=["product"])
+    yield 6, m(("prev_gsn", "7"), kind="update", leave=["gsn"])
+    yield 6, m(("prev_gsn", "-0"), kind="update", data=m_data(many('["1","1"]', 101)))
+    yield 7, m(("prev_gsn", "7"), kind="update", data=m_data(many('["1","1"]', 101)))
+    yield 8, m(("prev_gsn", "7"), kind="update", data=m_data(rows(m_row("0")))), None, None, '"0"'
+    yield 6, m(kind="update", data=m_data(rows(m_row("0"))))
+
+
+def m1_cases():
+    yield "M1, which plain M means: prev_gsn is passed over"
+    for settings in (b"M", b"M1"):
+        yield settings
+        yield 0, m(kind="update")
+        for any_value in ("7", "-0", '"x"', "null", "[]"):
+            yield 0, m(("prev_gsn", any_value), ("prev_gsn", any_value), kind="update")
+            yield 0, m(("prev_gsn", any_value), kind="snapshot")
+
+
 def many(row, count, *last):
     return rows(*[row] * (count - len(last)), *last)
 
@@ -754,9 +806,10 @@ def both_orders_cases():
 
 def settings_cases():
     """Pairs of settings and their cases."""
-    for dialect, depths in ((b"K", (9, 10, 11, 100, 101, 0, 1000)), (b"M", (99, 100, 101, 10, 0)), (b"L", (10, 100)), (b"k", (10,)), (b"m", (100,))):
+    for dialect, depths in ((b"K", (9, 10, 11, 100, 101, 0, 1000)), (b"M", (99, 100, 101, 10, 0)), (b"M1", (99, 100, 101, 10)), (b"M2", (99, 100, 101, 25)),
+                            (b"M0", (100,)), (b"M3", (100,)), (b"M12", (100,)), (b"m2", (100,)), (b"K1", (10,)), (b"L", (10, 100)), (b"k", (10,)), (b"m", (100,))):
         for depth in depths:
-            good = dialect == b"K" and depth in (10, 11, 100) or dialect == b"M" and depth == 100
+            good = dialect == b"K" and depth in (10, 11, 100) or dialect in M_DIALECTS and depth == 100
             message = k(k_snapshot(), channel='"book-%d"' % depth) if dialect in b"Kk" else m()
             name = b"XBT/USD" if dialect in b"Kk" else b"BTC-VND"
             texts = [message, "", "[1,2,3]", k(k_snapshot(rows(k_row("0"))), channel='"book-%d"' % depth)]
@@ -817,6 +870,15 @@ def random_m(pick):
     return random_object(pick, list(values), lambda name: values.get(name, "null"), ["x", "channel", "product", "type", "data", "checksum", "gsn", "bids", "a\\n"])
 
 
+def random_m2(pick):
+    """As in M, with a number before."""
+    text = random_m(pick)
+    if pick.random() < 0.9:
+        previous = str(pick.randrange(10 ** 19)) if pick.random() < 0.9 else pick.choice(NOT_WHOLE)
+        text = text[:-1] + (',"%s":%s}' % (pick.choice(["prev_gsn"] * 5 + ["prev\\u005fgsn"]), previous))
+    return text
+
+
 def damaged(pick, text):
     """A message with a byte less, a byte twice or two bytes exchanged."""
     at = pick.randrange(len(text) - 1)
@@ -825,7 +887,7 @@ def damaged(pick, text):
 
 def random_cases(seed, count):
     pick = random.Random(seed)
-    for name, make in (("K", random_k), ("M", random_m)):
+    for name, make in (("K", random_k), ("M", random_m), ("M2", random_m2)):
         yield name + ": at random"
         for _ in range(count):
             text = make(pick)
@@ -850,7 +912,7 @@ class Files:
     def add(self, expected, text, name=None, length=None, bad=None):
         """A message, its answer number by hand, the dialect where it is not the one before, its length with blanks, its bad text by hand."""
         if name:
-            self.choose({"K": K_BOOK, "M": M_BOOK}[name])
+            self.choose(BOOKS[name])
         text = text.encode("latin-1")
         assert b"\n" not in text
         line = b"+ %d %s" % (length, text) if length else b"< " + text
@@ -863,10 +925,12 @@ class Files:
 
     def add_all(self, cases, name=None):
         if name:
-            self.choose({"K": K_BOOK, "M": M_BOOK}[name])
+            self.choose(BOOKS[name])
         for case in cases:
             if isinstance(case, str):
                 self.say(b"# " + case.encode())
+            elif isinstance(case, bytes):
+                self.choose((case, 100, b"BTC-VND"))
             else:
                 self.add(*case)
 
@@ -885,7 +949,7 @@ def k_pairs(make):
 def main():
     files = Files()
     for name, groups in (("K", (json_cases, k_address_cases, k_number_cases, k_object_cases, k_update_cases, k_entry_cases, k_many_cases)),
-                         ("M", (m_address_cases, m_layout_cases, m_entry_cases, m_many_cases))):
+                         ("M", (m_address_cases, m_layout_cases, m_entry_cases, m_many_cases, m1_cases)), ("M2", (m2_cases,))):
         for group in groups:
             files.add_all(group(), name)
     files.add_all(decimal_cases(k_pairs(k_snapshot), k_pairs(k_update), k_row, "K"), "K")

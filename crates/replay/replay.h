@@ -1,6 +1,6 @@
-/* A script of calls run on one order book. docs/REPLAY.md describes the script and the replies.
+/* A script of calls run on one order book. docs/REPLAY.md describes the settings, the script and the replies.
  *
- * dialect: 'K' or 'M'; anything else, and any other bad setting, opens a shut book.
+ * settings: dialect, depth and product name, one blank between, as `M2 100 BTC-VND`; any that are bad open a shut book.
  * out: the replies are laid into it; its bytes are lent to the calls as their buffers.
  * Answers how many calls were made. No pointer may be null, also where its length is 0; `out` overlaps nothing else.
  */
@@ -14,8 +14,7 @@
 extern "C" {
 #endif
 
-size_t huurqan_replay(uint8_t dialect, size_t depth,
-                      const uint8_t *name, size_t name_length,
+size_t huurqan_replay(const uint8_t *settings, size_t settings_length,
                       const uint8_t *script, size_t script_length,
                       uint8_t *out, size_t out_length);
 

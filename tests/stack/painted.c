@@ -9,9 +9,8 @@
 
 enum { STACK = 1 << 20, BUFFER = 40000 };
 static unsigned char stack[STACK] __attribute__((aligned(4096)));
-static unsigned char *script, *out, name[64];
-static size_t script_length, out_length, name_length, depth, made;
-static char dialect;
+static unsigned char *script, *out, settings[64];
+static size_t script_length, out_length, settings_length, made;
 
 static void word(unsigned long long value) {
     for (int i = 0; i < 8; i++) script[script_length++] = value >> 8 * i;
@@ -25,7 +24,7 @@ static void call(int asked, size_t buffer, const char *message, size_t length) {
 }
 
 static void run(void) {
-    made = huurqan_replay(dialect, depth, name, name_length, script, script_length, out, out_length);
+    made = huurqan_replay(settings, settings_length, script, script_length, out, out_length);
 }
 
 // How far down the stack is written to, if it is painted with this byte.
@@ -47,8 +46,8 @@ int main(void) {
     static char line[1 << 17];
     size_t size = 1 << 26, messages = 0;
     script = malloc(size);
-    if (!fgets(line, sizeof line, stdin) || sscanf(line, "%c %zu %63s", &dialect, &depth, name) != 3) return 2;
-    name_length = strlen((char *)name);
+    if (!fgets(line, sizeof line, stdin) || (settings_length = strcspn(line, "\n")) > sizeof settings) return 2;
+    memcpy(settings, line, settings_length);
     while (fgets(line, sizeof line, stdin) && script_length < size - 4 * sizeof line) {
         call(0, 0, line, strcspn(line, "\n"));
         if (messages++ % 50 == 0) call(5, BUFFER, "", 0);

@@ -3,7 +3,7 @@ use mathlib.Core.Path.{_≡_, refl, sym, _∙_}
 use mathlib.Core.Bool.{Bool, true, false, true≢false, false≢true}
 use Rattle.answer.specs.Answers.{answerNumber, isTaken}
 use Rattle.answer.specs.declared.Answer.{Answer}
-use Rattle.answer.specs.declared.Answer.the-variants.{Taken, Shut, TooLong, NotJson, Escaped, NotOurs, BadLayout, TooManyEntries, BadDecimal, PriceTwice, NoSnapshot, OldNumber, TooManyLevels, WrongChecksum, NoLevel, NoRoom}
+use Rattle.answer.specs.declared.Answer.the-variants.{Taken, Shut, TooLong, NotJson, Escaped, NotOurs, BadLayout, TooManyEntries, BadDecimal, PriceTwice, NoSnapshot, OldNumber, TooManyLevels, WrongChecksum, NoLevel, NoRoom, Crossed}
 
 pub taken-answer : (a : Answer) → isTaken a ≡ true → a ≡ Taken
 unfolding isTaken answerNumber
@@ -23,6 +23,7 @@ taken-answer TooManyLevels h = absurd (false≢true h)
 taken-answer WrongChecksum h = absurd (false≢true h)
 taken-answer NoLevel h = absurd (false≢true h)
 taken-answer NoRoom h = absurd (false≢true h)
+taken-answer Crossed h = absurd (false≢true h)
 
 pub is-taken : (a : Answer) → a ≡ Taken → isTaken a ≡ true
 unfolding isTaken answerNumber

@@ -4,7 +4,7 @@ use mathlib.Core.Bool.{Bool, false, _||_}
 use mathlib.Core.List.{List, [], _∷_}
 use lib.Dec.{eqb}
 use Rattle.answer.specs.declared.Answer.{Answer}
-use Rattle.answer.specs.declared.Answer.the-variants.{Taken, Shut, TooLong, NotJson, Escaped, NotOurs, BadLayout, TooManyEntries, BadDecimal, PriceTwice, NoSnapshot, OldNumber, TooManyLevels, WrongChecksum, NoLevel, NoRoom}
+use Rattle.answer.specs.declared.Answer.the-variants.{Taken, Shut, TooLong, NotJson, Escaped, NotOurs, BadLayout, TooManyEntries, BadDecimal, PriceTwice, NoSnapshot, OldNumber, TooManyLevels, WrongChecksum, NoLevel, NoRoom, Crossed}
 
 unfoldable pub answerNumber : Answer → ℕ
 answerNumber Taken = 0
@@ -23,6 +23,7 @@ answerNumber TooManyLevels = 12
 answerNumber WrongChecksum = 13
 answerNumber NoLevel = 14
 answerNumber NoRoom = 15
+answerNumber Crossed = 16
 
 unfoldable pub oneOf : List ℕ → ℕ → Bool
 oneOf [] n = false
@@ -30,7 +31,7 @@ oneOf (k ∷ ks) n = eqb n k || oneOf ks n
 
 -- The answers to messages, in the order of checks. 4 is given no more (request a).
 abbrev pub toMessages : List ℕ
-toMessages = 0 ∷ 1 ∷ 2 ∷ 3 ∷ 5 ∷ 6 ∷ 7 ∷ 8 ∷ 9 ∷ 10 ∷ 11 ∷ 12 ∷ 13 ∷ []
+toMessages = 0 ∷ 1 ∷ 2 ∷ 3 ∷ 5 ∷ 6 ∷ 7 ∷ 8 ∷ 9 ∷ 10 ∷ 11 ∷ 12 ∷ 16 ∷ 13 ∷ []
 
 -- "Questions and the writer use 1, 10, 14, 15 in that order."
 abbrev pub toQuestions : List ℕ

@@ -35,6 +35,8 @@ pub enum Answer {
     NoLevel,
     // The lent buffer is too small.
     NoRoom,
+    // The best bid would not be below the best ask.
+    Crossed,
 }
 
 // The number of an answer.
@@ -58,6 +60,7 @@ pub fn number_of(answer: Answer) -> u64
         Answer::WrongChecksum => 13,
         Answer::NoLevel => 14,
         Answer::NoRoom => 15,
+        Answer::Crossed => 16,
     }
 }
 

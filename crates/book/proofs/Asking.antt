@@ -271,7 +271,7 @@ good-first t h = go (t .dialect) refl
   where
     go : (d : Dialect) → t .dialect ≡ d → isShut (statusOf (firstState d)) ≡ false
     go K e = refl
-    go M e = refl
+    go (M v) e = refl
     go Unknown e = absurd (true≢false (sym h ∙ rw e))
 
 -- the state by the settings that are kept
@@ -281,7 +281,7 @@ first-status t = at (good t) refl
   where
     live-not : (d : Dialect) → isShut (statusOf (firstState d)) ≡ false → statusOf (firstState d) ≡ waiting
     live-not K h = refl
-    live-not M h = refl
+    live-not (M v) h = refl
     live-not Unknown h = absurd (true≢false h)
 
     at : (b : Bool) → good t ≡ b → statusOf (firstState (cond b t shut .dialect)) ≡ cond b waiting shut′

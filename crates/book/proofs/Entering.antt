@@ -27,7 +27,8 @@ use Rattle.layout.specs.Scan.{isPrinted, sumOf, outlineOf}
 use Rattle.layout.specs.declared.Kind.{Kind}
 use Rattle.layout.specs.declared.Outline.{Outline}
 use Rattle.message.specs.Meaning.{SidedEdit, sidedEdit, Message, passes, bad, entriesFor, checked, messageOf}
-use Rattle.message.proofs.Deciding.{outline-bids, outline-asks, outline-kind, outline-printed, outline-checksum, outline-number}
+use Rattle.message.proofs.Deciding.{outline-bids, outline-asks, outline-printed, outline-checksum, outline-number, outline-previous}
+use Rattle.layout.proofs.Laws.{outline-kind}
 use Rattle.message.proofs.Entering.{also-framed, framed-few}
 use Rattle.message.proofs.Where.{framed-lies}
 use Rattle.lifecycle.specs.Lifecycle.{statusOf}
@@ -137,9 +138,10 @@ module _ (b : Book) (s buffer : List ℕ) (l : Layout) (passed : checked (config
   message-is =
       let e = ap (map sidedEdit) entries-are in
       sym
-      (ap (λ (k : Kind). record { kind = k; edits = map sidedEdit (entriesOf outlined buffer); checksum = printedOf outlined; number = outlined .number }) (outline-kind s l)
-      ∙ ap (λ (x : List SidedEdit). record { kind = l .kind; edits = x; checksum = printedOf outlined; number = outlined .number }) e
-      ∙ ap₂ (λ (p : Printed) (n : ℕ). record { kind = l .kind; edits = map sidedEdit (map (numbersAt s) (l .entries)); checksum = p; number = n }) printed-is (outline-number s l))
+      (ap (λ (k : Kind). record { kind = k; edits = map sidedEdit (entriesOf outlined buffer); checksum = printedOf outlined; number = outlined .number; previous = outlined .previous }) (outline-kind s l)
+      ∙ ap (λ (x : List SidedEdit). record { kind = l .kind; edits = x; checksum = printedOf outlined; number = outlined .number; previous = outlined .previous }) e
+      ∙ ap₂ (λ (p : Printed) (n : ℕ). record { kind = l .kind; edits = map sidedEdit (map (numbersAt s) (l .entries)); checksum = p; number = n; previous = outlined .previous }) printed-is (outline-number s l)
+      ∙ ap (λ (n : ℕ). record { kind = l .kind; edits = map sidedEdit (map (numbersAt s) (l .entries)); checksum = l .checksum; number = l .number; previous = n }) (outline-previous s l))
 
   pub passes-in : Good b → isShut (statusOf (b .lifecycle .state)) ≡ false → Passed b outlined buffer
   unfolding bad

@@ -1,4 +1,4 @@
--- Refusals, and the chain of checks 9 to 13, one test at a time.
+-- Refusals, and the chain of checks 9 to 13 and 16, one test at a time.
 -- Assumes nothing.
 use mathlib.Core.Path.{_≡_, refl, sym, ap, _∙_, subst}
 use mathlib.Core.List.{List, map}
@@ -6,7 +6,7 @@ use mathlib.Core.Bool.{Bool, true, false, true≢false, _&&_, _||_, not, cond}
 use Prim.Native.Nat.{ℕ}
 use native.Mathlib.Omega.{arith}
 use lib.Dec.{eqb, leb}
-use Rattle.lifecycle.specs.Lifecycle.{statusOf, refusedLifecycle, judgedUpdate}
+use Rattle.lifecycle.specs.Lifecycle.{statusOf, refusedLifecycle, judgedUpdate, judgedSides}
 use Rattle.settings.specs.declared.Dialect.{Dialect}
 use Rattle.layout.specs.Layout.{isSnapshot, Printed, printed, unprinted, Layout}
 use Rattle.layout.specs.Scan.{isPrinted, sumOf}
@@ -14,19 +14,20 @@ use Rattle.answer.specs.Answers.{answerNumber, oneOf, isTaken, leavesStatus}
 use Rattle.message.specs.Meaning.{Checked, fails, passes, checked, Message, messageOf, decodedOf, decode}
 use Rattle.message.specs.Verdict.{verdictOf}
 use Rattle.answer.specs.declared.Answer.{Answer}
-use Rattle.answer.specs.declared.Answer.the-variants.{Taken, Shut, PriceTwice, NoSnapshot, OldNumber, TooManyLevels, WrongChecksum}
+use Rattle.answer.specs.declared.Answer.the-variants.{Taken, Shut, PriceTwice, NoSnapshot, OldNumber, TooManyLevels, WrongChecksum, Crossed}
 use Rattle.message.specs.declared.Verdict.{Verdict}
 use Rattle.message.specs.declared.Verdict.the-variants.{Fails, Passes}
 use Rattle.layout.specs.declared.Outline.{Outline}
 use Rattle.layout.specs.Scan.{outlineOf}
 use Rattle.decimal.specs.Digits.{reads}
-use Rattle.reference.specs.Reference.{waiting, isShut, isLive, Reference, rules, checksumOf, namesPriceTwice, lacksSnapshot, isOld, hasTooMany, differs, hasWrongChecksum, verdict, After, taken, withStatus, refusedBy, answered, received, receive}
+use Rattle.reference.specs.Reference.{waiting, isShut, isLive, Reference, rules, checksumOf, namesPriceTwice, lacksSnapshot, isOld, hasTooMany, hasCrossed, differs, hasWrongChecksum, verdict, After, taken, withStatus, refusedBy, answered, received, receive}
 use Rattle.settings.specs.Rules.{rulesOf}
 use Rattle.book.specs.Shown.{shows, Good, Received}
-use Rattle.book.specs.Taking.{refusedStep, weighed}
+use Rattle.book.specs.Taking.{refusedStep, judgedChecksum, weighed}
 use Rattle.lifecycle.specs.declared.State.{State}
 use Rattle.lifecycle.specs.declared.State.the-variants.{Waiting}
-use Rattle.level.specs.Words.{shown}
+use Rattle.level.specs.Words.{levelPrice, shown}
+use Rattle.level.specs.Side.{crosses}
 use Rattle.level.specs.Kept.{held}
 use Rattle.level.specs.declared.Levels.{Levels}
 use borrow.Author.Tests.{eq-eqb, ne-eqb}
@@ -96,7 +97,7 @@ module _ (s : List ℕ) (x : Checked) (v : Verdict) (h : v ≡ verdictOf s x) wh
       go (fails b) k = let z : _≡_ {A = ℕ} 0 1 = cc in absurd (omega arith)
       go (passes l) k = let e : outlineOf s (reads l) ≡ o = cc in (l, refl, sym e)
 
--- ---- checks 9 to 13
+-- ---- checks 9 to 13 and 16
 
 module _ (p : Reference) (m : Message) where
   abbrev heard : After
@@ -122,13 +123,18 @@ module _ (p : Reference) (m : Message) where
         twelve d = rw (a, b, c, d, verdict, answered, isTaken, answerNumber)
 
         module _ (d : hasTooMany p m ≡ false) where
-          pub thirteen : hasWrongChecksum p m ≡ true → heard ≡ refusedBy p WrongChecksum
+          pub sixteen : hasCrossed p m ≡ true → heard ≡ refusedBy p Crossed
           unfolding verdict answered isTaken answerNumber
-          thirteen e = rw (a, b, c, d, e, verdict, answered, isTaken, answerNumber)
+          sixteen x = rw (a, b, c, d, x, verdict, answered, isTaken, answerNumber)
 
-          pub none-fits : hasWrongChecksum p m ≡ false → heard ≡ record { book = taken p m; answer = Taken }
-          unfolding verdict answered isTaken answerNumber
-          none-fits e = rw (a, b, c, d, e, verdict, answered, isTaken, answerNumber)
+          module _ (x : hasCrossed p m ≡ false) where
+            pub thirteen : hasWrongChecksum p m ≡ true → heard ≡ refusedBy p WrongChecksum
+            unfolding verdict answered isTaken answerNumber
+            thirteen e = rw (a, b, c, d, x, e, verdict, answered, isTaken, answerNumber)
+
+            pub none-fits : hasWrongChecksum p m ≡ false → heard ≡ record { book = taken p m; answer = Taken }
+            unfolding verdict answered isTaken answerNumber
+            none-fits e = rw (a, b, c, d, x, e, verdict, answered, isTaken, answerNumber)
 
 -- ---- a snapshot, and an update
 
@@ -137,7 +143,7 @@ module _ (p : Reference) (m : Message) (h : isSnapshot (m .kind) ≡ true) where
   unfolding isOld
   snapshot-not-old = at (rules p .numbered)
     where
-      at : (t : Bool) → (t && (not (isSnapshot (m .kind)) && leb (m .number) (p .last .number))) ≡ false
+      at : (t : Bool) → (t && (not (isSnapshot (m .kind)) && (leb (m .number) (p .last .number) || (rules p .linked && not (eqb (m .previous) (p .last .number)))))) ≡ false
       at true = rw h
       at false = refl
 
@@ -153,7 +159,7 @@ pub update-lacks : (p : Reference) (m : Message) (t : Bool) → isSnapshot (m .k
 unfolding lacksSnapshot
 update-lacks p m t h k = rw (h, k, lacksSnapshot)
 
-pub update-old : (p : Reference) (m : Message) → isSnapshot (m .kind) ≡ false → isOld p m ≡ (rules p .numbered && leb (m .number) (p .last .number))
+pub update-old : (p : Reference) (m : Message) → isSnapshot (m .kind) ≡ false → isOld p m ≡ (rules p .numbered && (leb (m .number) (p .last .number) || (rules p .linked && not (eqb (m .previous) (p .last .number)))))
 unfolding isOld
 update-old p m h = rw (h, isOld)
 
@@ -164,30 +170,33 @@ unfolding differs isPrinted sumOf
 differs-is (printed n) sum = refl
 differs-is unprinted sum = refl
 
--- ---- checks 9, 12 and 13 in numbers, one test at a time
-
-module _ (o : Outline) (d : Dialect) (replaced over : Bool) (bids asks : Levels) where
+module _ (o : Outline) (d : Dialect) (bids asks : Levels) where
   abbrev sum : ℕ
   sum = checksumOf (rulesOf d) (record { bids = map shown (held bids); asks = map shown (held asks) })
 
-  pub weighed-twice : (isSnapshot (o .kind) && replaced) ≡ true → PriceTwice ≡ weighed o d replaced over bids asks
-  unfolding weighed
-  weighed-twice h = sym (rw (h, weighed))
+  pub checksum-unprinted : o .printed ≡ false → Taken ≡ judgedChecksum o d bids asks
+  unfolding judgedChecksum
+  checksum-unprinted h = sym (rw (h, judgedChecksum))
 
-  module _ (a : (isSnapshot (o .kind) && replaced) ≡ false) where
-    pub weighed-over : (not (rulesOf d .cut) && over) ≡ true → TooManyLevels ≡ weighed o d replaced over bids asks
+  pub checksum-right : o .printed ≡ true → o .checksum ≡ sum → Taken ≡ judgedChecksum o d bids asks
+  unfolding judgedChecksum
+  checksum-right h g = let e = eq-eqb (o .checksum) sum g in sym (rw (h, e, judgedChecksum))
+
+  pub checksum-wrong : o .printed ≡ true → (o .checksum ≡ sum → ⊥) → WrongChecksum ≡ judgedChecksum o d bids asks
+  unfolding judgedChecksum
+  checksum-wrong h g = let e = ne-eqb (o .checksum) sum g in sym (rw (h, e, judgedChecksum))
+
+  -- ---- checks 9, 12, 16 and 13 in numbers
+
+  module _ (replaced over : Bool) where
+    -- what is found before check 13
+    abbrev pub before-sum : Answer
+    before-sum = judgedSides (o .kind) replaced (not (rulesOf d .cut) && over) (crosses levelPrice (held bids) (held asks))
+
+    pub weighed-refused : isTaken before-sum ≡ false → before-sum ≡ weighed o d replaced over bids asks
     unfolding weighed
-    weighed-over h = sym (rw (a, h, weighed))
+    weighed-refused h = sym (rw (h, weighed))
 
-    module _ (b : (not (rulesOf d .cut) && over) ≡ false) where
-      pub weighed-unprinted : o .printed ≡ false → Taken ≡ weighed o d replaced over bids asks
-      unfolding weighed
-      weighed-unprinted h = sym (rw (a, b, h, weighed))
-
-      pub weighed-right : o .printed ≡ true → o .checksum ≡ sum → Taken ≡ weighed o d replaced over bids asks
-      unfolding weighed
-      weighed-right h g = let e = eq-eqb (o .checksum) sum g in sym (rw (a, b, h, e, weighed))
-
-      pub weighed-wrong : o .printed ≡ true → (o .checksum ≡ sum → ⊥) → WrongChecksum ≡ weighed o d replaced over bids asks
-      unfolding weighed
-      weighed-wrong h g = let e = ne-eqb (o .checksum) sum g in sym (rw (a, b, h, e, weighed))
+    pub weighed-sum : isTaken before-sum ≡ true → judgedChecksum o d bids asks ≡ weighed o d replaced over bids asks
+    unfolding weighed
+    weighed-sum h = sym (rw (h, weighed))

@@ -8,7 +8,7 @@ use native.Mathlib.Omega.{arith}
 use borrow.Author.Tests.{ltb-false, le-ltb}
 use lib.Dec.{eqb, leb, ltb}
 use lib.ListN.{length, take, length-take, length-map}
-use Rattle.lifecycle.specs.Lifecycle.{statusOf, liveLifecycle, judgedUpdate}
+use Rattle.lifecycle.specs.Lifecycle.{statusOf, liveLifecycle, isOldBy, judgedUpdate, judgedSides}
 use Rattle.lifecycle.specs.declared.State.{State}
 use Rattle.lifecycle.proofs.Laws.{judged-snapshot, judged-new}
 use Rattle.answer.proofs.Laws.{taken-answer}
@@ -25,8 +25,8 @@ use Rattle.settings.specs.declared.Dialect.the-variants.{K, M}
 use Rattle.edit.specs.Edit.{PriceLevel, shownPrice, Edit, sets, removes, Numbers, editOf, isSame, forSide, sideOf}
 use Rattle.edit.specs.declared.Side.{Side}
 use Rattle.edit.specs.declared.Side.the-variants.{Bids, Asks}
-use Rattle.level.specs.Words.{shown}
-use Rattle.level.specs.Side.{namesTwice, applyAll, ranked}
+use Rattle.level.specs.Words.{levelPrice, shown}
+use Rattle.level.specs.Side.{namesTwice, applyAll, ranked, crosses}
 use Rattle.level.specs.Ranked.{All, IsSet, Sorted, afterMessage, replaced}
 use Rattle.edit.specs.Edit.{named}
 use Rattle.level.specs.Kept.{keptIn, held}
@@ -35,6 +35,7 @@ use Rattle.piece.specs.Piece.{kPiece, mPiece}
 use Rattle.checksum.specs.Carried.{Carries}
 use Rattle.level.specs.declared.Levels.{Levels}
 use Rattle.level.proofs.Lengths.{length-ranked, length-applyAll, afterMessage-whole}
+use Rattle.level.proofs.Mapping.{shown-crosses}
 use Rattle.level.proofs.Meeting.{met-snapshot}
 use Rattle.side.specs.Applying.{Given}
 use Rattle.sides.specs.Worked.{SideAfter, Sound, editsFor, Worked}
@@ -47,13 +48,13 @@ use Rattle.answer.specs.Answers.{answerNumber, isTaken}
 use Rattle.answer.specs.declared.Answer.{Answer}
 use Rattle.message.specs.declared.Verdict.{Verdict}
 use Rattle.message.specs.declared.Verdict.the-variants.{Fails, Passes}
-use Rattle.answer.specs.declared.Answer.the-variants.{Taken, PriceTwice, NoSnapshot, OldNumber, TooManyLevels, WrongChecksum}
-use Rattle.reference.specs.Reference.{live, isLive, Sides, Reference, After, editsFor as editsOf, afterEdits, sidesAfter, pricesOf, checksumOf, namesPriceTwice, lacksSnapshot, isOld, hasTooMany, differs, hasWrongChecksum, oneMore, taken, refusedBy, receive}
+use Rattle.answer.specs.declared.Answer.the-variants.{Taken, PriceTwice, NoSnapshot, OldNumber, TooManyLevels, WrongChecksum, Crossed}
+use Rattle.reference.specs.Reference.{live, isLive, Sides, Reference, After, editsFor as editsOf, afterEdits, sidesAfter, pricesOf, checksumOf, namesPriceTwice, lacksSnapshot, isOld, hasTooMany, hasCrossed, differs, hasWrongChecksum, oneMore, taken, refusedBy, receive}
 use Rattle.book.specs.Shown.{shows, textOf, Good, Received}
-use Rattle.book.specs.Taking.{entriesOf, messageIn, Passed, afterIn, Ready, sideBefore, refusedStep, keptStep, Judged, weighed}
+use Rattle.book.specs.Taking.{entriesOf, messageIn, Passed, afterIn, Ready, sideBefore, refusedStep, keptStep, Judged, judgedChecksum, weighed}
 use Rattle.book.specs.declared.Book.{Book}
 use Rattle.book.specs.declared.Step.{Step}
-use Rattle.book.proofs.Refusing.{refused-told, told-as, nine, ten, eleven, twelve, thirteen, none-fits, snapshot-not-old, snapshot-lacks-none, update-names-once, update-lacks, update-old}
+use Rattle.book.proofs.Refusing.{refused-told, told-as, nine, ten, eleven, twelve, sixteen, thirteen, none-fits, snapshot-not-old, snapshot-lacks-none, update-names-once, update-lacks, update-old}
 
 -- ---- a side after entries, cut or not
 
@@ -126,10 +127,10 @@ unfolding editsOf editsFor
 edits-are side o buffer = sided-edits side (entriesOf o buffer)
 
 -- an update that passes checks 10 and 11 comes to a live book, and is not old
-update-passed : (state : State) (m : Bool) (n : ℕ) (o : Outline) → isSnapshot (o .kind) ≡ false → judgedUpdate state m n o ≡ Passes o
-    → (isLive (statusOf state) ≡ true) × ((m && leb (o .number) n) ≡ false)
+update-passed : (state : State) (r : Rules) (n : ℕ) (o : Outline) → isSnapshot (o .kind) ≡ false → judgedUpdate state r n o ≡ Passes o
+    → (isLive (statusOf state) ≡ true) × (isOldBy r n o ≡ false)
 unfolding judgedUpdate
-update-passed state m n o h j = at (isSnapshot (o .kind)) (isLive (statusOf state)) (m && leb (o .number) n) h j
+update-passed state r n o h j = at (isSnapshot (o .kind)) (isLive (statusOf state)) (isOldBy r n o) h j
   where
     at : (t x y : Bool) → t ≡ false → cond t (Passes o) (cond x (cond y (Fails OldNumber) (Passes o)) (Fails NoSnapshot)) ≡ Passes o → (x ≡ true) × (y ≡ false)
     at true x y g e = absurd (true≢false g)
@@ -188,7 +189,7 @@ module _ (b : Book) (o : Outline) (buffer : List ℕ) (k : Passed b o buffer) wh
   refuse-as : (a : _) → next ≡ refusedBy p a → Received next (refusedStep b a)
   refuse-as a e = told-as (refusedStep b a) e (refused-told b (k .good) (k .unshut) a)
 
-  -- ---- check 13, and then the book with these sides
+  -- ---- checks 16 and 13, and then the book with these sides
   abbrev finished : Levels → Levels → Answer → Step
   finished bids asks a = cond (isTaken a) (keptStep b o bids asks) (refusedStep b a)
 
@@ -210,9 +211,17 @@ module _ (b : Book) (o : Outline) (buffer : List ℕ) (k : Passed b o buffer) wh
     abbrev wrong : Bool
     wrong = o .printed && not (eqb (o .checksum) (checksumOf r both-sides))
 
-    pub settled-told : Settles → Received next (finished bids asks (cond wrong WrongChecksum Taken))
+    -- check 16
+    crossed-is : Settles → hasCrossed p m ≡ crosses levelPrice (held bids) (held asks)
+    unfolding hasCrossed
+    crossed-is z = ap (λ (x : Sides). crosses shownPrice (x .bids) (x .asks)) (sym (z .sides-are)) ∙ shown-crosses (held bids) (held asks)
+
+    crossed-told : Settles → crosses levelPrice (held bids) (held asks) ≡ true → Received next (refusedStep b Crossed)
+    crossed-told z x = refuse-as Crossed (sixteen p m (z .not-twice) (z .not-lacking) (z .not-old) (z .not-many) (crossed-is z ∙ x))
+
+    settled-told : Settles → crosses levelPrice (held bids) (held asks) ≡ false → Received next (finished bids asks (cond wrong WrongChecksum Taken))
     unfolding hasWrongChecksum shows configOf keptStep liveLifecycle taken statusOf isTaken answerNumber
-    settled-told z = at (hasWrongChecksum p m) refl
+    settled-told z x = at (hasWrongChecksum p m) refl
       where
         test : (o .printed && not (eqb (o .checksum) (checksumOf r both-sides))) ≡ hasWrongChecksum p m
         test = o-checksum (checksumOf r both-sides) ∙ ap (λ (x : Sides). differs (m .checksum) (checksumOf r x)) (z .sides-are)
@@ -244,35 +253,35 @@ module _ (b : Book) (o : Outline) (buffer : List ℕ) (k : Passed b o buffer) wh
             }
 
         at : (t : Bool) → hasWrongChecksum p m ≡ t → Received next (finished bids asks (cond wrong WrongChecksum Taken))
-        at true e = rw (test ∙ e) (refuse-as WrongChecksum (thirteen p m (z .not-twice) (z .not-lacking) (z .not-old) (z .not-many) e))
-        at false e = rw (test ∙ e) (told-as (keptStep b o bids asks) (none-fits p m (z .not-twice) (z .not-lacking) (z .not-old) (z .not-many) e) fresh)
+        at true e = rw (test ∙ e) (refuse-as WrongChecksum (thirteen p m (z .not-twice) (z .not-lacking) (z .not-old) (z .not-many) (crossed-is z ∙ x) e))
+        at false e = rw (test ∙ e) (told-as (keptStep b o bids asks) (none-fits p m (z .not-twice) (z .not-lacking) (z .not-old) (z .not-many) (crossed-is z ∙ x) e) fresh)
 
   -- ---- checks 10 and 11
 
   update-waits : isSnapshot (o .kind) ≡ false → isLive (p .status) ≡ false → Received next (refusedStep b NoSnapshot)
   update-waits h x = refuse-as NoSnapshot (ten p m (update-names-once m (h)) (update-lacks p m false (h) x))
 
-  old-is : isSnapshot (o .kind) ≡ false → isOld p m ≡ (r .numbered && leb (o .number) (b .number))
-  unfolding shows configOf
+  old-is : isSnapshot (o .kind) ≡ false → isOld p m ≡ (isOldBy r (b .number) o)
+  unfolding shows configOf isOldBy
   old-is h = update-old p m h
 
-  update-is-old : isSnapshot (o .kind) ≡ false → isLive (p .status) ≡ true → (r .numbered && leb (o .number) (b .number)) ≡ true → Received next (refusedStep b OldNumber)
+  update-is-old : isSnapshot (o .kind) ≡ false → isLive (p .status) ≡ true → (isOldBy r (b .number) o) ≡ true → Received next (refusedStep b OldNumber)
   update-is-old h y x = refuse-as OldNumber (eleven p m (update-names-once m (h)) (update-lacks p m true (h) y) (old-is h ∙ x))
 
   -- .. of a message whose book is this one's
-  pub judged-told : (s : List ℕ) → receive p s ≡ next → (v : Verdict) → v ≡ judgedUpdate (b .lifecycle .state) (r .numbered) (b .number) o → Judged b s buffer v
+  pub judged-told : (s : List ℕ) → receive p s ≡ next → (v : Verdict) → v ≡ judgedUpdate (b .lifecycle .state) r (b .number) o → Judged b s buffer v
   unfolding judgedUpdate Judged shows statusOf
-  judged-told s n v e = subst (Judged b s buffer) (sym e) (at (isSnapshot (o .kind)) refl (isLive (statusOf (b .lifecycle .state))) refl (r .numbered && leb (o .number) (b .number)) refl)
+  judged-told s n v e = subst (Judged b s buffer) (sym e) (at (isSnapshot (o .kind)) refl (isLive (statusOf (b .lifecycle .state))) refl (isOldBy r (b .number) o) refl)
     where
-      at : (t : Bool) → isSnapshot (o .kind) ≡ t → (x : Bool) → isLive (statusOf (b .lifecycle .state)) ≡ x → (y : Bool) → (r .numbered && leb (o .number) (b .number)) ≡ y
+      at : (t : Bool) → isSnapshot (o .kind) ≡ t → (x : Bool) → isLive (statusOf (b .lifecycle .state)) ≡ x → (y : Bool) → (isOldBy r (b .number) o) ≡ y
           → Judged b s buffer (cond t (Passes o) (cond x (cond y (Fails OldNumber) (Passes o)) (Fails NoSnapshot)))
-      at true h x f y g = (record { passed = k; updates = sym (judged-snapshot (b .lifecycle .state) (r .numbered) (b .number) o h) }, n)
+      at true h x f y g = (record { passed = k; updates = sym (judged-snapshot (b .lifecycle .state) r (b .number) o h) }, n)
       at false h true f true g = told-as (refusedStep b OldNumber) n (update-is-old h f g)
-      at false h true f false g = (record { passed = k; updates = sym (judged-new (b .lifecycle .state) (r .numbered) (b .number) o h f g) }, n)
+      at false h true f false g = (record { passed = k; updates = sym (judged-new (b .lifecycle .state) r (b .number) o h f g) }, n)
       at false h false f y g = told-as (refusedStep b NoSnapshot) n (update-waits h f)
 
   -- a message that passes them
-  module _ (judged : judgedUpdate (b .lifecycle .state) (r .numbered) (b .number) o ≡ Passes o) where
+  module _ (judged : judgedUpdate (b .lifecycle .state) r (b .number) o ≡ Passes o) where
     passed-both : (lacksSnapshot p m ≡ false) × (isOld p m ≡ false)
     unfolding shows
     passed-both = at (isSnapshot (o .kind)) refl
@@ -280,7 +289,7 @@ module _ (b : Book) (o : Outline) (buffer : List ℕ) (k : Passed b o buffer) wh
         at : (t : Bool) → isSnapshot (o .kind) ≡ t → (lacksSnapshot p m ≡ false) × (isOld p m ≡ false)
         at true h = (snapshot-lacks-none p m (h), snapshot-not-old p m (h))
         at false h =
-            let w = update-passed (b .lifecycle .state) (r .numbered) (b .number) o h judged in
+            let w = update-passed (b .lifecycle .state) r (b .number) o h judged in
             (update-lacks p m true (h) (w .0), old-is h ∙ w .1)
 
   -- ---- the sides that entries are applied to
@@ -355,9 +364,9 @@ module _ (b : Book) (o : Outline) (buffer : List ℕ) (k : Passed b o buffer) wh
         let f : All IsSet edits = subst (All IsSet) same-edits (sets-all side es (k .sets h)) in
         met-is ∙ ap (λ (x : Bool). replaced shownPrice edits (cond x [] (map shown (held kept)))) h ∙ met-snapshot shownPrice edits f
 
-  -- ---- the whole of checks 9, 12 and 13
+  -- ---- the whole of checks 9, 12, 16 and 13
 
-  module _ (judged : judgedUpdate (b .lifecycle .state) (r .numbered) (b .number) o ≡ Passes o) (bids asks : SideAfter)
+  module _ (judged : judgedUpdate (b .lifecycle .state) r (b .number) o ≡ Passes o) (bids asks : SideAfter)
       (wb : Worked t Bids (b .settings .depth) (editsFor Bids es) (sideBefore o (b .bids)) bids)
       (wa : Worked t Asks (b .settings .depth) (editsFor Asks es) (sideBefore o (b .asks)) asks) where
     abbrev over : Bool
@@ -406,14 +415,18 @@ module _ (b : Book) (o : Outline) (buffer : List ℕ) (k : Passed b o buffer) wh
             (ltb-false (r .levels) (bids .count) (g .0), ltb-false (r .levels) (asks .count) (g .1))
 
     weighed-told : Received next (finished (bids .levels) (asks .levels) found)
-    unfolding weighed isTaken answerNumber
-    weighed-told = at (isSnapshot (o .kind) && (bids .replaced || asks .replaced)) refl (not (r .cut) && over) refl
+    unfolding weighed judgedSides judgedChecksum isTaken answerNumber
+    weighed-told = at (isSnapshot (o .kind) && (bids .replaced || asks .replaced)) refl (not (r .cut) && over) refl (crosses levelPrice (held (bids .levels)) (held (asks .levels))) refl
       where
-        at : (x : Bool) → (isSnapshot (o .kind) && (bids .replaced || asks .replaced)) ≡ x → (y : Bool) → (not (r .cut) && over) ≡ y
-            → Received next (finished (bids .levels) (asks .levels) (cond x PriceTwice (cond y TooManyLevels (cond (wrong (bids .levels) (asks .levels)) WrongChecksum Taken))))
-        at true e y f = refuse-as PriceTwice (nine p m (twice-is ∙ e))
-        at false e true f = refuse-as TooManyLevels (twelve p m (twice-is ∙ e) (passed-both judged .0) (passed-both judged .1) (many-is ∙ f))
-        at false e false f = settled-told (bids .levels) (asks .levels) (settles e f)
+        first : Bool → Bool → Bool → Answer
+        first x y z = cond x PriceTwice (cond y TooManyLevels (cond z Crossed Taken))
+
+        at : (x : Bool) → (isSnapshot (o .kind) && (bids .replaced || asks .replaced)) ≡ x → (y : Bool) → (not (r .cut) && over) ≡ y → (z : Bool) → crosses levelPrice (held (bids .levels)) (held (asks .levels)) ≡ z
+            → Received next (finished (bids .levels) (asks .levels) (cond (isTaken (first x y z)) (cond (wrong (bids .levels) (asks .levels)) WrongChecksum Taken) (first x y z)))
+        at true e y f z g = refuse-as PriceTwice (nine p m (twice-is ∙ e))
+        at false e true f z g = refuse-as TooManyLevels (twelve p m (twice-is ∙ e) (passed-both judged .0) (passed-both judged .1) (many-is ∙ f))
+        at false e false f true g = crossed-told (bids .levels) (asks .levels) (settles e f) g
+        at false e false f false g = settled-told (bids .levels) (asks .levels) (settles e f) g
 
     -- the same for an answer that the code found
     module _ (a : Answer) (e : a ≡ found) where
@@ -431,18 +444,16 @@ module _ (b : Book) (o : Outline) (buffer : List ℕ) (k : Passed b o buffer) wh
 
 -- ---- checksums
 
-pub k-sums : (d : Dialect) (bids asks : Levels) → d ≡ K → Sound (rulesOf d .text) Bids bids → Sound (rulesOf d .text) Asks asks
+pub k-sums : (t : SumText) (bids asks : Levels) → t ≡ Stripped → Sound t Bids bids → Sound t Asks asks
     → kept·.Good Bids bids × kept·.Good Asks asks × All (Carries kPiece) (held bids) × All (Carries kPiece) (held asks)
-unfolding rulesOf
-k-sums d bids asks e x y =
-    let x′ : Sound Stripped Bids bids = subst (λ (z : Dialect). Sound (rulesOf z .text) Bids bids) e x in
-    let y′ : Sound Stripped Asks asks = subst (λ (z : Dialect). Sound (rulesOf z .text) Asks asks) e y in
+k-sums t bids asks e x y =
+    let x′ : Sound Stripped Bids bids = subst (λ (z : SumText). Sound z Bids bids) e x in
+    let y′ : Sound Stripped Asks asks = subst (λ (z : SumText). Sound z Asks asks) e y in
     (x′ .good, y′ .good, x′ .carried, y′ .carried)
 
-pub m-sums : (d : Dialect) (bids asks : Levels) → d ≡ M → Sound (rulesOf d .text) Bids bids → Sound (rulesOf d .text) Asks asks
+pub m-sums : (t : SumText) (bids asks : Levels) → t ≡ Interleaved → Sound t Bids bids → Sound t Asks asks
     → kept·.Good Bids bids × kept·.Good Asks asks × All (Carries mPiece) (held bids) × All (Carries mPiece) (held asks)
-unfolding rulesOf
-m-sums d bids asks e x y =
-    let x′ : Sound Interleaved Bids bids = subst (λ (z : Dialect). Sound (rulesOf z .text) Bids bids) e x in
-    let y′ : Sound Interleaved Asks asks = subst (λ (z : Dialect). Sound (rulesOf z .text) Asks asks) e y in
+m-sums t bids asks e x y =
+    let x′ : Sound Interleaved Bids bids = subst (λ (z : SumText). Sound z Bids bids) e x in
+    let y′ : Sound Interleaved Asks asks = subst (λ (z : SumText). Sound z Asks asks) e y in
     (x′ .good, y′ .good, x′ .carried, y′ .carried)

@@ -16,10 +16,14 @@ use Rattle.decimal.specs.declared.Written.the-variants.{To, Full}
 use Rattle.settings.specs.Kept.{configOf}
 use Rattle.settings.specs.declared.Dialect.{Dialect}
 use Rattle.settings.specs.declared.Dialect.the-variants.{K, M, Unknown}
+use Rattle.settings.specs.declared.Edition.{Edition}
+use Rattle.settings.specs.declared.SumText.the-variants.{Interleaved}
+use Rattle.settings.specs.Rules.{rulesOf}
 use Rattle.level.specs.Words.{shown}
 use Rattle.level.specs.Kept.{held}
-use Rattle.checksum.specs.Sums.{mChecksum}
-use Rattle.reference.proofs.Sums.{sum-m}
+use Rattle.crc32_spec.specs.Crc.{crc}
+use Rattle.checksum.specs.Text.{mChecksumText}
+use Rattle.reference.proofs.Sums.{sum-interleaved}
 use Rattle.answer.specs.Answers.{answerNumber as numberOf, isTaken}
 use Rattle.answer.specs.declared.Answer.{Answer}
 use Rattle.answer.specs.declared.Answer.the-variants.{Taken, NoRoom}
@@ -47,10 +51,13 @@ module _ (b : Book) where
   unfolding textIn shows configOf
   k-text e = sym (text-is K e)
 
-  pub m-text : b .settings .dialect ≡ M → (sum : ℕ) → sum ≡ mChecksum (map shown (held (b .bids))) (map shown (held (b .asks)))
+  pub m-text : (v : Edition) → b .settings .dialect ≡ M v → (sum : ℕ) → sum ≡ crc (mChecksumText (rulesOf (M v) .summed) (map shown (held (b .bids))) (map shown (held (b .asks))))
       → mSnapshot name (map shown (held (b .bids))) (map shown (held (b .asks))) sum (b .number) ≡ snapshotText (shows b)
-  unfolding textIn shows configOf
-  m-text e sum q = ap (λ (x : ℕ). mSnapshot name (map shown (held (b .bids))) (map shown (held (b .asks))) x (b .number)) (q ∙ sum-m (shows b .last .sides)) ∙ sym (text-is M e)
+  unfolding textIn shows configOf rulesOf
+  m-text v e sum q = ap (λ (x : ℕ). mSnapshot name (map shown (held (b .bids))) (map shown (held (b .asks))) x (b .number)) (q ∙ sum-interleaved (rulesOf (M v)) (shows b .last .sides) interleaves) ∙ sym (text-is (M v) e)
+    where
+      interleaves : rulesOf (M v) .text ≡ Interleaved
+      interleaves = refl
 
   -- a book of no dialect has no text
   pub no-text : b .settings .dialect ≡ Unknown → (buffer : List ℕ) → Laid buffer 0 (snapshotText (shows b)) buffer (To 0)

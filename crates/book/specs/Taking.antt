@@ -5,7 +5,7 @@ use mathlib.Core.Bool.{Bool, true, false, _&&_, _||_, not, cond}
 use mathlib.Core.List.{List, map}
 use lib.Dec.{eqb, ltb}
 use lib.ListN.{length, take}
-use Rattle.lifecycle.specs.Lifecycle.{statusOf, liveLifecycle, refusedLifecycle, judgedUpdate}
+use Rattle.lifecycle.specs.Lifecycle.{statusOf, liveLifecycle, refusedLifecycle, judgedUpdate, judgedSides}
 use Rattle.answer.specs.Answers.{isTaken}
 use Rattle.decimal.specs.Decimal.{isZero}
 use Rattle.settings.specs.Rules.{rulesOf}
@@ -13,7 +13,8 @@ use Rattle.settings.specs.declared.Dialect.{Dialect}
 use Rattle.edit.specs.Edit.{Numbers, forSide, sideOf}
 use Rattle.edit.specs.Buffer.{entriesIn}
 use Rattle.edit.specs.declared.Side.the-variants.{Bids, Asks}
-use Rattle.level.specs.Words.{shown}
+use Rattle.level.specs.Words.{levelPrice, shown}
+use Rattle.level.specs.Side.{crosses}
 use Rattle.level.specs.Ranked.{All}
 use Rattle.level.specs.Kept.{keptIn, held}
 use Rattle.level.specs.declared.Levels.{Levels}
@@ -23,7 +24,7 @@ use Rattle.layout.specs.Layout.{isSnapshot, Printed, printed, unprinted}
 use Rattle.layout.specs.declared.Outline.{Outline}
 use Rattle.message.specs.Meaning.{Message, sidedEdit}
 use Rattle.answer.specs.declared.Answer.{Answer}
-use Rattle.answer.specs.declared.Answer.the-variants.{Taken, PriceTwice, TooManyLevels, WrongChecksum}
+use Rattle.answer.specs.declared.Answer.the-variants.{Taken, WrongChecksum}
 use Rattle.message.specs.declared.Verdict.{Verdict}
 use Rattle.message.specs.declared.Verdict.the-variants.{Fails, Passes}
 use Rattle.reference.specs.Reference.{isShut, checksumOf, oneMore, verdict, After, answered, receive}
@@ -42,7 +43,7 @@ abbrev pub printedOf : Outline → Printed
 printedOf o = cond (o .printed) (printed (o .checksum)) unprinted
 
 abbrev pub messageIn : Outline → List ℕ → Message
-messageIn o buffer = record { kind = o .kind; edits = map sidedEdit (entriesOf o buffer); checksum = printedOf o; number = o .number }
+messageIn o buffer = record { kind = o .kind; edits = map sidedEdit (entriesOf o buffer); checksum = printedOf o; number = o .number; previous = o .previous }
 
 pub record Passed (b : Book) (o : Outline) (buffer : List ℕ) : Type 0 where
   pub good : Good b
@@ -101,7 +102,7 @@ afterIn b o buffer = answered (shows b) (messageIn o buffer) (verdict (shows b) 
 -- What checks 10 and 11 leave.
 pub record Ready (b : Book) (o : Outline) (buffer : List ℕ) : Type 0 where
   pub passed : Passed b o buffer
-  pub updates : judgedUpdate (b .lifecycle .state) (rulesOf (b .settings .dialect) .numbered) (b .number) o ≡ Passes o
+  pub updates : judgedUpdate (b .lifecycle .state) (rulesOf (b .settings .dialect)) (b .number) o ≡ Passes o
 
 -- What checks 1 to 8, 10 and 11 find.
 unfoldable pub Judged : Book → List ℕ → List ℕ → Verdict → Type 0
@@ -119,12 +120,16 @@ pub record SidesAfter (b : Book) (o : Outline) (buffer : List ℕ) (bids asks : 
   pub bids-stay : o .bids ≡ 0 → bids .levels .words ≡ b .bids .words
   pub asks-stay : o .asks ≡ 0 → asks .levels .words ≡ b .asks .words
 
--- Checks 9, 12 and 13.
+-- Check 13.
+unfoldable pub judgedChecksum : Outline → Dialect → Levels → Levels → Answer
+judgedChecksum o d bids asks =
+    cond (o .printed && not (eqb (o .checksum) (checksumOf (rulesOf d) (record { bids = map shown (held bids); asks = map shown (held asks) })))) WrongChecksum Taken
+
+-- Checks 9, 12, 16 and 13.
 unfoldable pub weighed : Outline → Dialect → Bool → Bool → Levels → Levels → Answer
 weighed o d replaced over bids asks =
-    cond (isSnapshot (o .kind) && replaced) PriceTwice
-    (cond (not (rulesOf d .cut) && over) TooManyLevels
-    (cond (o .printed && not (eqb (o .checksum) (checksumOf (rulesOf d) (record { bids = map shown (held bids); asks = map shown (held asks) })))) WrongChecksum Taken))
+    let found : Answer = judgedSides (o .kind) replaced (not (rulesOf d .cut) && over) (crosses levelPrice (held bids) (held asks)) in
+    cond (isTaken found) (judgedChecksum o d bids asks) found
 
 -- .. of what the entries made of the sides.
 abbrev pub weighedSides : Outline → Dialect → SideAfter → SideAfter → Answer

@@ -12,7 +12,7 @@ ghost use Rattle.settings.specs.Rules.{rulesOf};
 ghost use Rattle.sides.specs.Worked.{Sound, sideAfter};
 ghost use Rattle.reference.specs.Reference.{checksumOf};
 ghost use Rattle.book.specs.Shown.{bookOf, Good, ReceivedIn, ReceivedAs};
-ghost use Rattle.book.specs.Taking.{Passed, Ready, SidesAfter, Tried, afterIn, weighedSides, takenHeader, refusedHeader};
+ghost use Rattle.book.specs.Taking.{Passed, Ready, SidesAfter, Tried, afterIn, judgedChecksum, weighedSides, takenHeader, refusedHeader};
 use crate::Answered;
 use crate::Header;
 use answer::Answer;
@@ -25,15 +25,17 @@ use level::MAX_WORDS;
 use lifecycle::count_before;
 use lifecycle::is_over;
 use lifecycle::judge;
+use lifecycle::judge_sides;
 use lifecycle::live;
 use lifecycle::refused;
 use lifecycle::updates_after;
 use message::Verdict;
 use settings::Dialect;
+use settings::SumText;
 use settings::rules_of;
 use side::Applied;
 use sides::apply_entries;
-use text::both;
+use sides::is_crossed;
 use text::either;
 
 // The book after a message, in the words of its sides that are lent. A refusal gives the words back as they were.
@@ -248,7 +250,8 @@ fn refuse(header: Header, answer: Answer) -> Header
     after
 }
 
-// Checks 9, 12 and 13, by what the entries made of the sides: whether some price was met twice, and whether levels are over the limit.
+// Checks 9, 12, 16 and 13, by what the entries made of the sides: whether some price was met twice, whether levels are over the limit,
+// and which levels are left.
 fn weigh<'a>(
     outline: Outline,
     dialect: Dialect,
@@ -262,21 +265,40 @@ fn weigh<'a>(
     ensures { λ r. ⌜ r ≡ weighedSides outline dialect (sideAfter (now (bids .entry)) «bid_side») (sideAfter (now (asks .entry)) «ask_side») ⌝ }
 {
     let kind = outline.kind;
-    if both(
-        is_snapshot(kind),
-        either(bid_side.replaced, ask_side.replaced),
-    ) {
-        return Answer::PriceTwice;
-    }
     let rules = rules_of(dialect);
+    let replaced = either(bid_side.replaced, ask_side.replaced);
     let over = either(rules.levels < bid_side.count, rules.levels < ask_side.count);
-    if is_over(rules.cut, over) {
-        return Answer::TooManyLevels;
+    let crossed = is_crossed(bids, bid_side.left, asks, ask_side.left);
+    let answer = judge_sides(kind, replaced, is_over(rules.cut, over), crossed);
+    if is_taken(answer) {
+        return judge_checksum(
+            outline,
+            dialect,
+            bids,
+            bid_side.left,
+            asks,
+            ask_side.left,
+            table,
+        );
     }
+    answer
+}
+
+// Check 13.
+fn judge_checksum<'a>(
+    outline: Outline,
+    dialect: Dialect,
+    bids: &'a [u64; MAX_WORDS],
+    bid_count: usize,
+    asks: &'a [u64; MAX_WORDS],
+    ask_count: usize,
+    table: &'a [u32],
+) -> Answer
+    requires { ⌜ Sound (rulesOf dialect .text) Bids (keptIn (now bids) «bid_count») × Sound (rulesOf dialect .text) Asks (keptIn (now asks) «ask_count») × ShiftTable (now table) ⌝ }
+    ensures { λ r. ⌜ r ≡ judgedChecksum outline dialect (keptIn (now (bids .entry)) «bid_count») (keptIn (now (asks .entry)) «ask_count») ⌝ }
+{
     if outline.printed {
-        if outline.checksum
-            != checksum_of(dialect, bids, bid_side.left, asks, ask_side.left, table)
-        {
+        if outline.checksum != checksum_of(dialect, bids, bid_count, asks, ask_count, table) {
             return Answer::WrongChecksum;
         }
     }
@@ -294,9 +316,14 @@ fn checksum_of<'a>(
     requires { ⌜ Sound (rulesOf dialect .text) Bids (keptIn (now bids) «bid_count») × Sound (rulesOf dialect .text) Asks (keptIn (now asks) «ask_count») × ShiftTable (now table) ⌝ }
     ensures { λ r. ⌜ r ≡ checksumOf (rulesOf dialect) (record { bids = map shown (held (keptIn (now (bids .entry)) «bid_count»)); asks = map shown (held (keptIn (now (asks .entry)) «ask_count»)) }) ⌝ }
 {
-    match dialect {
-        Dialect::K => checksum::k_checksum(bids, bid_count, asks, ask_count, table),
-        Dialect::M => checksum::m_checksum(bids, bid_count, asks, ask_count, table),
-        Dialect::Unknown => 0,
+    let rules = rules_of(dialect);
+    let text = rules.text;
+    match text {
+        SumText::Stripped => {
+            checksum::k_checksum(rules.summed, bids, bid_count, asks, ask_count, table)
+        }
+        SumText::Interleaved => {
+            checksum::m_checksum(rules.summed, bids, bid_count, asks, ask_count, table)
+        }
     }
 }

@@ -6,6 +6,7 @@ ghost use Rattle.book.specs.Shown.{shows, Good};
 use crate::Book;
 use decimal::Written;
 use settings::Dialect;
+use settings::rules_of;
 
 // Lays the text of the book at the start of the buffer, or nothing where the room does not suffice.
 pub fn lay(book: Book, buffer: &mut [u8]) -> Written
@@ -21,9 +22,11 @@ pub fn lay(book: Book, buffer: &mut [u8]) -> Written
     let asks = book.asks;
     match dialect {
         Dialect::K => writer::k_write(depth, &name[..n], bids, asks, buffer),
-        Dialect::M => {
+        Dialect::M(_) => {
+            let rules = rules_of(dialect);
             let none = [0; 1];
             let sum = checksum::m_checksum(
+                rules.summed,
                 &bids.words,
                 bids.count,
                 &asks.words,

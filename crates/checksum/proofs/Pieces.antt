@@ -1,5 +1,6 @@
 -- Laws of the state after the pieces of levels: it is that of their joined text, and the text of a book is such a joined text. Assumes nothing.
 use mathlib.Core.Path.{_≡_, refl, sym, ap, ap₂, _∙_, subst}
+use mathlib.Core.Logic.{_⊎_, ⊎-elim}
 use mathlib.Core.List.{List, [], _∷_, _++_, map, append-assoc, append-nil}
 use Prim.Native.Nat.{ℕ, zero, suc, _+_, _-_, _*_, _^_, _≤_, _<_, min, zero-le}
 use native.Mathlib.Nat.{mul-add, add-comm, le-of-suc-le-suc, not-suc-le-zero, zero-lt-suc}
@@ -27,7 +28,6 @@ use Rattle.level.proofs.Stored.{length-levels}
 use Rattle.level.specs.declared.Level.{Level}
 use Rattle.text.specs.Text.{joined, colon}
 use Rattle.checksum.specs.Text.{kLevel, kChecksumText, mLevel, interleaved, colonJoined, mChecksumText}
-use Rattle.checksum.specs.Sums.{kLevels, kChecksum, mLevels, mChecksum}
 use Rattle.checksum.specs.Carried.{pieceOf, levelFor, Carries, summed}
 use Rattle.checksum.proofs.Bytes.{piece-sum}
 
@@ -228,16 +228,18 @@ pairs-done bids asks i n s l =
     ap (λ (m : ℕ). summed s (interleaved m (drop i (take n bids)) (drop i (take n asks)))) z
 
 -- one of two sides has a level
-pub some-left : {A : Type 0} (n : ℕ) (xs ys : List A) → 0 < length xs → 0 < length (interleaved (suc n) xs ys)
+pub some-left : {A : Type 0} (n : ℕ) (xs ys : List A) → 0 < n → 0 < length xs → 0 < length (interleaved n xs ys)
 unfolding interleaved
-some-left n [] ys h = absurd (not-suc-le-zero h)
-some-left n (x ∷ xs) ys h = zero-lt-suc (length (take 1 ys ++ interleaved n xs (drop 1 ys)))
+some-left zero xs ys p h = absurd (not-suc-le-zero p)
+some-left (suc n) [] ys p h = absurd (not-suc-le-zero h)
+some-left (suc n) (x ∷ xs) ys p h = zero-lt-suc (length (take 1 ys ++ interleaved n xs (drop 1 ys)))
 
-pub some-right : {A : Type 0} (n : ℕ) (xs ys : List A) → 0 < length ys → 0 < length (interleaved (suc n) xs ys)
+pub some-right : {A : Type 0} (n : ℕ) (xs ys : List A) → 0 < n → 0 < length ys → 0 < length (interleaved n xs ys)
 unfolding interleaved
-some-right n xs [] h = absurd (not-suc-le-zero h)
-some-right n [] (y ∷ ys) h = zero-lt-suc (length (interleaved n [] ys))
-some-right n (x ∷ xs) (y ∷ ys) h = zero-lt-suc (suc (length (interleaved n xs ys)))
+some-right zero xs ys p h = absurd (not-suc-le-zero p)
+some-right (suc n) xs [] p h = absurd (not-suc-le-zero h)
+some-right (suc n) [] (y ∷ ys) p h = zero-lt-suc (length (interleaved n [] ys))
+some-right (suc n) (x ∷ xs) (y ∷ ys) p h = zero-lt-suc (suc (length (interleaved n xs ys)))
 
 -- ---- a list mapped, and what holds of each of its elements
 
@@ -310,16 +312,16 @@ take-min {A} (suc n) (suc m) (x ∷ xs) = ap (λ (k : ℕ). take k (x ∷ xs)) m
     more : min (suc n) (suc m) ≡ suc (min n m)
     more = omega arith
 
-pub k-summed : (bids asks : List Level) → All (Carries kPiece) bids → All (Carries kPiece) asks →
-    finish (summed (summed start (take kLevels asks)) (take kLevels bids)) ≡ kChecksum (map shown bids) (map shown asks)
-unfolding kChecksum kChecksumText kLevel kPiece crc
-k-summed bids asks hb ha =
+pub k-summed : (n : ℕ) (bids asks : List Level) → All (Carries kPiece) bids → All (Carries kPiece) asks →
+    finish (summed (summed start (take n asks)) (take n bids)) ≡ crc (kChecksumText n (map shown bids) (map shown asks))
+unfolding kChecksumText kLevel kPiece crc
+k-summed n bids asks hb ha =
     ap finish
-    (sym (summed-append (take kLevels asks) (take kLevels bids) start)
-    ∙ summed-run kPiece (take kLevels asks ++ take kLevels bids) start
-    (all-both (Carries kPiece) (take kLevels asks) (take kLevels bids) (all-take (Carries kPiece) kLevels asks ha) (all-take (Carries kPiece) kLevels bids hb))
+    (sym (summed-append (take n asks) (take n bids) start)
+    ∙ summed-run kPiece (take n asks ++ take n bids) start
+    (all-both (Carries kPiece) (take n asks) (take n bids) (all-take (Carries kPiece) n asks ha) (all-take (Carries kPiece) n bids hb))
     ∙ ap (λ (l : List PriceLevel). run start (joined (map (shownPiece kPiece) l)))
-    (map-both shown (take kLevels asks) (take kLevels bids) ∙ ap₂ (λ (a b : List PriceLevel). a ++ b) (map-take shown kLevels asks) (map-take shown kLevels bids)))
+    (map-both shown (take n asks) (take n bids) ∙ ap₂ (λ (a b : List PriceLevel). a ++ b) (map-take shown n asks) (map-take shown n bids)))
 
 -- ---- M
 
@@ -342,28 +344,65 @@ unfolding run
 m-run [] h = absurd (not-suc-le-zero h)
 m-run (l ∷ ls) h = ap (run beforeColon) (colons l ls) ∙ ap (λ (s : ℕ). run s (colonJoined (map mLevel (l ∷ ls)))) to-start
 
-pub m-empty : mChecksum [] [] ≡ 0
-unfolding mChecksum mChecksumText colonJoined crc run
-m-empty = ap (λ (l : List PriceLevel). crc (colonJoined (map mLevel l))) (none-left mLevels)
+m-empty : (n : ℕ) → crc (mChecksumText n [] []) ≡ 0
+unfolding mChecksumText colonJoined crc run
+m-empty n = ap (λ (l : List PriceLevel). crc (colonJoined (map mLevel l))) (none-left n)
 
-pub m-summed : (bids asks : List Level) → 0 < length (interleaved mLevels bids asks) → All (Carries mPiece) bids → All (Carries mPiece) asks →
-    finish (summed beforeColon (interleaved mLevels bids asks)) ≡ mChecksum (map shown bids) (map shown asks)
-unfolding mChecksum mChecksumText crc
-m-summed bids asks some hb ha =
+m-summed : (n : ℕ) (bids asks : List Level) → 0 < length (interleaved n bids asks) → All (Carries mPiece) bids → All (Carries mPiece) asks →
+    finish (summed beforeColon (interleaved n bids asks)) ≡ crc (mChecksumText n (map shown bids) (map shown asks))
+unfolding mChecksumText crc
+m-summed n bids asks some hb ha =
     ap finish
-    (summed-run mPiece (interleaved mLevels bids asks) beforeColon (all-interleaved (Carries mPiece) mLevels bids asks hb ha)
-    ∙ m-run (map shown (interleaved mLevels bids asks)) (subst (λ (n : ℕ). 0 < n) (sym (length-map (interleaved mLevels bids asks) shown)) some)
-    ∙ ap (λ (l : List PriceLevel). run start (colonJoined (map mLevel l))) (map-interleaved shown mLevels bids asks))
+    (summed-run mPiece (interleaved n bids asks) beforeColon (all-interleaved (Carries mPiece) n bids asks hb ha)
+    ∙ m-run (map shown (interleaved n bids asks)) (subst (λ (k : ℕ). 0 < k) (sym (length-map (interleaved n bids asks) shown)) some)
+    ∙ ap (λ (l : List PriceLevel). run start (colonJoined (map mLevel l))) (map-interleaved shown n bids asks))
 
--- all of an M book: the pairs, then what one side has more
-pub m-parts : (bids asks : List Level) (nb na k : ℕ) → nb ≤ length bids → na ≤ length asks → nb ≤ mLevels → na ≤ mLevels → k ≡ min nb na → (s : ℕ) →
+-- all of two sides: the pairs, then what one side has more
+m-parts : (n : ℕ) (bids asks : List Level) (nb na k : ℕ) → nb ≤ length bids → na ≤ length asks → nb ≤ n → na ≤ n → k ≡ min nb na → (s : ℕ) →
     summed (summed (summed s (interleaved k (take k bids) (take k asks))) (drop k (take nb bids))) (drop k (take na asks))
-    ≡ summed s (interleaved mLevels (take nb bids) (take na asks))
-m-parts bids asks nb na k hb ha lb la e s =
+    ≡ summed s (interleaved n (take nb bids) (take na asks))
+m-parts n bids asks nb na k hb ha lb la e s =
     let ib : length (take nb bids) ≡ nb = length-take-le nb bids hb in
     let ia : length (take na asks) ≡ na = length-take-le na asks ha in
     sym (summed-append (drop k (take nb bids)) (drop k (take na asks)) (summed s (interleaved k (take k bids) (take k asks))))
     ∙ sym (summed-append (interleaved k (take k bids) (take k asks)) (drop k (take nb bids) ++ drop k (take na asks)) s)
     ∙ ap (λ (l : List Level). summed s (l ++ (drop k (take nb bids) ++ drop k (take na asks))))
     (ap₂ (interleaved k) (sym (take-take k nb bids (omega arith))) (sym (take-take k na asks (omega arith))) ∙ interleaved-take k (take nb bids) (take na asks))
-    ∙ ap (summed s) (sym (interleaved-all mLevels k (take nb bids) (take na asks) (omega arith) (omega arith) (omega arith)))
+    ∙ ap (summed s) (sym (interleaved-all n k (take nb bids) (take na asks) (omega arith) (omega arith) (omega arith)))
+
+-- the n best levels of sides that have nb and na of them; b and a are how many these are
+module _ (n nb na b a : ℕ) (bids asks : List Level) (b-is : b ≡ min nb n) (a-is : a ≡ min na n) where
+  best : (k m : ℕ) (levels : List Level) → m ≡ min k n → take n (map shown (take k levels)) ≡ map shown (take m levels)
+  best k m levels e =
+      sym (map-take shown n (take k levels)) ∙ ap (map shown) (sym (take-min k n levels) ∙ ap (λ (x : ℕ). take x levels) (sym e))
+
+  of-best : crc (mChecksumText n (map shown (take b bids)) (map shown (take a asks))) ≡ crc (mChecksumText n (map shown (take nb bids)) (map shown (take na asks)))
+  unfolding mChecksumText
+  of-best =
+      sym (ap₂ (λ (x y : List PriceLevel). crc (colonJoined (map mLevel (interleaved n x y)))) (best nb b bids b-is) (best na a asks a-is))
+      ∙ ap (λ (l : List PriceLevel). crc (colonJoined (map mLevel l))) (interleaved-take n (map shown (take nb bids)) (map shown (take na asks)))
+
+  pub m-none : b ≡ 0 → a ≡ 0 → 0 ≡ crc (mChecksumText n (map shown (take nb bids)) (map shown (take na asks)))
+  m-none zb za =
+      sym (m-empty n)
+      ∙ sym (ap₂ (λ (x y : ℕ). crc (mChecksumText n (map shown (take x bids)) (map shown (take y asks)))) zb za)
+      ∙ of-best
+
+  carried : (k m : ℕ) (levels : List Level) → m ≡ min k n → All (Carries mPiece) (take k levels) → All (Carries mPiece) (take m levels)
+  carried k m levels e h = subst (All (Carries mPiece)) (sym (take-min k n levels) ∙ ap (λ (x : ℕ). take x levels) (sym e)) (all-take (Carries mPiece) n (take k levels) h)
+
+  some-of : (m : ℕ) (levels : List Level) → m ≤ length levels → (m ≡ 0 → ⊥) → 0 < length (take m levels)
+  some-of m levels h z = let e : length (take m levels) ≡ m = length-take-le m levels h in omega arith
+
+  pub m-all : (k : ℕ) → nb ≤ length bids → na ≤ length asks → k ≡ min b a → ((b ≡ 0 → ⊥) ⊎ (a ≡ 0 → ⊥))
+      → All (Carries mPiece) (take nb bids) → All (Carries mPiece) (take na asks)
+      → finish (summed (summed (summed beforeColon (interleaved k (take k bids) (take k asks))) (drop k (take b bids))) (drop k (take a asks)))
+      ≡ crc (mChecksumText n (map shown (take nb bids)) (map shown (take na asks)))
+  m-all k hb ha e some cb ca =
+      ap finish (m-parts n bids asks b a k (omega arith) (omega arith) (omega arith) (omega arith) e beforeColon)
+      ∙ m-summed n (take b bids) (take a asks)
+      (⊎-elim
+      (λ z. some-left n (take b bids) (take a asks) (omega arith) (some-of b bids (omega arith) z))
+      (λ z. some-right n (take b bids) (take a asks) (omega arith) (some-of a asks (omega arith) z)) some)
+      (carried nb b bids b-is cb) (carried na a asks a-is ca)
+      ∙ of-best

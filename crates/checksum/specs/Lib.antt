@@ -1,5 +1,4 @@
 -- In reading order: the text that a checksum is made of; the sums of both dialects; a level that carries its piece's sum; the cases that are checked by hand.
 pub mod Text
-pub mod Sums
 pub mod Carried
 pub mod CheckedByHand

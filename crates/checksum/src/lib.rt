@@ -6,7 +6,7 @@
 // `crc32::fill_table` filled; one of no entries will do, and is slower.
 //
 //     let level = checksum::level_of(SumText::Stripped, price, size, table);
-//     checksum::k_checksum(&bids.words, bids.count, &asks.words, asks.count, table)  // of the ten best asks, then the ten best bids
+//     checksum::k_checksum(10, &bids.words, bids.count, &asks.words, asks.count, table)  // of the ten best asks, then the ten best bids
 ghost use mathlib.Core.Path.{_≡_};
 ghost use mathlib.Core.List.{map};
 ghost use Prim.Native.Nat.{_≤_, min};
@@ -20,17 +20,14 @@ ghost use Rattle.level.specs.Words.{shown};
 ghost use Rattle.level.specs.Ranked.{All};
 ghost use Rattle.level.specs.Words.{levelsIn};
 ghost use Rattle.level.specs.Kept.{keptIn, maxLevels, maxWords, held, Good};
-ghost use Rattle.checksum.specs.Text.{interleaved};
-ghost use Rattle.checksum.specs.Sums.{kChecksum, mChecksum};
+ghost use Rattle.crc32_spec.specs.Crc.{crc};
+ghost use Rattle.checksum.specs.Text.{kChecksumText, interleaved, mChecksumText};
 ghost use Rattle.checksum.specs.Carried.{pieceOf, levelFor, Carries, summed};
 use decimal::Decimal;
 use level::Level;
 use level::MAX_WORDS;
 use piece::Piece;
 use settings::SumText;
-
-// How many levels a side K sums.
-const K_LEVELS: usize = 10;
 
 // The state that a colon turns into the start: every piece of M begins with a colon, and the text does not.
 const M_START: u32 = 4036333539;
@@ -54,8 +51,9 @@ fn piece_of(text: SumText, price: Decimal, size: Decimal, table: &[u32]) -> Piec
     }
 }
 
-// The checksum of a K book.
+// The checksum of a K book, of whose levels the `most` best a side are summed.
 pub fn k_checksum<'a>(
+    most: usize,
     bids: &'a [u64; MAX_WORDS],
     bid_count: usize,
     asks: &'a [u64; MAX_WORDS],
@@ -63,14 +61,15 @@ pub fn k_checksum<'a>(
     table: &'a [u32],
 ) -> u32
     requires { ⌜ Good Bids (keptIn (now bids) «bid_count») × Good Asks (keptIn (now asks) «ask_count») × All (Carries kPiece) (held (keptIn (now bids) «bid_count»)) × All (Carries kPiece) (held (keptIn (now asks) «ask_count»)) × ShiftTable (now table) ⌝ }
-    ensures { λ r. ⌜ r ≡ kChecksum (map shown (held (keptIn (now (bids .entry)) «bid_count»))) (map shown (held (keptIn (now (asks .entry)) «ask_count»))) ⌝ }
+    ensures { λ r. ⌜ r ≡ crc (kChecksumText most (map shown (held (keptIn (now (bids .entry)) «bid_count»))) (map shown (held (keptIn (now (asks .entry)) «ask_count»)))) ⌝ }
 {
-    let after_asks = sum_levels(crc32::START, asks, 0, at_most(ask_count, K_LEVELS), table);
-    sum_levels(after_asks, bids, 0, at_most(bid_count, K_LEVELS), table) ^ crc32::START
+    let after_asks = sum_levels(crc32::START, asks, 0, at_most(ask_count, most), table);
+    sum_levels(after_asks, bids, 0, at_most(bid_count, most), table) ^ crc32::START
 }
 
-// The checksum of an M book.
+// The checksum of an M book, of whose levels the `most` best a side are summed.
 pub fn m_checksum<'a>(
+    most: usize,
     bids: &'a [u64; MAX_WORDS],
     bid_count: usize,
     asks: &'a [u64; MAX_WORDS],
@@ -78,17 +77,19 @@ pub fn m_checksum<'a>(
     table: &'a [u32],
 ) -> u32
     requires { ⌜ Good Bids (keptIn (now bids) «bid_count») × Good Asks (keptIn (now asks) «ask_count») × All (Carries mPiece) (held (keptIn (now bids) «bid_count»)) × All (Carries mPiece) (held (keptIn (now asks) «ask_count»)) × ShiftTable (now table) ⌝ }
-    ensures { λ r. ⌜ r ≡ mChecksum (map shown (held (keptIn (now (bids .entry)) «bid_count»))) (map shown (held (keptIn (now (asks .entry)) «ask_count»))) ⌝ }
+    ensures { λ r. ⌜ r ≡ crc (mChecksumText most (map shown (held (keptIn (now (bids .entry)) «bid_count»))) (map shown (held (keptIn (now (asks .entry)) «ask_count»)))) ⌝ }
 {
-    if bid_count == 0 {
-        if ask_count == 0 {
+    let bid_end = at_most(bid_count, most);
+    let ask_end = at_most(ask_count, most);
+    if bid_end == 0 {
+        if ask_end == 0 {
             return 0;
         }
     }
-    let both = at_most(bid_count, ask_count);
+    let both = at_most(bid_end, ask_end);
     let paired = sum_pairs(M_START, bids, asks, both, table);
-    let after_bids = sum_levels(paired, bids, both, bid_count, table);
-    sum_levels(after_bids, asks, both, ask_count, table) ^ crc32::START
+    let after_bids = sum_levels(paired, bids, both, bid_end, table);
+    sum_levels(after_bids, asks, both, ask_end, table) ^ crc32::START
 }
 
 fn at_most(n: usize, most: usize) -> usize

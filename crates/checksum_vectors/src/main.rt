@@ -1,5 +1,5 @@
 // Runs the lines of standard input on one book, and prints what the crates `side` and `checksum` make of each:
-//     K DEPTH, M DEPTH      a new book of the dialect
+//     K DEPTH, M DEPTH      a new book of the dialect; M1 and M2 too
 //     b PRICE SIZE ..       the bids of one message: how many bids stood before the cut, and whether an entry replaced a level
 //     a PRICE SIZE ..       the same for asks
 //     =                     every bid and ask, then the checksum
@@ -34,9 +34,11 @@ const TABLE: usize = 5120;
 // The most entries of a line.
 const MAX_ENTRIES: usize = 100;
 
-// A book: the checksum text of its dialect, its depth, its sides.
+// A book: the rules of its dialect on checksums, its depth, its sides.
 struct Book {
     text: SumText,
+    // How many levels a side are summed.
+    summed: usize,
     depth: usize,
     bids: Levels,
     asks: Levels,
@@ -55,7 +57,7 @@ fn main() {
 }
 
 fn run_lines(s: &[u8]) {
-    let mut book = new_book(SumText::Stripped, 10);
+    let mut book = new_book(SumText::Stripped, 10, 10);
     let mut at = 0;
     while at < s.len() {
         let end = find(s, at, LINE_END);
@@ -64,12 +66,13 @@ fn run_lines(s: &[u8]) {
     }
 }
 
-fn new_book(text: SumText, depth: usize) -> Book
+fn new_book(text: SumText, summed: usize, depth: usize) -> Book
     requires { ⌜ depth ≤ 100 ⌝ }
     ensures { λ r. ⌜ Valid r ⌝ }
 {
     Book {
         text,
+        summed,
         depth,
         bids: level::empty(),
         asks: level::empty(),
@@ -86,10 +89,10 @@ fn run_line(book: Book, s: &[u8]) -> Book
     }
     let kind = s[0];
     if kind == 75 {
-        return start(SumText::Stripped, s);
+        return start(SumText::Stripped, 10, s);
     }
     if kind == 77 {
-        return start(SumText::Interleaved, s);
+        return start(SumText::Interleaved, edition_sum(s), s);
     }
     if kind == 98 {
         return with_bids(book, s);
@@ -124,26 +127,40 @@ fn with_asks(book: Book, s: &[u8]) -> Book
 }
 
 // A new book of the depth that a line gives, or 10 where it gives none up to 100.
-fn start(text: SumText, s: &[u8]) -> Book
+fn start(text: SumText, summed: usize, s: &[u8]) -> Book
     ensures { λ r. ⌜ Valid r ⌝ }
 {
-    let depth = read_depth(s);
-    match text {
-        SumText::Stripped => say(b"K "),
-        SumText::Interleaved => say(b"M "),
+    let end = find(s, 0, BLANK);
+    let depth = read_depth(s, end);
+    let from = 0;
+    if end < s.len() {
+        say(&s[from..end]);
     }
+    say(b" ");
     say_number(depth as u64);
     say(b"\n");
-    new_book(text, depth)
+    new_book(text, summed, depth)
 }
 
-fn read_depth(s: &[u8]) -> usize
+// M2 sums 25 levels a side, M and M1 all.
+fn edition_sum(s: &[u8]) -> usize {
+    if s.len() < 2 {
+        return 100;
+    }
+    if s[1] == b'2' {
+        return 25;
+    }
+    100
+}
+
+// The depth behind the blank.
+fn read_depth(s: &[u8], blank: usize) -> usize
     ensures { λ r. ⌜ r ≤ 100 ⌝ }
 {
-    if s.len() < 2 {
+    if s.len() <= blank {
         return 10;
     }
-    match decimal::parse_whole(&s[2..]) {
+    match decimal::parse_whole(&s[blank + 1..]) {
         ParsedWhole::Number(n) => {
             if n <= 100 {
                 return n as usize;
@@ -259,6 +276,7 @@ fn sum_of(book: Book) -> u32
     let text = book.text;
     match text {
         SumText::Stripped => checksum::k_checksum(
+            book.summed,
             &bids.words,
             bids.count,
             &asks.words,
@@ -266,6 +284,7 @@ fn sum_of(book: Book) -> u32
             &table,
         ),
         SumText::Interleaved => checksum::m_checksum(
+            book.summed,
             &bids.words,
             bids.count,
             &asks.words,

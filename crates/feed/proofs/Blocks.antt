@@ -24,7 +24,7 @@ use Rattle.feed.proofs.LongLine.{carried-opened}
 longest-most : (d : Dialect) → rulesOf d .longest ≤ 32768
 unfolding rulesOf
 longest-most K = omega arith
-longest-most M = omega arith
+longest-most (M e) = omega arith
 longest-most Unknown = omega arith
 
 too-long : (t : Config) (s : List ℕ) → 32768 < length s → decode t s ≡ refuses TooLong

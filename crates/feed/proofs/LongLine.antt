@@ -74,31 +74,32 @@ bad-depth dialect s h = at (ltb (bytesBefore space s) (length s)) refl
         (depth (leb (bytesBefore space s) maxWholeNumber) refl (ltb-true (bytesBefore space s) (length s) e))
     at false e = rw (e, depthAndName) shut-bad
 
--- no word of more than one byte is a dialect's
-other-bad : (w : List ℕ) (s : List ℕ) → 1 < length w → good (depthAndName (dialectOf w) s) ≡ false
+-- no word of more than two bytes is a dialect's
+other-bad : (w : List ℕ) (s : List ℕ) → 2 < length w → good (depthAndName (dialectOf w) s) ≡ false
 unfolding dialectOf
 other-bad [] s h = absurd (omega (arith, h))
 other-bad (c ∷ []) s h = absurd (omega (arith, h))
-other-bad (c ∷ (d ∷ w)) s h = unknown-bad s
+other-bad (c ∷ (d ∷ [])) s h = absurd (omega (arith, h))
+other-bad (c ∷ (d ∷ (e ∷ w))) s h = unknown-bad s
 
-pub bad-line : (line : List ℕ) → 38 < length line → good (lineOne line) ≡ false
+pub bad-line : (line : List ℕ) → 39 < length line → good (lineOne line) ≡ false
 unfolding lineOne
 bad-line line h = at (ltb (bytesBefore space line) (length line)) refl
   where
-    word : (b : Bool) → leb (bytesBefore space line) 1 ≡ b → bytesBefore space line < length line
+    word : (b : Bool) → leb (bytesBefore space line) 2 ≡ b → bytesBefore space line < length line
         → good (depthAndName (dialectOf (take (bytesBefore space line) line)) (drop (suc (bytesBefore space line)) line)) ≡ false
     word true e l =
-        let k : bytesBefore space line ≤ 1 = leb-true (bytesBefore space line) 1 e in
+        let k : bytesBefore space line ≤ 2 = leb-true (bytesBefore space line) 2 e in
         let n = length-drop (suc (bytesBefore space line)) line in
         let g = h in
         bad-depth (dialectOf (take (bytesBefore space line) line)) (drop (suc (bytesBefore space line)) line) (omega arith)
     word false e l =
-        let k : 1 < bytesBefore space line = leb-false (bytesBefore space line) 1 e in
+        let k : 2 < bytesBefore space line = leb-false (bytesBefore space line) 2 e in
         let n : length (take (bytesBefore space line) line) ≡ bytesBefore space line = length-take-le (bytesBefore space line) line (omega arith) in
         other-bad (take (bytesBefore space line) line) (drop (suc (bytesBefore space line)) line) (omega arith)
 
     at : (b : Bool) → ltb (bytesBefore space line) (length line) ≡ b → good (lineOne line) ≡ false
-    at true e = rw (e, lineOne) (word (leb (bytesBefore space line) 1) refl (ltb-true (bytesBefore space line) (length line) e))
+    at true e = rw (e, lineOne) (word (leb (bytesBefore space line) 2) refl (ltb-true (bytesBefore space line) (length line) e))
     at false e = rw (e, lineOne) shut-bad
 
 opened-bad : (t u : Config) → good t ≡ false → good u ≡ false → opened t ≡ opened u

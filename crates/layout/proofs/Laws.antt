@@ -9,14 +9,15 @@ use Rattle.entries.specs.Places.{andThen}
 use Rattle.entries.specs.Rows.{Entry}
 use Rattle.entries.specs.Tally.{tallyOf, Tells}
 use Rattle.entries.specs.declared.Tally.{Tally}
+use Rattle.entries.proofs.Tallies.{tally-formed}
 use Rattle.layout.specs.Layout.{isSnapshot, Printed, Layout, laid}
-use Rattle.layout.specs.Scan.{badAt, noOutline, outlineOf, isPrinted, sumOf, outlineFrom}
+use Rattle.layout.specs.Scan.{badAt, noOutline, following, outlineOf, isPrinted, sumOf, outlineFrom}
 use Rattle.layout.specs.declared.Kind.{Kind}
 use Rattle.layout.specs.declared.Outline.{Outline}
 
 module _ (kind : Kind) (t : Tally) (sent : Bool) (sum number : ℕ) where
   abbrev whole : ℕ → Outline
-  whole at = record { bids = t .bids; asks = t .asks; «bad_at» = at; number = number; checksum = sum; «well_formed» = true; kind = kind; printed = sent }
+  whole at = record { bids = t .bids; asks = t .asks; «bad_at» = at; number = number; checksum = sum; «well_formed» = true; kind = kind; printed = sent; previous = 0 }
 
   pub outline-formed : t .«well_formed» ≡ true → (at : ℕ) → at ≡ badAt kind t → whole at ≡ outlineFrom kind t sent sum number
   unfolding outlineFrom
@@ -26,11 +27,37 @@ module _ (kind : Kind) (t : Tally) (sent : Bool) (sum number : ℕ) where
   unfolding outlineFrom
   outline-none h = sym (rw (h, outlineFrom))
 
+-- none is named where a layout is laid
+follows-none : (kind : Kind) (t : Tally) (sent : Bool) (sum number : ℕ) → outlineFrom kind t sent sum number ≡ following 0 (outlineFrom kind t sent sum number)
+unfolding outlineFrom
+follows-none kind t sent sum number = at (t .«well_formed»)
+  where
+    at : (b : Bool) → cond b (whole kind t sent sum number (badAt kind t)) noOutline ≡ following 0 (cond b (whole kind t sent sum number (badAt kind t)) noOutline)
+    at true = refl
+    at false = refl
+
 pub outline-of : (s : List ℕ) (kind : Kind) (p : Printed) (n : ℕ) (x : Reading (List Entry)) (t : Tally) → Tells s x t
     → outlineFrom kind t (isPrinted p) (sumOf p) n ≡ outlineOf s (laid kind p n x)
 unfolding laid andThen outlineOf
-outline-of s kind p n (reads es) t h = ap (λ (u : Tally). outlineFrom kind u (isPrinted p) (sumOf p) n) (h .all es refl)
+outline-of s kind p n (reads es) t h =
+    ap (λ (u : Tally). outlineFrom kind u (isPrinted p) (sumOf p) n) (h .all es refl) ∙ follows-none kind (tallyOf s es) (isPrinted p) (sumOf p) n
 outline-of s kind p n refused t h = sym (outline-none kind t (isPrinted p) (sumOf p) n (h .none refl))
+
+-- the outline of a layout, whose entries are entries
+module _ (s : List ℕ) (l : Layout) where
+  abbrev pub outlineAs : Outline
+  outlineAs = following (l .previous) (whole (l .kind) (tallyOf s (l .entries)) (isPrinted (l .checksum)) (sumOf (l .checksum)) (l .number) (badAt (l .kind) (tallyOf s (l .entries))))
+
+  pub outline-is : outlineOf s (reads l) ≡ outlineAs
+  unfolding outlineOf
+  outline-is =
+      ap (following (l .previous)) (sym (outline-formed (l .kind) (tallyOf s (l .entries)) (isPrinted (l .checksum)) (sumOf (l .checksum)) (l .number) (tally-formed s (l .entries)) (badAt (l .kind) (tallyOf s (l .entries))) refl))
+
+  pub outline-reads : outlineOf s (reads l) .«well_formed» ≡ true
+  outline-reads = ap (λ (o : Outline). o .«well_formed») outline-is
+
+  pub outline-kind : outlineOf s (reads l) .kind ≡ l .kind
+  outline-kind = ap (λ (o : Outline). o .kind) outline-is
 
 -- the entries of a layout that is laid are those that were read
 pub laid-entries : (kind : Kind) (p : Printed) (n : ℕ) (x : Reading (List Entry)) (l : Layout) → laid kind p n x ≡ reads l → x ≡ reads (l .entries)

@@ -21,12 +21,14 @@ pub data Printed : Type 0 where
   printed : ℕ → Printed
   unprinted : Printed
 
--- What the layout of a message gives: its kind, its entries in the order in which they stand in it, the checksum, the sequence number.
+-- What the layout of a message gives: its kind, its entries in the order in which they stand in it, the checksum, the sequence number, and the
+-- sequence number before it, 0 where none is named.
 pub record Layout : Type 0 where
   pub kind : Kind
   pub entries : List Entry
   pub checksum : Printed
   pub number : ℕ
+  pub previous : ℕ
 
 -- A message of the dialect's outer form: whether it is this book's (check 5), and its layout (check 6).
 pub record Envelope : Type 0 where
@@ -45,4 +47,4 @@ entriesIn form depth s bids asks [] = reads []
 entriesIn form depth s bids asks (m ∷ ms) = andAlso (memberEntries form depth s bids asks m) (entriesIn form depth s bids asks ms)
 
 unfoldable pub laid : Kind → Printed → ℕ → Reading (List Entry) → Reading Layout
-laid kind sum number entries = andThen entries (λ es. reads (record { kind = kind; entries = es; checksum = sum; number = number }))
+laid kind sum number entries = andThen entries (λ es. reads (record { kind = kind; entries = es; checksum = sum; number = number; previous = 0 }))

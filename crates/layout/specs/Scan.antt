@@ -30,7 +30,7 @@ badAt kind t = cond (isSnapshot kind) (t .«strict_at») (t .«broken_at»)
 
 -- A layout that is broken.
 abbrev pub noOutline : Outline
-noOutline = record { «well_formed» = false; kind = Update; bids = 0; asks = 0; «bad_at» = 0; printed = false; checksum = 0; number = 0 }
+noOutline = record { «well_formed» = false; kind = Update; bids = 0; asks = 0; «bad_at» = 0; printed = false; checksum = 0; number = 0; previous = 0 }
 
 -- The layout of the entries that were met.
 unfoldable pub outlineFrom : Kind → Tally → Bool → ℕ → ℕ → Outline
@@ -45,11 +45,27 @@ outlineFrom kind t sent sum number =
       printed = sent;
       checksum = sum;
       number = number;
+      previous = 0;
     })
     noOutline
 
+-- The layout of a message that names the sequence number before its own.
+abbrev pub following : ℕ → Outline → Outline
+following n o =
+    record {
+      «well_formed» = o .«well_formed»;
+      kind = o .kind;
+      bids = o .bids;
+      asks = o .asks;
+      «bad_at» = o .«bad_at»;
+      printed = o .printed;
+      checksum = o .checksum;
+      number = o .number;
+      previous = n;
+    }
+
 unfoldable pub outlineOf : List ℕ → Reading Layout → Outline
-outlineOf s (reads l) = outlineFrom (l .kind) (tallyOf s (l .entries)) (isPrinted (l .checksum)) (sumOf (l .checksum)) (l .number)
+outlineOf s (reads l) = following (l .previous) (outlineFrom (l .kind) (tallyOf s (l .entries)) (isPrinted (l .checksum)) (sumOf (l .checksum)) (l .number))
 outlineOf s refused = noOutline
 
 -- ---- the message

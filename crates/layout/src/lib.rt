@@ -30,6 +30,8 @@ pub struct Outline {
     pub bad_at: usize,
     // The sequence number, 0 where the dialect has none.
     pub number: u64,
+    // The sequence number before it, 0 where the message names none.
+    pub previous: u64,
     pub checksum: u32,
     // Whether the layout is right. If not, the rest says nothing.
     pub well_formed: bool,
@@ -80,6 +82,7 @@ pub fn outline_of(kind: Kind, tally: Tally, printed: bool, checksum: u32, number
             printed,
             checksum,
             number,
+            previous: 0,
         };
     }
     no_outline()
@@ -109,6 +112,7 @@ pub fn no_outline() -> Outline
         printed: false,
         checksum: 0,
         number: 0,
+        previous: 0,
     }
 }
 

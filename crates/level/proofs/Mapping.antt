@@ -12,7 +12,7 @@ use Rattle.level.specs.declared.Level.{Level}
 use Rattle.edit.specs.Edit.{PriceLevel, shownPrice}
 use Rattle.level.specs.Words.{levelPrice, shown}
 use Rattle.edit.specs.Edit.{Edit, sets, removes}
-use Rattle.level.specs.Side.{nearer, without, apply, applyAll, place, ranked}
+use Rattle.level.specs.Side.{nearer, without, apply, applyAll, place, ranked, crosses}
 use Rattle.level.specs.Ranked.{standing, afterMessage, replaces, replaced, mapEdit}
 use Rattle.edit.specs.Edit.{named}
 
@@ -83,6 +83,12 @@ module _ {A B : Type 0} (priceA : A → Number) (priceB : B → Number) (f : A �
   map-met [] s = refl
   map-met (e ∷ es) s = rw (map-meets e s, ← map-apply e s, map-met es (apply priceA e s))
 
+  pub map-crosses : (bids asks : List A) → crosses priceB (map f bids) (map f asks) ≡ crosses priceA bids asks
+  unfolding crosses
+  map-crosses [] asks = refl
+  map-crosses (bid ∷ bids) [] = refl
+  map-crosses (bid ∷ bids) (ask ∷ asks) = rw (same bid, same ask)
+
 -- the code's levels as they are shown
 pub shown-price : (level : Level) → shownPrice (shown level) ≡ levelPrice level
 unfolding shown
@@ -97,3 +103,6 @@ shown-count = map-count levelPrice shownPrice shown shown-price
 
 pub shown-met : (es : List (Edit Level)) (s : List Level) → replaced shownPrice (map (mapEdit shown) es) (map shown s) ≡ replaced levelPrice es s
 shown-met = map-met levelPrice shownPrice shown shown-price
+
+pub shown-crosses : (bids asks : List Level) → crosses shownPrice (map shown bids) (map shown asks) ≡ crosses levelPrice bids asks
+shown-crosses = map-crosses levelPrice shownPrice shown shown-price

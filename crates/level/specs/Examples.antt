@@ -8,7 +8,7 @@ use Rattle.decimal.specs.Words.{digitsNear, digitsPast, codeOf}
 use Rattle.edit.specs.declared.Side.the-variants.{Bids, Asks}
 use Rattle.edit.specs.Edit.{PriceLevel, shownPrice}
 use Rattle.edit.specs.Edit.{Edit, sets, removes}
-use Rattle.level.specs.Side.{names, namesTwice, without, apply, applyAll, place, ranked}
+use Rattle.level.specs.Side.{names, namesTwice, without, apply, applyAll, place, ranked, crosses}
 use Rattle.level.specs.Ranked.{standing, afterMessage, replaces, replaced}
 use Rattle.level.specs.declared.Level.{Level}
 use Rattle.level.specs.Words.{packed, priceCode, sizeCode, levelPrice, levelSize, levelSum, levelLength, levelMade}
@@ -59,6 +59,19 @@ not-met = refl
 absent-price : afterMessage shownPrice Asks 10 (removes (decimal 6 0) ∷ []) (level 5 ∷ level 7 ∷ []) ≡ level 5 ∷ level 7 ∷ []
 unfolding level decimal afterMessage applyAll apply without ranked place value
 absent-price = refl
+
+-- one price on both sides, written differently, is crossed; a side alone is not
+equal-crossed : crosses shownPrice (half 5 1 ∷ []) (half 50 2 ∷ []) ≡ true
+unfolding half decimal crosses value
+equal-crossed = refl
+
+below-not-crossed : crosses shownPrice (level 4 ∷ []) (level 5 ∷ []) ≡ false
+unfolding level decimal crosses value
+below-not-crossed = refl
+
+alone-not-crossed : crosses shownPrice (level 4 ∷ []) [] ≡ false
+unfolding level decimal crosses
+alone-not-crossed = refl
 
 -- 12.50 and 0.000000000007 with a sum of 5 and a length of 6, in words and back out of them
 unfoldable words : Level

@@ -1,7 +1,7 @@
 -- A side of the book, as document 01 has it under "Applying a message" and "The plain book": what stands at each price, entry by entry,
 -- then ranked. Lists alone: no array, no search and no place of the code. Assumes nothing: these are definitions.
 use Prim.Native.Nat.{ℕ}
-use mathlib.Core.Bool.{Bool, true, false, _||_, cond}
+use mathlib.Core.Bool.{Bool, true, false, _||_, not, cond}
 use mathlib.Core.List.{List, [], _∷_}
 use lib.Dec.{ltb, eqb}
 use Rattle.decimal.specs.Decimal.{Number, value}
@@ -53,3 +53,9 @@ module _ {A : Type 0} (priceOf : A → Number) where
   unfoldable pub ranked : Side → List A → List A
   ranked side [] = []
   ranked side (x ∷ s) = place side x (ranked side s)
+
+  -- Bids and asks, best first, cross where both have levels and the best bid is not below the best ask.
+  unfoldable pub crosses : List A → List A → Bool
+  crosses [] asks = false
+  crosses (bid ∷ bids) [] = false
+  crosses (bid ∷ bids) (ask ∷ asks) = not (ltb (valueAt bid) (valueAt ask))

@@ -2,15 +2,16 @@
 use Prim.Native.Nat.{ℕ, _≤_}
 use mathlib.Core.Path.{_≡_}
 use mathlib.Core.List.{List}
-use mathlib.Core.Bool.{Bool, true, false, _&&_, _||_, cond}
-use lib.Dec.{leb}
+use mathlib.Core.Bool.{Bool, true, false, _&&_, _||_, not, cond}
+use lib.Dec.{leb, eqb}
 use lib.ListN.{length}
 use Rattle.answer.specs.Answers.{leavesStatus}
 use Rattle.answer.specs.declared.Answer.{Answer}
-use Rattle.answer.specs.declared.Answer.the-variants.{Taken, NoSnapshot, OldNumber}
+use Rattle.answer.specs.declared.Answer.the-variants.{Taken, PriceTwice, NoSnapshot, OldNumber, TooManyLevels, Crossed}
 use Rattle.answer.specs.declared.Answer.the-variants as answer·
 use Rattle.settings.specs.Settings.{good}
 use Rattle.settings.specs.Rules.{rulesOf}
+use Rattle.settings.specs.declared.Rules.{Rules}
 use Rattle.settings.specs.Kept.{configOf}
 use Rattle.settings.specs.declared.Settings.{Settings}
 use Rattle.settings.specs.declared.Dialect.{Dialect}
@@ -39,7 +40,7 @@ statusOf Live = live
 
 unfoldable pub firstState : Dialect → State
 firstState K = Waiting
-firstState M = Waiting
+firstState (M e) = Waiting
 firstState Unknown = Shut
 
 -- Whether a question is answered, of a book of that status, with or without a last good state.
@@ -69,13 +70,24 @@ liveLifecycle now kind = record { state = Live; «had_snapshot» = isSnapshot ki
 unfoldable pub refusedLifecycle : Lifecycle → Answer → Lifecycle
 refusedLifecycle now a = record { state = cond (leavesStatus a) (now .state) Waiting; «had_snapshot» = now .«had_snapshot» }
 
+-- Check 11, of an update to a book that has this sequence number.
+unfoldable pub isOldBy : Rules → ℕ → Outline → Bool
+isOldBy r number o = r .numbered && (leb (o .number) number || (r .linked && not (eqb (o .previous) number)))
+
 -- Checks 10 and 11.
-unfoldable pub judgedUpdate : State → Bool → ℕ → Outline → Verdict
-judgedUpdate state numbered number o =
+unfoldable pub judgedUpdate : State → Rules → ℕ → Outline → Verdict
+judgedUpdate state r number o =
     cond (isSnapshot (o .kind)) (Passes o)
     (cond (isLive (statusOf state))
-    (cond (numbered && leb (o .number) number) (Fails OldNumber) (Passes o))
+    (cond (isOldBy r number o) (Fails OldNumber) (Passes o))
     (Fails NoSnapshot))
+
+-- Checks 9, 12 and 16, by what its entries make of the sides.
+unfoldable pub judgedSides : Kind → Bool → Bool → Bool → Answer
+judgedSides kind replaced over crossed =
+    cond (isSnapshot kind && replaced) PriceTwice
+    (cond over TooManyLevels
+    (cond crossed Crossed Taken))
 
 -- What a message may be read with: of a book that is not shut the settings are good.
 pub record Ruled (settings : Settings) (now : Lifecycle) : Type 0 where
@@ -84,14 +96,14 @@ pub record Ruled (settings : Settings) (now : Lifecycle) : Type 0 where
   pub config : isShut (statusOf (now .state)) ≡ false → good (configOf settings) ≡ true
 
 -- Checks 1 to 8, 10 and 11.
-unfoldable pub afterText : State → Bool → ℕ → Verdict → Verdict
-afterText state numbered number (Fails a) = Fails a
-afterText state numbered number (Passes o) = judgedUpdate state numbered number o
+unfoldable pub afterText : State → Rules → ℕ → Verdict → Verdict
+afterText state r number (Fails a) = Fails a
+afterText state r number (Passes o) = judgedUpdate state r number o
 
 unfoldable pub judged : Settings → Lifecycle → ℕ → List ℕ → Verdict
 judged settings now number s =
     cond (isShut (statusOf (now .state))) (Fails answer·.Shut)
-    (afterText (now .state) (rulesOf (settings .dialect) .numbered) number (verdictOf s (checked (configOf settings) s)))
+    (afterText (now .state) (rulesOf (settings .dialect)) number (verdictOf s (checked (configOf settings) s)))
 
 -- What `judge` promises: the verdict, and that the buffer has the entries of a message that passes.
 pub record JudgedAs (settings : Settings) (now : Lifecycle) (number : ℕ) (s buffer : List ℕ) (r : Verdict) : Type 0 where

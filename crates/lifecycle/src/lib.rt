@@ -9,15 +9,16 @@ use layout::is_snapshot;
 use message::Verdict;
 use reference::Scope;
 use settings::Dialect;
+use settings::Rules;
 use settings::Settings;
 use settings::rules_of;
+use text::both;
 use text::either;
 ghost use mathlib.Core.Path.{_≡_};
 ghost use mathlib.Core.Bool.{_&&_, _||_, not, cond};
-ghost use lib.Dec.{leb};
 ghost use Rattle.layout.specs.Layout.{isSnapshot};
 ghost use Rattle.reference.specs.Reference.{isShut, oneMore};
-ghost use Rattle.lifecycle.specs.Lifecycle.{statusOf, firstState, answers, refusalOf, countsOf, liveLifecycle, refusedLifecycle, judgedUpdate, Ruled, JudgedAs};
+ghost use Rattle.lifecycle.specs.Lifecycle.{statusOf, firstState, answers, refusalOf, countsOf, liveLifecycle, refusedLifecycle, isOldBy, judgedUpdate, judgedSides, Ruled, JudgedAs};
 ghost use lib.ListN.{length};
 ghost use Rattle.edit.specs.Buffer.{bufferWords};
 
@@ -50,7 +51,7 @@ pub fn first_state(dialect: Dialect) -> State
 {
     match dialect {
         Dialect::K => State::Waiting,
-        Dialect::M => State::Waiting,
+        Dialect::M(_) => State::Waiting,
         Dialect::Unknown => State::Shut,
     }
 }
@@ -138,14 +139,14 @@ pub fn judge(
         Verdict::Fails(answer) => Verdict::Fails(answer),
         Verdict::Passes(outline) => {
             let rules = rules_of(dialect);
-            judge_update(state, rules.numbered, number, outline)
+            judge_update(state, rules, number, outline)
         }
     }
 }
 
-// Checks 10 and 11, of a message that passes those of its text; `numbered` says that messages have sequence numbers.
-fn judge_update(state: State, numbered: bool, number: u64, outline: Outline) -> Verdict
-    ensures { λ r. ⌜ r ≡ judgedUpdate state numbered number outline ⌝ }
+// Checks 10 and 11, of a message that passes those of its text, to a book that has this sequence number.
+fn judge_update(state: State, rules: Rules, number: u64, outline: Outline) -> Verdict
+    ensures { λ r. ⌜ r ≡ judgedUpdate state rules number outline ⌝ }
 {
     let kind = outline.kind;
     if is_snapshot(kind) {
@@ -155,12 +156,29 @@ fn judge_update(state: State, numbered: bool, number: u64, outline: Outline) -> 
         State::Shut => Verdict::Fails(Answer::NoSnapshot),
         State::Waiting => Verdict::Fails(Answer::NoSnapshot),
         State::Live => {
-            if is_old(numbered, outline.number, number) {
+            if is_old(rules, number, outline) {
                 return Verdict::Fails(Answer::OldNumber);
             }
             Verdict::Passes(outline)
         }
     }
+}
+
+// Checks 9, 12 and 16 in this order: `replaced` says that some entry set a level where one stood by then, `over` that too many levels
+// stand on a side, `crossed` that the sides are crossed.
+pub fn judge_sides(kind: Kind, replaced: bool, over: bool, crossed: bool) -> Answer
+    ensures { λ r. ⌜ r ≡ judgedSides kind replaced over crossed ⌝ }
+{
+    if both(is_snapshot(kind), replaced) {
+        return Answer::PriceTwice;
+    }
+    if over {
+        return Answer::TooManyLevels;
+    }
+    if crossed {
+        return Answer::Crossed;
+    }
+    Answer::Taken
 }
 
 // How a book stands after a message that is taken.
@@ -203,10 +221,20 @@ pub fn updates_after(kind: Kind, updates: u64) -> u64
     }
 }
 
-fn is_old(numbered: bool, number: u64, last: u64) -> bool
-    ensures { λ r. ⌜ r ≡ (numbered && leb number last) ⌝ }
+// Check 11.
+fn is_old(rules: Rules, number: u64, outline: Outline) -> bool
+    ensures { λ r. ⌜ r ≡ isOldBy rules number outline ⌝ }
 {
-    if numbered { number <= last } else { false }
+    if rules.numbered {
+        if outline.number <= number {
+            return true;
+        }
+        if rules.linked {
+            return outline.previous != number;
+        }
+        return false;
+    }
+    false
 }
 
 // Check 12; `over` says that before a cut more levels stand on a side than may. A side that is cut never has more.

@@ -11,7 +11,7 @@ use Rattle.decimal.specs.Digits.{written}
 use Rattle.decimal.proofs.Digits.{length-written}
 use Rattle.answer.specs.Answers.{answerNumber}
 use Rattle.answer.specs.declared.Answer.{Answer}
-use Rattle.answer.specs.declared.Answer.the-variants.{Taken, Shut, TooLong, NotJson, Escaped, NotOurs, BadLayout, TooManyEntries, BadDecimal, PriceTwice, NoSnapshot, OldNumber, TooManyLevels, WrongChecksum, NoLevel, NoRoom}
+use Rattle.answer.specs.declared.Answer.the-variants.{Taken, Shut, TooLong, NotJson, Escaped, NotOurs, BadLayout, TooManyEntries, BadDecimal, PriceTwice, NoSnapshot, OldNumber, TooManyLevels, WrongChecksum, NoLevel, NoRoom, Crossed}
 use Rattle.line_text.specs.Reply.{countsText, replyText}
 
 -- a number of 64 bits
@@ -45,6 +45,7 @@ small TooManyLevels = lit< tt
 small WrongChecksum = lit< tt
 small NoLevel = lit< tt
 small NoRoom = lit< tt
+small Crossed = lit< tt
 
 pub length-reply : (answer : Answer) (live : Bool) (bids asks : ℕ) → bids < 2 ^ 64 → asks < 2 ^ 64 → length (replyText answer live bids asks) ≤ 63
 unfolding replyText

@@ -8,7 +8,7 @@ use native.Mathlib.Omega.{arith}
 use borrow.Author.Tests.{lt-ltb, le-ltb, eq-eqb, ne-eqb}
 use lib.Dec.{eqb}
 use lib.ListN.{length, getD, take, drop, length-drop, drop-of-length-le}
-use lib.Seq.{drop-drop}
+use lib.Seq.{take-all, drop-drop}
 use Rattle.lines.specs.Lines.{bytesBefore}
 use Rattle.decimal.specs.Digits.{reads, refused}
 use Rattle.decimal.specs.Whole.{readWhole}
@@ -16,7 +16,7 @@ use Rattle.settings.specs.Settings.{Config, shut}
 use Rattle.settings.specs.declared.Dialect.{Dialect}
 use Rattle.settings.specs.declared.Dialect.the-variants.{K, M, Unknown}
 use Rattle.line_text.specs.declared.FirstLine.{FirstLine}
-use Rattle.line_text.specs.Opening.{space, dialectOf, withDepth, depthAndName, lineOne, configOn, Found}
+use Rattle.line_text.specs.Opening.{space, byLetter, byEdition, dialectOf, withDepth, depthAndName, lineOne, configOn, Found}
 
 pub found-as : {line : List ℕ} {a b : Config} {r : FirstLine} → a ≡ b → Found line a r → Found line b r
 found-as e f = record { same = f .same ∙ e; within = f .within }
@@ -73,29 +73,38 @@ module _ (line : List ℕ) (e : ℕ) (is : e ≡ bytesBefore space line) where
       let w : dialectOf (take e line) ≡ dialectOf (take (bytesBefore space line) line) = ap (λ (i : ℕ). dialectOf (take i line)) is in
       ap₂ (λ (d : Dialect) (i : ℕ). depthAndName d (drop i line)) w k ∙ sym (rw (lt-ltb (bytesBefore space line) (length line) (omega arith), lineOne))
 
--- a word of other than one byte
-pub other-word : (w : List ℕ) → (length w ≡ 1 → ⊥) → Unknown ≡ dialectOf w
+-- a word of one byte, of two, and any other
+pub one-byte : (w : List ℕ) → length w ≡ 1 → byLetter (getD w 0 0) ≡ dialectOf w
 unfolding dialectOf
-other-word [] h = refl
-other-word (c ∷ []) h = absurd (h refl)
-other-word (c ∷ (d ∷ w)) h = refl
+one-byte [] h = absurd (omega (arith, h))
+one-byte (c ∷ []) h = refl
+one-byte (c ∷ (d ∷ w)) h = absurd (omega (arith, h))
 
--- a word of one byte
-module _ (w : List ℕ) (one : length w ≡ 1) where
-  letter-word : cond (eqb (getD w 0 0) 75) K (cond (eqb (getD w 0 0) 77) M Unknown) ≡ dialectOf w
-  unfolding dialectOf
-  letter-word = go w one
-    where
-      go : (v : List ℕ) → length v ≡ 1 → cond (eqb (getD v 0 0) 75) K (cond (eqb (getD v 0 0) 77) M Unknown) ≡ dialectOf v
-      go [] h = absurd (omega (arith, h))
-      go (c ∷ []) h = refl
-      go (c ∷ (d ∷ v)) h = absurd (omega (arith, h))
+two-bytes : (w : List ℕ) → length w ≡ 2 → cond (eqb (getD w 0 0) 77) (byEdition (getD w 1 0)) Unknown ≡ dialectOf w
+unfolding dialectOf
+two-bytes [] h = absurd (omega (arith, h))
+two-bytes (c ∷ []) h = absurd (omega (arith, h))
+two-bytes (c ∷ (d ∷ [])) h = refl
+two-bytes (c ∷ (d ∷ (e ∷ w))) h = absurd (omega (arith, h))
 
-  pub word-k : getD w 0 0 ≡ 75 → K ≡ dialectOf w
-  word-k h = rw (eq-eqb (getD w 0 0) 75 h) at letter-word
+module _ (w : List ℕ) (two : length w ≡ 2) where
+  pub edition-word : getD w 0 0 ≡ 77 → byEdition (getD w 1 0) ≡ dialectOf w
+  edition-word h = rw (eq-eqb (getD w 0 0) 77 h) at (two-bytes w two)
 
-  pub word-m : (getD w 0 0 ≡ 75 → ⊥) → getD w 0 0 ≡ 77 → M ≡ dialectOf w
-  word-m n h = rw (ne-eqb (getD w 0 0) 75 n, eq-eqb (getD w 0 0) 77 h) at letter-word
+  pub letter-other : (getD w 0 0 ≡ 77 → ⊥) → Unknown ≡ dialectOf w
+  letter-other n = rw (ne-eqb (getD w 0 0) 77 n) at (two-bytes w two)
 
-  pub word-other : (getD w 0 0 ≡ 75 → ⊥) → (getD w 0 0 ≡ 77 → ⊥) → Unknown ≡ dialectOf w
-  word-other n m = rw (ne-eqb (getD w 0 0) 75 n, ne-eqb (getD w 0 0) 77 m) at letter-word
+pub other-word : (w : List ℕ) → (length w ≡ 1 → ⊥) → (length w ≡ 2 → ⊥) → Unknown ≡ dialectOf w
+unfolding dialectOf
+other-word [] h k = refl
+other-word (c ∷ []) h k = absurd (h refl)
+other-word (c ∷ (d ∷ [])) h k = absurd (k refl)
+other-word (c ∷ (d ∷ (e ∷ w))) h k = refl
+
+-- what was found, with the name as a part of the line that goes on to its end
+pub found-config : (line : List ℕ) (t : Config) (r : FirstLine) → Found line t r
+    → record { dialect = r .dialect; depth = r .depth; name = take (length line - r .name) (drop (r .name) line) } ≡ t
+unfolding configOn
+found-config line t r f =
+    let l = length-drop (r .name) line in
+    ap (λ (name : List ℕ). record { dialect = r .dialect; depth = r .depth; name = name }) (take-all (length line - r .name) (drop (r .name) line) (omega arith)) ∙ f .same

@@ -12,16 +12,24 @@ use Rattle.decimal.specs.Whole.{readWhole}
 use Rattle.settings.specs.Settings.{Config, shut}
 use Rattle.settings.specs.declared.Dialect.{Dialect}
 use Rattle.settings.specs.declared.Dialect.the-variants.{K, M, Unknown}
+use Rattle.settings.specs.declared.Edition.the-variants.{M1, M2}
 use Rattle.line_text.specs.declared.FirstLine.{FirstLine}
 
 abbrev pub space : ℕ
 space = 32
 
--- The words of the dialects: `K` and `M`, by their bytes.
+-- The words of the dialects, by their bytes: `K`, `M`, `M1` and `M2`. Plain `M` means `M1`.
+unfoldable pub byLetter : ℕ → Dialect
+byLetter c = cond (eqb c 75) K (cond (eqb c 77) (M M1) Unknown)
+
+unfoldable pub byEdition : ℕ → Dialect
+byEdition d = cond (eqb d 49) (M M1) (cond (eqb d 50) (M M2) Unknown)
+
 unfoldable pub dialectOf : List ℕ → Dialect
 dialectOf [] = Unknown
-dialectOf (c ∷ []) = cond (eqb c 75) K (cond (eqb c 77) M Unknown)
-dialectOf (c ∷ (d ∷ w)) = Unknown
+dialectOf (c ∷ []) = byLetter c
+dialectOf (c ∷ (d ∷ [])) = cond (eqb c 77) (byEdition d) Unknown
+dialectOf (c ∷ (d ∷ (e ∷ w))) = Unknown
 
 unfoldable pub withDepth : Dialect → Reading ℕ → List ℕ → Config
 withDepth dialect (reads depth) name = record { dialect = dialect; depth = depth; name = name }

@@ -7,13 +7,14 @@ ghost use Prim.Native.Nat.{_≤_};
 ghost use lib.ListN.{length, drop};
 ghost use Rattle.settings.specs.Settings.{shut};
 ghost use Rattle.writer.specs.Parts.{Room, Put};
-ghost use Rattle.line_text.specs.Opening.{dialectOf, lineOne, depthAndName, Found};
+ghost use Rattle.line_text.specs.Opening.{byLetter, byEdition, dialectOf, lineOne, depthAndName, Found};
 ghost use Rattle.line_text.specs.Reply.{replyText, countsText};
 use answer::Answer;
 use answer::number_of;
 use decimal::ParsedWhole;
 use lines::find;
 use settings::Dialect;
+use settings::Edition;
 use writer::lay;
 use writer::lay_number;
 use writer::lay_whole;
@@ -46,14 +47,38 @@ pub fn read_settings(line: &[u8]) -> FirstLine
 fn dialect_of(word: &[u8]) -> Dialect
     ensures { λ r. ⌜ r ≡ dialectOf (now (word .entry)) ⌝ }
 {
-    if word.len() != 1 {
+    if word.len() == 1 {
+        return by_letter(word[0]);
+    }
+    if word.len() == 2 {
+        if word[0] == b'M' {
+            return by_edition(word[1]);
+        }
         return Dialect::Unknown;
     }
-    if word[0] == b'K' {
+    Dialect::Unknown
+}
+
+fn by_letter(c: u8) -> Dialect
+    ensures { λ r. ⌜ r ≡ byLetter c ⌝ }
+{
+    if c == b'K' {
         return Dialect::K;
     }
-    if word[0] == b'M' {
-        return Dialect::M;
+    if c == b'M' {
+        return Dialect::M(Edition::M1);
+    }
+    Dialect::Unknown
+}
+
+fn by_edition(d: u8) -> Dialect
+    ensures { λ r. ⌜ r ≡ byEdition d ⌝ }
+{
+    if d == b'1' {
+        return Dialect::M(Edition::M1);
+    }
+    if d == b'2' {
+        return Dialect::M(Edition::M2);
     }
     Dialect::Unknown
 }

@@ -19,7 +19,8 @@ use Rattle.entries.specs.Rows.{badTexts}
 use Rattle.entries.specs.Tally.{tallyOf}
 use Rattle.entries.specs.declared.Form.{Form}
 use Rattle.entries.specs.declared.Tally.{Tally}
-use Rattle.entries.proofs.Tallies.{tally-formed, tally-bids, tally-asks}
+use Rattle.entries.proofs.Tallies.{tally-bids, tally-asks}
+use Rattle.layout.proofs.Laws.{outline-is, outline-reads}
 use Rattle.entries.proofs.Claims.{AllHere, badAt, bad-none, none-bad, FirstBad, first-bad}
 use Rattle.layout.specs.Layout.{isSnapshot, Layout, Envelope}
 use Rattle.layout.specs.Scan.{badAt as layoutBad, isPrinted, sumOf, noOutline, outlineFrom, outlineOf, scanOf, scanAt}
@@ -84,37 +85,27 @@ module _ (s : List ℕ) (l : Layout) where
   abbrev t : Tally
   t = tallyOf s (l .entries)
 
-  abbrev whole : Outline
-  whole = record { «well_formed» = true; kind = l .kind; bids = t .bids; asks = t .asks; «bad_at» = layoutBad (l .kind) t; printed = isPrinted (l .checksum); checksum = sumOf (l .checksum); number = l .number }
-
-  outline-is : outlineOf s (reads l) ≡ whole
-  unfolding outlineOf outlineFrom
-  outline-is = ap (λ (b : Bool). cond b whole noOutline) (tally-formed s (l .entries))
-
-  outline-reads : outlineOf s (reads l) .«well_formed» ≡ true
-  outline-reads = ap (λ (o : Outline). o .«well_formed») outline-is
-
   pub outline-bids : outlineOf s (reads l) .bids ≡ length (entriesFor Bids l)
-  outline-bids = ap (λ (o : Outline). o .bids) outline-is ∙ tally-bids s (l .entries)
+  outline-bids = ap (λ (o : Outline). o .bids) (outline-is s l) ∙ tally-bids s (l .entries)
 
   pub outline-asks : outlineOf s (reads l) .asks ≡ length (entriesFor Asks l)
-  outline-asks = ap (λ (o : Outline). o .asks) outline-is ∙ tally-asks s (l .entries)
-
-  pub outline-kind : outlineOf s (reads l) .kind ≡ l .kind
-  outline-kind = ap (λ (o : Outline). o .kind) outline-is
+  outline-asks = ap (λ (o : Outline). o .asks) (outline-is s l) ∙ tally-asks s (l .entries)
 
   pub outline-printed : outlineOf s (reads l) .printed ≡ isPrinted (l .checksum)
-  outline-printed = ap (λ (o : Outline). o .printed) outline-is
+  outline-printed = ap (λ (o : Outline). o .printed) (outline-is s l)
 
   pub outline-checksum : outlineOf s (reads l) .checksum ≡ sumOf (l .checksum)
-  outline-checksum = ap (λ (o : Outline). o .checksum) outline-is
+  outline-checksum = ap (λ (o : Outline). o .checksum) (outline-is s l)
 
   pub outline-number : outlineOf s (reads l) .number ≡ l .number
-  outline-number = ap (λ (o : Outline). o .number) outline-is
+  outline-number = ap (λ (o : Outline). o .number) (outline-is s l)
+
+  pub outline-previous : outlineOf s (reads l) .previous ≡ l .previous
+  outline-previous = ap (λ (o : Outline). o .previous) (outline-is s l)
 
   pub outline-bad : outlineOf s (reads l) .«bad_at» ≡ badAt (isSnapshot (l .kind)) t
   unfolding layoutBad
-  outline-bad = ap (λ (o : Outline). o .«bad_at») outline-is ∙ go (isSnapshot (l .kind))
+  outline-bad = ap (λ (o : Outline). o .«bad_at») (outline-is s l) ∙ go (isSnapshot (l .kind))
     where
       go : (b : Bool) → cond b (t .«strict_at») (t .«broken_at») ≡ badAt b t
       go true = refl

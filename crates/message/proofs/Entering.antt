@@ -15,6 +15,7 @@ use Rattle.settings.specs.Settings.{Config, good, goodDepth}
 use Rattle.settings.specs.Rules.{rulesOf}
 use Rattle.settings.specs.declared.Dialect.{Dialect}
 use Rattle.settings.specs.declared.Dialect.the-variants.{K, M, Unknown}
+use Rattle.settings.specs.declared.Edition.{Edition}
 use Rattle.entries.specs.Places.{top}
 use Rattle.layout.specs.Layout.{Layout, Envelope}
 use Rattle.message.specs.Meaning.{Checked, fails, passes, bad, decimals, alsoDecimals, entriesFor, tooMany, counted, laidOut, addressed, envelopeIn, framed, checked}
@@ -49,7 +50,7 @@ or-none false b h = (refl, h)
 few-entries : (d : Dialect) → rulesOf d .entries ≤ 100
 unfolding rulesOf
 few-entries K = omega arith
-few-entries M = omega arith
+few-entries (M e) = omega arith
 few-entries Unknown = omega arith
 
 -- it has no more entries a side than there may be
@@ -95,7 +96,7 @@ framed-few t s l h = let f = first (ltb (rulesOf (t .dialect) .longest) (length 
 -- a dialect that can be read
 pub data Readable : Dialect → Type 0 where
   is-k : Readable K
-  is-m : Readable M
+  is-m : (e : Edition) → Readable (M e)
 
 pub good-readable : (t : Config) → good t ≡ true → Readable (t .dialect)
 unfolding good goodDepth
@@ -103,5 +104,5 @@ good-readable t h = go (t .dialect) refl
   where
     go : (d : Dialect) → t .dialect ≡ d → Readable d
     go K e = is-k
-    go M e = is-m
+    go (M v) e = is-m v
     go Unknown e = absurd (true≢false (sym h ∙ rw e))

@@ -17,7 +17,7 @@ use Rattle.edit.specs.declared.Side.the-variants.{Bids, Asks}
 use Rattle.json.specs.Json.{Span, Pair, text}
 use Rattle.json.specs.Claims.{In-order, Is-element}
 use Rattle.settings.specs.Settings.{Config}
-use Rattle.settings.specs.Rules.{rulesOf}
+use Rattle.settings.specs.Rules.{isLinked, rulesOf}
 use Rattle.settings.specs.declared.Dialect.{Dialect}
 use Rattle.settings.specs.declared.Dialect.the-variants.{K, M, Unknown}
 use Rattle.entries.specs.Places.{isString, andThen, all, arrayAt, objectAt, valuesOf, only, wholeAt, checksumAt, quotedChecksumAt, top}
@@ -25,11 +25,11 @@ use Rattle.entries.specs.Rows.{Entry, sidedAt}
 use Rattle.entries.proofs.Claims.{AllHere, here-none, here-also, sided-here}
 use Rattle.entries.specs.declared.Form.{Form}
 use Rattle.entries.specs.declared.Form.the-variants as forms
-use Rattle.layout.specs.Layout.{Printed, printed, unprinted, Layout, Envelope, memberEntries, entriesIn, laid}
+use Rattle.layout.specs.Layout.{isSnapshot as isSnapshot·m, Printed, printed, unprinted, Layout, Envelope, memberEntries, entriesIn, laid}
 use Rattle.layout.specs.declared.Kind.{Kind}
 use Rattle.layout.specs.declared.Kind.the-variants.{Snapshot, Update}
 use Rattle.message_k.specs.LayoutK.{Frame, frameOf, isSnapshot, isUpdate, together, entriesK, objectsLayout, layoutK, envelopeK}
-use Rattle.message_m.specs.LayoutM.{kindAt, layoutM, envelopeM}
+use Rattle.message_m.specs.LayoutM.{kindAt, layoutM, linkedTo, layoutIn, envelopeM}
 use lib.Dec.{leb, ltb, eqb, lit<}
 use lib.ListN.{length, getD}
 use Rattle.message.specs.Bad.{formOf}
@@ -137,7 +137,7 @@ module _ (form : Form) (s : List ℕ) where
       → n < 10 ^ 19 → ((k : ℕ) → p ≡ printed k → k ≤ 4294967295) → (l : Layout) → laid kind p n x ≡ reads l → LieIn form s l
   unfolding laid andThen
   laid-lies kind p n (reads es) f small low l h =
-      let e : l ≡ record { kind = kind; entries = es; checksum = p; number = n } = sym (reads-same h) in
+      let e : l ≡ record { kind = kind; entries = es; checksum = p; number = n; previous = 0 } = sym (reads-same h) in
       rw e (record { entries = collected-here es (f es refl); collected = f es refl; small = small; low = low })
   laid-lies kind p n refused f small low l h = no-reading h
 
@@ -190,6 +190,20 @@ module _ (s : List ℕ) where
       let e = object-follows s (d .0) (o .0) (o .2) in
       laid-lies forms.Pair s (t .0) (printed (n .0)) (w .0) _ (λ es g. record { bids = ascii "bids"; asks = ascii "asks"; members = o .0; lo = d .0 .from + 1; hi = e .0; in-order = e .1; collects = g }) (whole-small (part s (g .0)) (w .0) (w .2)) (λ i e. subst (λ (x : ℕ). x ≤ 4294967295) (printed-same e) (checksum-low (part s (k .0)) (n .0) (n .2))) l (w .1)
 
+  -- .. also where an update names the sequence number before its own
+  linked-lies : (linked : Bool) (ms : List Pair) (l : Layout) → layoutIn linked s ms ≡ reads l → LieIn forms.Pair s l
+  unfolding layoutIn linkedTo
+  linked-lies false ms l h = m-lies ms l h
+  linked-lies true ms l h = let p = then-reads (layoutM s ms) _ l h in at (p .0) (isSnapshot·m (p .0 .kind)) (m-lies ms (p .0) (p .2)) (p .1)
+    where
+      at : (k : Layout) (b : Bool) → LieIn forms.Pair s k
+          → cond b (reads k) (andThen (andThen (only (valuesOf s (ascii "prev_gsn") ms)) (wholeAt s)) (λ n. reads (record { kind = k .kind; entries = k .entries; checksum = k .checksum; number = k .number; previous = n }))) ≡ reads l
+          → LieIn forms.Pair s l
+      at k true w g = rw (sym (reads-same g)) w
+      at k false w g =
+          let q = then-reads (andThen (only (valuesOf s (ascii "prev_gsn") ms)) (wholeAt s)) _ l g in
+          rw (sym (reads-same (q .1))) (record { entries = w .entries; collected = w .collected; small = w .small; low = w .low })
+
 -- ---- the whole: a message that passes checks 2 to 7, and one that passes 8 too
 no-pass : {A : Type 0} (a : Answer) (l : Layout) → fails a ≡ passes l → A
 no-pass a l h = let z : _≡_ {A = ℕ} 0 1 = cc in absurd (omega arith)
@@ -221,10 +235,10 @@ heard-lies K t s a x h y g =
     let e = reads-same (f .1) in
     let o = array-objects s a (f .0) (f .2) in
     k-lies s (f .0) (o .0) (o .1) (o .2) y (ap (λ (z : Envelope). z .layout) e ∙ g)
-heard-lies M t s a x h y g =
+heard-lies (M v) t s a x h y g =
     let f = then-reads (objectAt 16 s a) _ x h in
     let e = reads-same (f .1) in
-    m-lies s (f .0) y (ap (λ (z : Envelope). z .layout) e ∙ g)
+    linked-lies s (isLinked v) (f .0) y (ap (λ (z : Envelope). z .layout) e ∙ g)
 heard-lies Unknown t s a x h y g = no-reading h
 
 pub framed-lies : (t : Config) (s : List ℕ) (l : Layout) → framed t s ≡ passes l → LieIn (formOf (t .dialect)) s l

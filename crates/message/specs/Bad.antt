@@ -21,7 +21,7 @@ partOf a = record { from = a .from; to = a .to }
 -- The form of a dialect's entries.
 unfoldable pub formOf : Dialect → Form
 formOf K = Triple
-formOf M = Pair
+formOf (M e) = Pair
 formOf Unknown = Pair
 
 -- The price of an entry if it is bad, and else the size.

@@ -11,7 +11,7 @@ use Rattle.edit.specs.declared.Side.{Side}
 use Rattle.edit.specs.declared.Side.the-variants.{Bids, Asks}
 use Rattle.json.specs.Json.{Span, text}
 use Rattle.settings.specs.Settings.{Config, good}
-use Rattle.settings.specs.Rules.{rulesOf}
+use Rattle.settings.specs.Rules.{isLinked, rulesOf}
 use Rattle.entries.specs.Places.{top}
 use Rattle.entries.specs.Rows.{Entry, badTexts, firstOf, numbersAt}
 use Rattle.layout.specs.Layout.{isSnapshot, Printed, Layout, Envelope}
@@ -52,7 +52,7 @@ addressed most refused = fails NotOurs
 
 unfoldable pub envelopeIn : Dialect → Config → List ℕ → Span → Reading Envelope
 envelopeIn K t = envelopeK (t .depth) (t .name)
-envelopeIn M t = envelopeM (t .name)
+envelopeIn (M e) t = envelopeM (isLinked e) (t .name)
 envelopeIn Unknown t = λ s a. refused
 
 -- ---- checks 2 and 3
@@ -93,6 +93,8 @@ pub record Message : Type 0 where
   pub edits : List SidedEdit
   pub checksum : Printed
   pub number : ℕ
+  -- the sequence number before it, where one is named
+  pub previous : ℕ
 
 pub data Decoded : Type 0 where
   refuses : Answer → Decoded
@@ -102,7 +104,7 @@ unfoldable pub sidedEdit : Numbers → SidedEdit
 sidedEdit e = record { side = e .side; edit = editOf e }
 
 unfoldable pub messageOf : List ℕ → Layout → Message
-messageOf s l = record { kind = l .kind; edits = map sidedEdit (map (numbersAt s) (l .entries)); checksum = l .checksum; number = l .number }
+messageOf s l = record { kind = l .kind; edits = map sidedEdit (map (numbersAt s) (l .entries)); checksum = l .checksum; number = l .number; previous = l .previous }
 
 unfoldable pub decodedOf : List ℕ → Checked → Decoded
 decodedOf s (fails a) = refuses a

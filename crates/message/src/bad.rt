@@ -57,7 +57,7 @@ fn form_of(dialect: Dialect) -> Form
 {
     match dialect {
         Dialect::K => Form::Triple,
-        Dialect::M => Form::Pair,
+        Dialect::M(_) => Form::Pair,
         Dialect::Unknown => Form::Pair,
     }
 }

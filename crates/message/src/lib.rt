@@ -14,6 +14,7 @@ use layout::not_framed;
 use message_k::k_message;
 use message_m::m_message;
 use settings::Dialect;
+use settings::is_linked;
 use settings::rules_of;
 ghost use mathlib.Core.Path.{_≡_};
 ghost use mathlib.Core.Bool.{true};
@@ -108,7 +109,7 @@ fn scan_at(
 {
     match dialect {
         Dialect::K => k_message(s, at, depth, name, buffer),
-        Dialect::M => m_message(s, at, name, buffer),
+        Dialect::M(edition) => m_message(s, at, is_linked(edition), name, buffer),
         Dialect::Unknown => not_framed(value_end(s, at, MAX_DEPTH)),
     }
 }

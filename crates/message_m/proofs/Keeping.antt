@@ -1,7 +1,7 @@
 -- What the buffer has once `data`, and once the message, was read. Assumes nothing.
 use Prim.Native.Nat.{ℕ, _+_, _≤_, _<_}
 use mathlib.Core.Path.{_≡_, refl, sym, ap, _∙_, subst}
-use mathlib.Core.Bool.{Bool, true, false}
+use mathlib.Core.Bool.{Bool, true, false, cond}
 use mathlib.Core.List.{List, [], _∷_}
 use native.Mathlib.Omega.{arith}
 use lib.ListN.{length}
@@ -22,13 +22,13 @@ use Rattle.entries.specs.Tally.{noneYet, met as count, Tells, Kept}
 use Rattle.entries.specs.declared.Form.the-variants as forms
 use Rattle.entries.specs.declared.Tally.{Tally}
 use Rattle.entries.proofs.Tallies.{none-also}
-use Rattle.layout.specs.Layout.{printed, Layout, Envelope, entriesIn, laid}
+use Rattle.layout.specs.Layout.{isSnapshot, printed, Layout, Envelope, entriesIn, laid}
 use Rattle.layout.specs.Scan.{notFramed, scanOf, scanAt, Scanned}
 use Rattle.layout.specs.declared.Scan.{Scan}
 use Rattle.layout.specs.declared.Kind.{Kind}
 use Rattle.layout.proofs.Laws.{laid-entries}
 use Rattle.layout.proofs.MemberSpans.{values-fold}
-use Rattle.message_m.specs.LayoutM.{kindAt, layoutM, envelopeM}
+use Rattle.message_m.specs.LayoutM.{kindAt, layoutM, linkedTo, layoutIn, envelopeM}
 use Rattle.message_m.specs.Collected.{withHeld, heldOf, noData, dataOf, Added, DataRead, bodyHeld}
 use Rattle.message_m.specs.declared.Data.{Data}
 use Rattle.message_m.specs.declared.Members.{Members}
@@ -101,8 +101,8 @@ module _ (s : List ℕ) (t : Tally) (at : ℕ) (before : List ℕ) (r : Data) wh
 abbrev pub bodyStep : List ℕ → Reading (List Entry) → Pair → Reading (List Entry)
 bodyStep s x m = bodyHeld s (means s (m .name) (ascii "data")) x (m .value)
 
-pub record MessageGoing (name s : List ℕ) (at : ℕ) (m : Members) (i : ℕ) (buffer : List ℕ) : Type 0 where
-  pub told : Left (messageLoop name s) m i (scanAt (envelopeM name) s at)
+pub record MessageGoing (linked : Bool) (name s : List ℕ) (at : ℕ) (m : Members) (i : ℕ) (buffer : List ℕ) : Type 0 where
+  pub told : Left (messageLoop linked name s) m i (scanAt (envelopeM linked name) s at)
   pub marked : Marked s m
   pub few : count (m .body .last .tally) ≤ i
   pub holding : Holding 15 s (bodyStep s) (m .body .last .tally) i buffer (heldAll 15 s (bodyStep s) (reads []) at)
@@ -148,28 +148,42 @@ layout-held s ms l h =
     ∙ none-also (entriesIn forms.Pair 14 s (ascii "bids") (ascii "asks") (o .0))
     ∙ laid-entries (k .0) (printed (v .0)) (n .0) (entriesIn forms.Pair 14 s (ascii "bids") (ascii "asks") (o .0)) l (n .2)
 
-module _ (name s : List ℕ) (at : ℕ) (buffer : List ℕ) (r : Scan) (told : r ≡ scanAt (envelopeM name) s at) where
-  pub message-other : (byteAt s at ≡ 123 → ⊥) → Scanned (envelopeM name) s at buffer r
+-- the sequence number before an update's own changes no entry
+pub linked-held : (linked : Bool) (s : List ℕ) (ms : List Pair) (l : Layout) → layoutIn linked s ms ≡ reads l → foldFrom (bodyStep s) (reads []) ms ≡ reads (l .entries)
+unfolding layoutIn linkedTo
+linked-held false s ms l h = layout-held s ms l h
+linked-held true s ms l h =
+    let p = then-reads (layoutM s ms) _ l h in
+    layout-held s ms (p .0) (p .1) ∙ ap reads (at (p .0) (isSnapshot (p .0 .kind)) (p .2))
+  where
+    at : (k : Layout) (b : Bool)
+        → cond b (reads k) (andThen (andThen (only (valuesOf s (ascii "prev_gsn") ms)) (wholeAt s)) (λ n. reads (record { kind = k .kind; entries = k .entries; checksum = k .checksum; number = k .number; previous = n }))) ≡ reads l
+        → k .entries ≡ l .entries
+    at k true g = ap (λ (x : Layout). x .entries) (same-reads g)
+    at k false g = let q = then-reads (andThen (only (valuesOf s (ascii "prev_gsn") ms)) (wholeAt s)) _ l g in ap (λ (x : Layout). x .entries) (same-reads (q .2))
+
+module _ (linked : Bool) (name s : List ℕ) (at : ℕ) (buffer : List ℕ) (r : Scan) (told : r ≡ scanAt (envelopeM linked name) s at) where
+  pub message-other : (byteAt s at ≡ 123 → ⊥) → Scanned (envelopeM linked name) s at buffer r
   unfolding envelopeM andThen
   message-other o = record { told = told; kept = λ e v h g u l y. no-reads (rw (object-no 15 s (record { from = at; to = e }) o) at g) }
 
-  pub message-broken : r ≡ notFramed 0 → Scanned (envelopeM name) s at buffer r
+  pub message-broken : r ≡ notFramed 0 → Scanned (envelopeM linked name) s at buffer r
   unfolding scanAt scanOf
   message-broken z = record { told = told; kept = λ e v h g u l y. not-json e v h g }
     where
-      not-json : {A : Type 0} → (e : ℕ) → value 16 s at ≡ At e → (h : Envelope) → envelopeM name s (record { from = at; to = e }) ≡ reads h → A
+      not-json : {A : Type 0} → (e : ℕ) → value 16 s at ≡ At e → (h : Envelope) → envelopeM linked name s (record { from = at; to = e }) ≡ reads h → A
       not-json e v h g =
           let b = bounds e (value-in 16 s at) v in
-          let q : scanAt (envelopeM name) s at ≡ scanOf s e (reads h) = rw (v, scanAt, g) in
+          let q : scanAt (envelopeM linked name) s at ≡ scanOf s e (reads h) = rw (v, scanAt, g) in
           let k : 0 ≡ e = ap (λ (x : Scan). x .end) (sym z ∙ told ∙ q) in
           absurd (omega arith)
 
-  pub message-read : byteAt s at ≡ 123 → Kept s (heldAll 15 s (bodyStep s) (reads []) at) buffer → Scanned (envelopeM name) s at buffer r
+  pub message-read : byteAt s at ≡ 123 → Kept s (heldAll 15 s (bodyStep s) (reads []) at) buffer → Scanned (envelopeM linked name) s at buffer r
   unfolding envelopeM
   message-read o kept = record { told = told; kept = λ e v h g u l y. go e h g l y }
     where
-      go : (e : ℕ) (h : Envelope) → envelopeM name s (record { from = at; to = e }) ≡ reads h → (l : Layout) → h .layout ≡ reads l → Kept s (reads (l .entries)) buffer
+      go : (e : ℕ) (h : Envelope) → envelopeM linked name s (record { from = at; to = e }) ≡ reads h → (l : Layout) → h .layout ≡ reads l → Kept s (reads (l .entries)) buffer
       go e h g l y =
           let p = then-reads (objectAt 16 s (record { from = at; to = e })) _ h g in
           let k = ap (λ (x : Envelope). x .layout) (same-reads (p .2)) ∙ y in
-          subst (λ (x : Reading (List Entry)). Kept s x buffer) (held-total 15 s (bodyStep s) (record { from = at; to = e }) o (p .0) (p .1) (reads []) ∙ layout-held s (p .0) l k) kept
+          subst (λ (x : Reading (List Entry)). Kept s x buffer) (held-total 15 s (bodyStep s) (record { from = at; to = e }) o (p .0) (p .1) (reads []) ∙ linked-held linked s (p .0) l k) kept

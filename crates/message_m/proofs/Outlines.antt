@@ -11,14 +11,15 @@ use Rattle.json.specs.Json.{Span}
 use Rattle.json.specs.Names.{means}
 use Rattle.entries.specs.Places.{andThen, wholeAt, checksumAt}
 use Rattle.entries.specs.declared.Tally.{Tally}
-use Rattle.layout.specs.Scan.{noOutline, outlineFrom}
+use Rattle.layout.specs.Layout.{isSnapshot}
+use Rattle.layout.specs.Scan.{noOutline, outlineFrom, following}
 use Rattle.layout.specs.declared.MemberSpan.{MemberSpan}
 use Rattle.layout.specs.declared.Outline.{Outline}
 use Rattle.layout.specs.declared.Scan.{Scan}
 use Rattle.layout.specs.declared.Kind.{Kind}
 use Rattle.layout.specs.declared.Kind.the-variants.{Snapshot, Update}
 use Rattle.message_m.specs.LayoutM.{kindAt}
-use Rattle.message_m.specs.Collected.{onceAt, outlineWhere, numbersIn, sidesIn, bodyIn, outlineIn, scanIn}
+use Rattle.message_m.specs.Collected.{onceAt, outlineWhere, numbersIn, sidesIn, bodyIn, outlineIn, linkedOutline, scanIn}
 use Rattle.message_m.specs.declared.Data.{Data}
 use Rattle.message_m.specs.declared.Members.{Members}
 
@@ -158,7 +159,32 @@ module _ (s : List ℕ) (met : Members) where
               where-refused of-type (then-yes (met .kind) (kindAt s) t ∙ k) ∙ past-product
 
 -- part by part
-pub told-made : (s : List ℕ) (met : Members) (end : ℕ) {o : Bool} {x : Outline} → o ≡ (met .«is_book» && met .«is_product») → x ≡ outlineIn s met
-    → _≡_ {A = Scan} (record { end = end; framed = true; ours = o; outline = x }) (scanIn s end met)
+pub told-made : (linked : Bool) (s : List ℕ) (met : Members) (end : ℕ) {o : Bool} {x : Outline} → o ≡ (met .«is_book» && met .«is_product»)
+    → x ≡ linkedOutline linked s (met .previous) (outlineIn s met)
+    → _≡_ {A = Scan} (record { end = end; framed = true; ours = o; outline = x }) (scanIn linked s end met)
 unfolding scanIn
-told-made s met end p q = rw (p, q)
+told-made linked s met end p q = rw (p, q)
+
+-- the sequence number before an update's own, case by case
+module _ (s : List ℕ) (before : MemberSpan) (o : Outline) where
+  pub not-linked : (linked : Bool) → linked ≡ false → o ≡ linkedOutline linked s before o
+  unfolding linkedOutline
+  not-linked linked h = sym (rw (h, linkedOutline))
+
+  module _ (linked : Bool) (h : linked ≡ true) where
+    pub linked-none : o .«well_formed» ≡ false → o ≡ linkedOutline linked s before o
+    unfolding linkedOutline
+    linked-none f = sym (rw (h, f, linkedOutline))
+
+    pub linked-snapshot : o .«well_formed» ≡ true → isSnapshot (o .kind) ≡ true → o ≡ linkedOutline linked s before o
+    unfolding linkedOutline
+    linked-snapshot f k = sym (rw (h, f, k, linkedOutline))
+
+    module _ (f : o .«well_formed» ≡ true) (k : isSnapshot (o .kind) ≡ false) where
+      pub linked-reads : (n : ℕ) → andThen (onceAt before) (wholeAt s) ≡ reads n → following n o ≡ linkedOutline linked s before o
+      unfolding linkedOutline
+      linked-reads n e = where-reads (λ n. following n o) e ∙ sym (rw (h, f, k, linkedOutline))
+
+      pub linked-refused : andThen (onceAt before) (wholeAt s) ≡ refused → noOutline ≡ linkedOutline linked s before o
+      unfolding linkedOutline
+      linked-refused e = where-refused (λ n. following n o) e ∙ sym (rw (h, f, k, linkedOutline))

@@ -54,12 +54,13 @@ pub record Keyed (s : List ℕ) (a : Span) (k : ℕ) : Type 0 where
   pub body : eqb k 4 ≡ means s a (ascii "data")
   pub checksum : eqb k 5 ≡ means s a (ascii "checksum")
   pub gsn : eqb k 6 ≡ means s a (ascii "gsn")
+  pub previous : eqb k 7 ≡ means s a (ascii "prev_gsn")
 
 pub keyed : (s : List ℕ) (a : Span) → Keyed s a (keyOf s a)
 unfolding keyOf
 keyed s a =
     let h : numbered (keyOf s a) 1 ourNames ≡ meant s a ourNames = which-meant s a ourNames refl 1 (omega arith) in
-    record { channel = cc; product = cc; kind = cc; body = cc; checksum = cc; gsn = cc }
+    record { channel = cc; product = cc; kind = cc; body = cc; checksum = cc; gsn = cc; previous = cc }
 
 pub data-key : (s : List ℕ) (a : Span) (k : ℕ) → k ≡ keyOf s a → eqb k 4 ≡ means s a (ascii "data")
 data-key s a k h = ap (λ (n : ℕ). eqb n 4) h ∙ keyed s a .body
@@ -95,9 +96,14 @@ module _ (s : List ℕ) (a : Span) where
             unfolding keyOf
             key-gsn y = sym (rw (c, p, t, d, k, y))
 
-            pub key-other : means s a (ascii "gsn") ≡ false → 0 ≡ keyOf s a
-            unfolding keyOf
-            key-other y = sym (rw (c, p, t, d, k, y))
+            module _ (g : means s a (ascii "gsn") ≡ false) where
+              pub key-previous : means s a (ascii "prev_gsn") ≡ true → 7 ≡ keyOf s a
+              unfolding keyOf
+              key-previous y = sym (rw (c, p, t, d, k, g, y))
+
+              pub key-other : means s a (ascii "prev_gsn") ≡ false → 0 ≡ keyOf s a
+              unfolding keyOf
+              key-other y = sym (rw (c, p, t, d, k, g, y))
 
 -- ---- the values that are compared
 pub and-yes : (x : Bool) (k n : ℕ) → k ≡ n → x ≡ (eqb k n && x)
@@ -258,16 +264,16 @@ module _ (name s : List ℕ) (met : Members) (n : Span) (at to key : ℕ) (b : B
   abbrev hits : (i : ℕ) → MemberSpan → MemberSpan
   hits i k = onHit (eqb key i) withMemberSpan k v
 
-  pub members-made : (o p : Bool) (c q k u g : MemberSpan)
+  pub members-made : (o p : Bool) (c q k u g f : MemberSpan)
       → o ≡ (met .«is_book» || (eqb key 1 && means s v (ascii "book")))
       → p ≡ (met .«is_product» || (eqb key 2 && means s v name))
-      → c ≡ hits 1 (met .channel) → q ≡ hits 2 (met .product) → k ≡ hits 3 (met .kind) → u ≡ hits 5 (met .checksum) → g ≡ hits 6 (met .gsn)
-      → _≡_ {A = Members} (record { body = b; «is_book» = o; «is_product» = p; channel = c; product = q; kind = k; checksum = u; gsn = g })
+      → c ≡ hits 1 (met .channel) → q ≡ hits 2 (met .product) → k ≡ hits 3 (met .kind) → u ≡ hits 5 (met .checksum) → g ≡ hits 6 (met .gsn) → f ≡ hits 7 (met .previous)
+      → _≡_ {A = Members} (record { body = b; «is_book» = o; «is_product» = p; channel = c; product = q; kind = k; checksum = u; gsn = g; previous = f })
       (moreMembers name s met (record { name = n; value = record { from = at; to = to } }))
   unfolding moreMembers moreBody
-  members-made o p c q k u g ho hp hc hq hk hu hg =
+  members-made o p c q k u g f ho hp hc hq hk hu hg hf =
       let d : Keyed s n key = rw is (keyed s n) in
-      rw (ho, hp, hc, hq, hk, hu, hg, made, d .channel, d .product, d .kind, d .body, d .checksum, d .gsn)
+      rw (ho, hp, hc, hq, hk, hu, hg, hf, made, d .channel, d .product, d .kind, d .body, d .checksum, d .gsn, d .previous)
 
 -- the places of marks
 pub placed-more : (s : List ℕ) (hit : Bool) (k : MemberSpan) (a : Span) → Placed s k → a .from ≤ a .to → a .to ≤ length s → Placed s (onHit hit withMemberSpan k a)

@@ -23,17 +23,17 @@ use Rattle.entries.specs.Tally.{noneYet, arrayTally, Tells}
 use Rattle.entries.specs.declared.Form.the-variants as forms
 use Rattle.entries.specs.declared.Tally.{Tally}
 use Rattle.entries.proofs.Tallies.{none-also, also-none, also-assoc, tells-none, tells-more}
-use Rattle.layout.specs.Layout.{printed, Layout, Envelope, memberEntries, entriesIn, laid}
+use Rattle.layout.specs.Layout.{isSnapshot, printed, Layout, Envelope, memberEntries, entriesIn, laid}
 use Rattle.layout.specs.MemberSpans.{few, fewMore, withMemberSpan, memberSpanOf}
-use Rattle.layout.specs.Scan.{noOutline, notFramed, outlineOf, outlineFrom, isPrinted, sumOf, scanOf, scanAt}
+use Rattle.layout.specs.Scan.{noOutline, notFramed, following, outlineOf, outlineFrom, isPrinted, sumOf, scanOf, scanAt}
 use Rattle.layout.specs.declared.MemberSpan.{MemberSpan}
 use Rattle.layout.specs.declared.Outline.{Outline}
 use Rattle.layout.specs.declared.Scan.{Scan}
-use Rattle.layout.proofs.Laws.{outline-of}
+use Rattle.layout.proofs.Laws.{outline-of, outline-reads, outline-kind}
 use Rattle.layout.proofs.MemberSpans.{values-fold, only-once, only-other, count-times}
 use Rattle.layout.specs.declared.Kind.{Kind}
-use Rattle.message_m.specs.LayoutM.{someMeans, oursM, kindAt, layoutM, envelopeM}
-use Rattle.message_m.specs.Collected.{onMember, withHeld, tallyWith, noData, dataEnd, moreData, dataFrom, dataOf, moreBody, noMembers, moreMembers, onceAt, outlineWhere, numbersIn, sidesIn, bodyIn, outlineIn, scanIn, Placed}
+use Rattle.message_m.specs.LayoutM.{someMeans, oursM, kindAt, layoutM, linkedTo, layoutIn, envelopeM}
+use Rattle.message_m.specs.Collected.{onMember, withHeld, tallyWith, noData, dataEnd, moreData, dataFrom, dataOf, moreBody, noMembers, moreMembers, onceAt, outlineWhere, numbersIn, sidesIn, bodyIn, outlineIn, linkedOutline, scanIn, Placed}
 use Rattle.message_m.specs.declared.Data.{Data}
 use Rattle.message_m.specs.declared.Members.{Members}
 use Rattle.message_m.proofs.Steps.{hit-yes, hit-no, placed-more}
@@ -182,6 +182,14 @@ module _ (s : List ℕ) where
   times-once (a ∷ []) = refl
   times-once (a ∷ (b ∷ l)) = ap (λ (n : ℕ). eqb n 1) (count-times (a ∷ (b ∷ l)))
 
+-- the outline of a layout that names the sequence number before its own
+named-before : (s : List ℕ) (l : Layout) (x : Reading ℕ)
+    → outlineOf s (andThen x (λ n. reads (record { kind = l .kind; entries = l .entries; checksum = l .checksum; number = l .number; previous = n })))
+    ≡ outlineWhere x (λ n. following n (outlineOf s (reads l)))
+unfolding andThen outlineOf outlineWhere
+named-before s l (reads n) = refl
+named-before s l refused = refl
+
 -- the members that were met, of which ms are all
 module _ (name s : List ℕ) (ms : List Pair) where
   abbrev met : Members
@@ -209,6 +217,10 @@ module _ (name s : List ℕ) (ms : List Pair) where
   gsn-is : met .gsn ≡ memberSpanOf (values (ascii "gsn"))
   unfolding moreMembers
   gsn-is = on-fold s (ascii "gsn") (moreMembers name s) (λ (x : Members). x .gsn) withMemberSpan (λ st m. refl) noMembers ms
+
+  previous-is : met .previous ≡ memberSpanOf (values (ascii "prev_gsn"))
+  unfolding moreMembers
+  previous-is = on-fold s (ascii "prev_gsn") (moreMembers name s) (λ (x : Members). x .previous) withMemberSpan (λ st m. refl) noMembers ms
 
   data-mark : met .body .mark ≡ memberSpanOf (values (ascii "data"))
   unfolding moreMembers moreBody
@@ -350,6 +362,35 @@ module _ (name s : List ℕ) (ms : List Pair) where
       (only-is (values (ascii "channel")) (met .channel) channel-is)
       (λ c q. channel-out c)
 
+  -- where updates are linked, one names the sequence number before its own
+  before-is : andThen (only (values (ascii "prev_gsn"))) (wholeAt s) ≡ andThen (onceAt (met .previous)) (wholeAt s)
+  before-is = ap (λ (x : Reading Span). andThen x (wholeAt s)) (only-is (values (ascii "prev_gsn")) (met .previous) previous-is)
+
+  linked-reads : (l : Layout) → outlineOf s (linkedTo s (values (ascii "prev_gsn")) l) ≡ linkedOutline true s (met .previous) (outlineOf s (reads l))
+  unfolding linkedTo linkedOutline
+  linked-reads l =
+      at (isSnapshot (l .kind))
+      ∙ sym (ap₂ (λ (f b : Bool). cond f (cond b named-all (outlineWhere (andThen (onceAt (met .previous)) (wholeAt s)) (λ n. following n named-all))) named-all)
+      (outline-reads s l) (ap isSnapshot (outline-kind s l)))
+    where
+      named-all : Outline
+      named-all = outlineOf s (reads l)
+
+      at : (b : Bool) → outlineOf s (cond b (reads l) (andThen (andThen (only (values (ascii "prev_gsn"))) (wholeAt s)) (λ n. reads (record { kind = l .kind; entries = l .entries; checksum = l .checksum; number = l .number; previous = n }))))
+          ≡ cond b named-all (outlineWhere (andThen (onceAt (met .previous)) (wholeAt s)) (λ n. following n named-all))
+      at true = refl
+      at false = named-before s l (andThen (only (values (ascii "prev_gsn"))) (wholeAt s)) ∙ ap (λ (x : Reading ℕ). outlineWhere x (λ n. following n named-all)) before-is
+
+  linked-all : (x : Reading Layout) → outlineOf s (andThen x (linkedTo s (values (ascii "prev_gsn")))) ≡ linkedOutline true s (met .previous) (outlineOf s x)
+  unfolding andThen outlineOf linkedOutline
+  linked-all (reads l) = linked-reads l
+  linked-all refused = refl
+
+  linked-out : (linked : Bool) → outlineOf s (layoutIn linked s ms) ≡ linkedOutline linked s (met .previous) (outlineIn s met)
+  unfolding layoutIn linkedOutline
+  linked-out false = layout-out
+  linked-out true = linked-all (layoutM s ms) ∙ ap (linkedOutline true s (met .previous)) layout-out
+
   -- ---- check 5
   some-is : (get : Members → Bool) (n text : List ℕ)
       → ((st : Members) (m : Pair) → get (moreMembers name s st m) ≡ (get st || (means s (m .name) n && means s (m .value) text)))
@@ -366,23 +407,23 @@ module _ (name s : List ℕ) (ms : List Pair) where
       (sym (some-is (λ (x : Members). x .«is_product») (ascii "product") name (λ st m. refl)))
 
 -- ---- the message
-module _ (name s : List ℕ) where
+module _ (linked : Bool) (name s : List ℕ) where
   abbrev heardOf : List Pair → Reading Envelope
-  heardOf ms = reads (record { ours = oursM name s ms; layout = layoutM s ms })
+  heardOf ms = reads (record { ours = oursM name s ms; layout = layoutIn linked s ms })
 
   abbrev pub toldFrom : ℕ → Reading (List Pair) → Scan
   toldFrom e x = scanOf s e (andThen x heardOf)
 
-  pub told-folds : (e : ℕ) (ms : List Pair) → toldFrom e (reads ms) ≡ scanIn s e (foldFrom (moreMembers name s) noMembers ms)
+  pub told-folds : (e : ℕ) (ms : List Pair) → toldFrom e (reads ms) ≡ scanIn linked s e (foldFrom (moreMembers name s) noMembers ms)
   unfolding andThen scanOf scanIn
-  told-folds e ms = rw (ours-out name s ms, layout-out name s ms)
+  told-folds e ms = rw (ours-out name s ms, linked-out name s ms linked)
 
-  pub told-is : (at : ℕ) → toldFrom (endOf (value 16 s at)) (objectAt 16 s (record { from = at; to = endOf (value 16 s at) })) ≡ scanAt (envelopeM name) s at
+  pub told-is : (at : ℕ) → toldFrom (endOf (value 16 s at)) (objectAt 16 s (record { from = at; to = endOf (value 16 s at) })) ≡ scanAt (envelopeM linked name) s at
   unfolding scanAt envelopeM endOf andThen
   told-is at = sym (go (value 16 s at) refl)
     where
       go : (x : End) → value 16 s at ≡ x
-          → elim x [ At e ↦ scanOf s e (envelopeM name s (record { from = at; to = e })) | Broken ↦ scanOf s 0 refused ] ≡ toldFrom (endOf x) (objectAt 16 s (record { from = at; to = endOf x }))
+          → elim x [ At e ↦ scanOf s e (envelopeM linked name s (record { from = at; to = e })) | Broken ↦ scanOf s 0 refused ] ≡ toldFrom (endOf x) (objectAt 16 s (record { from = at; to = endOf x }))
       go (At e) q = refl
       go Broken q = ap (toldFrom 0) (sym (object-broken 15 s (record { from = at; to = 0 }) q))
 
@@ -391,26 +432,26 @@ unfolding moreMembers moreBody
 members-end name s met m = refl
 
 -- the loop over its members
-abbrev pub messageLoop : List ℕ → List ℕ → Loop Pair Members Scan
-messageLoop name s = overMembers 15 s (moreMembers name s) (scanIn s) (notFramed 0)
+abbrev pub messageLoop : Bool → List ℕ → List ℕ → Loop Pair Members Scan
+messageLoop linked name s = overMembers 15 s (moreMembers name s) (scanIn linked s) (notFramed 0)
 
-module _ (name s : List ℕ) (at : ℕ) where
-  pub told-none : (byteAt s at ≡ 123 → ⊥) → {e : ℕ} → e ≡ endOf (value 16 s at) → notFramed e ≡ scanAt (envelopeM name) s at
+module _ (linked : Bool) (name s : List ℕ) (at : ℕ) where
+  pub told-none : (byteAt s at ≡ 123 → ⊥) → {e : ℕ} → e ≡ endOf (value 16 s at) → notFramed e ≡ scanAt (envelopeM linked name) s at
   unfolding scanOf andThen
-  told-none n h = ap notFramed h ∙ made-other (toldFrom name s) 15 s at n ∙ told-is name s at
+  told-none n h = ap notFramed h ∙ made-other (toldFrom linked name s) 15 s at n ∙ told-is linked name s at
 
   module _ (opens : byteAt s at ≡ 123) (e : ℕ) (h : e ≡ endOf (closing 125 s (at + 1))) where
-    pub told-empty : 0 < e → scanIn s e noMembers ≡ scanAt (envelopeM name) s at
-    told-empty p = made-empty (toldFrom name s) 15 s at opens (moreMembers name s) (scanIn s) noMembers (told-folds name s) e h p ∙ told-is name s at
+    pub told-empty : 0 < e → scanIn linked s e noMembers ≡ scanAt (envelopeM linked name) s at
+    told-empty p = made-empty (toldFrom linked name s) 15 s at opens (moreMembers name s) (scanIn linked s) noMembers (told-folds linked name s) e h p ∙ told-is linked name s at
 
-    pub told-start : e ≡ 0 → (k : ℕ) → k ≡ blanks s (at + 1) → Left (messageLoop name s) noMembers k (scanAt (envelopeM name) s at)
+    pub told-start : e ≡ 0 → (k : ℕ) → k ≡ blanks s (at + 1) → Left (messageLoop linked name s) noMembers k (scanAt (envelopeM linked name) s at)
     unfolding scanOf andThen
     told-start z k b =
-        rw (told-is name s at) at (made-start (toldFrom name s) 15 s at opens (moreMembers name s) (scanIn s) noMembers (told-folds name s) e h z k b)
+        rw (told-is linked name s at) at (made-start (toldFrom linked name s) 15 s at opens (moreMembers name s) (scanIn linked s) noMembers (told-folds linked name s) e h z k b)
 
--- the places of the two numbers' marks
+-- the places of the three numbers' marks
 abbrev pub Marked : List ℕ → Members → Type 0
-Marked s met = Placed s (met .checksum) × Placed s (met .gsn)
+Marked s met = Placed s (met .checksum) × Placed s (met .gsn) × Placed s (met .previous)
 
 pub marked-more : (name s : List ℕ) (met : Members) (n : Span) (d j e : ℕ) (next : Members) → next ≡ moreMembers name s met (record { name = n; value = record { from = j; to = endOf (value d s j) } })
     → next .body .end ≡ e → j ≤ e → e ≤ length s → Marked s met → Marked s next
@@ -420,7 +461,7 @@ marked-more name s met n d j e next h q l t p =
     let y : endOf (value d s j) ≡ e = sym (ap (λ (x : Members). x .body .end) h) ∙ q in
     let l′ : j ≤ endOf (value d s j) = omega arith in
     let t′ : endOf (value d s j) ≤ length s = omega arith in
-    rw h (placed-more s (means s n (ascii "checksum")) (met .checksum) (v .value) (p .0) l′ t′, placed-more s (means s n (ascii "gsn")) (met .gsn) (v .value) (p .1) l′ t′)
+    rw h (placed-more s (means s n (ascii "checksum")) (met .checksum) (v .value) (p .0) l′ t′, placed-more s (means s n (ascii "gsn")) (met .gsn) (v .value) (p .1) l′ t′, placed-more s (means s n (ascii "prev_gsn")) (met .previous) (v .value) (p .2) l′ t′)
 
 pub unmarked-placed : (s : List ℕ) → Marked s noMembers
-unmarked-placed s = ((omega arith, omega arith), (omega arith, omega arith))
+unmarked-placed s = ((omega arith, omega arith), (omega arith, omega arith), (omega arith, omega arith))

@@ -22,7 +22,8 @@ use Rattle.entries.specs.declared.Form.the-variants as forms
 use Rattle.entries.specs.declared.Tally.{Tally}
 use Rattle.layout.specs.Depths.{itemDepth, sideDepth}
 use Rattle.layout.specs.MemberSpans.{fewMore, noMemberSpan, withMemberSpan}
-use Rattle.layout.specs.Scan.{noOutline, outlineFrom}
+use Rattle.layout.specs.Scan.{noOutline, outlineFrom, following}
+use Rattle.layout.specs.Layout.{isSnapshot}
 use Rattle.layout.specs.declared.MemberSpan.{MemberSpan}
 use Rattle.layout.specs.declared.Outline.{Outline}
 use Rattle.layout.specs.declared.Scan.{Scan}
@@ -124,9 +125,12 @@ checksumKey = 5
 abbrev pub gsnKey : ℕ
 gsnKey = 6
 
+abbrev pub previousKey : ℕ
+previousKey = 7
+
 -- Our names, in the order of these numbers, and which of them a string means.
 abbrev pub ourNames : List (List ℕ)
-ourNames = ascii "channel" ∷ ascii "product" ∷ ascii "type" ∷ ascii "data" ∷ ascii "checksum" ∷ ascii "gsn" ∷ []
+ourNames = ascii "channel" ∷ ascii "product" ∷ ascii "type" ∷ ascii "data" ∷ ascii "checksum" ∷ ascii "gsn" ∷ ascii "prev_gsn" ∷ []
 
 unfoldable pub keyOf : List ℕ → Span → ℕ
 keyOf s a = which s a channelKey ourNames
@@ -153,6 +157,7 @@ noMembers =
       kind = noMemberSpan;
       checksum = noMemberSpan;
       gsn = noMemberSpan;
+      previous = noMemberSpan;
     }
 
 -- One member more of a message to a book of that name.
@@ -167,6 +172,7 @@ moreMembers name s met m =
       kind = onMember s (ascii "type") withMemberSpan (met .kind) m;
       checksum = onMember s (ascii "checksum") withMemberSpan (met .checksum) m;
       gsn = onMember s (ascii "gsn") withMemberSpan (met .gsn) m;
+      previous = onMember s (ascii "prev_gsn") withMemberSpan (met .previous) m;
     }
 
 pub record MoreMembers (name s : List ℕ) (met : Members) (m : Pair) (before after : List ℕ) (r : Members) : Type 0 where
@@ -204,13 +210,22 @@ outlineIn s met =
     outlineWhere (andThen (onceAt (met .kind)) (kindAt s)) (λ kind.
     bodyIn s kind met)))
 
-unfoldable pub scanIn : List ℕ → ℕ → Members → Scan
-scanIn s end met =
+-- The same for an update that has to name the sequence number before its own.
+unfoldable pub linkedOutline : Bool → List ℕ → MemberSpan → Outline → Outline
+linkedOutline linked s before o =
+    cond linked
+    (cond (o .«well_formed»)
+    (cond (isSnapshot (o .kind)) o (outlineWhere (andThen (onceAt before) (wholeAt s)) (λ n. following n o)))
+    o)
+    o
+
+unfoldable pub scanIn : Bool → List ℕ → ℕ → Members → Scan
+scanIn linked s end met =
     record {
       end = end;
       framed = true;
       ours = met .«is_book» && met .«is_product»;
-      outline = outlineIn s met;
+      outline = linkedOutline linked s (met .previous) (outlineIn s met);
     }
 
 -- A mark's place lies in the text.

@@ -9,7 +9,7 @@ use Rattle.json.specs.Names.{means}
 use Rattle.entries.specs.Places.{andThen, isString, objectAt, valuesOf, only, wholeAt, checksumAt}
 use Rattle.entries.specs.declared.Form.the-variants as forms
 use Rattle.layout.specs.Depths.{itemDepth, sideDepth}
-use Rattle.layout.specs.Layout.{printed, Layout, Envelope, entriesIn, laid}
+use Rattle.layout.specs.Layout.{isSnapshot, printed, Layout, Envelope, entriesIn, laid}
 use Rattle.layout.specs.declared.Kind.{Kind}
 use Rattle.layout.specs.declared.Kind.the-variants.{Snapshot, Update}
 
@@ -42,9 +42,19 @@ layoutM s ms =
     andThen (wholeAt s g) (λ number.
     laid kind (printed sum) number (entriesIn forms.Pair sideDepth s (ascii "bids") (ascii "asks") ds)))))))))))))
 
+-- Where updates are linked, one needs `prev_gsn` once, the sequence number before its own, written as `gsn` is; a snapshot's is passed over.
+unfoldable pub linkedTo : List ℕ → List Span → Layout → Reading Layout
+linkedTo s before l =
+    cond (isSnapshot (l .kind)) (reads l)
+    (andThen (andThen (only before) (wholeAt s)) (λ n.
+    reads (record { kind = l .kind; entries = l .entries; checksum = l .checksum; number = l .number; previous = n })))
+
+unfoldable pub layoutIn : Bool → List ℕ → List Pair → Reading Layout
+layoutIn linked s ms = cond linked (andThen (layoutM s ms) (linkedTo s (valuesOf s (ascii "prev_gsn") ms))) (layoutM s ms)
+
 -- ---- the message, to a book of that name
 
-unfoldable pub envelopeM : List ℕ → List ℕ → Span → Reading Envelope
-envelopeM name s a =
+unfoldable pub envelopeM : Bool → List ℕ → List ℕ → Span → Reading Envelope
+envelopeM linked name s a =
     andThen (objectAt maxDepth s a) (λ ms.
-    reads (record { ours = oursM name s ms; layout = layoutM s ms }))
+    reads (record { ours = oursM name s ms; layout = layoutIn linked s ms }))

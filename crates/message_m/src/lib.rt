@@ -28,6 +28,7 @@ use layout::Outline;
 use layout::SIDE_DEPTH;
 use layout::Scan;
 use layout::few_more;
+use layout::is_snapshot;
 use layout::no_member_span;
 use layout::no_outline;
 use layout::not_framed;
@@ -51,9 +52,9 @@ ghost use Prim.Native.Nat.{_≤_};
 ghost use lib.ListN.{length};
 ghost use Rattle.edit.specs.Buffer.{bufferWords};
 ghost use Rattle.entries.specs.Tally.{met as count};
-ghost use Rattle.layout.specs.Scan.{Scanned};
+ghost use Rattle.layout.specs.Scan.{Scanned, following};
 ghost use Rattle.message_m.specs.LayoutM.{envelopeM};
-ghost use Rattle.message_m.specs.Collected.{onHit, memberAt, noData, dataEnd, MoreData, DataRead, channelKey, productKey, dataKey, keyOf, MoreBody, noMembers, MoreMembers, onceAt, numbersIn, bodyIn, outlineIn, scanIn, Placed};
+ghost use Rattle.message_m.specs.Collected.{onHit, memberAt, noData, dataEnd, MoreData, DataRead, channelKey, productKey, dataKey, keyOf, MoreBody, noMembers, MoreMembers, onceAt, numbersIn, bodyIn, outlineIn, linkedOutline, scanIn, Placed};
 
 // Which of our names a member of the message has.
 const OTHER: usize = 0;
@@ -69,6 +70,8 @@ const DATA: usize = 4;
 const CHECKSUM: usize = 5;
 
 const GSN: usize = 6;
+
+const PREVIOUS: usize = 7;
 
 // The value of a member `data`.
 struct Data {
@@ -99,22 +102,31 @@ struct Members {
     kind: MemberSpan,
     checksum: MemberSpan,
     gsn: MemberSpan,
+    // The members `prev_gsn`.
+    previous: MemberSpan,
     // Whether some `channel` is `book`, and whether some `product` is the book's name.
     is_book: bool,
     is_product: bool,
 }
 
-// The message at `at`, to an M book of that name. Its entries go into the buffer.
-pub fn m_message(s: &[u8], at: usize, name: &[u8], buffer: &mut [u64; BUFFER_WORDS]) -> Scan
+// The message at `at`, to an M book of that name; `linked` says that an update has to name the sequence number before its own. Its entries
+// go into the buffer.
+pub fn m_message(
+    s: &[u8],
+    at: usize,
+    linked: bool,
+    name: &[u8],
+    buffer: &mut [u64; BUFFER_WORDS],
+) -> Scan
     requires { ⌜ length (now buffer) ≡ bufferWords ⌝ }
-    ensures { λ r. ⌜ Scanned (envelopeM (now (name .entry))) (now (s .entry)) at (now (buffer .exit)) r ⌝ }
+    ensures { λ r. ⌜ Scanned (envelopeM linked (now (name .entry))) (now (s .entry)) at (now (buffer .exit)) r ⌝ }
 {
     if byte_at(s, at) != OPEN_OBJECT {
         return not_framed(value_end(s, at, MAX_DEPTH));
     }
     let none = object_close_end(s, at + 1);
     if 0 < none {
-        return scan(s, no_members(), none);
+        return scan(s, linked, no_members(), none);
     }
     let mut i = skip_blanks(s, at + 1);
     let mut met = no_members();
@@ -140,7 +152,7 @@ pub fn m_message(s: &[u8], at: usize, name: &[u8], buffer: &mut [u64; BUFFER_WOR
             }
             // A copy is handed on, so that what the loop carries can stay in registers.
             let last = next;
-            return scan(s, last, end);
+            return scan(s, linked, last, end);
         }
         met = next;
         i = j;
@@ -164,6 +176,7 @@ fn no_members() -> Members
         kind: no_member_span(),
         checksum: no_member_span(),
         gsn: no_member_span(),
+        previous: no_member_span(),
     }
 }
 
@@ -192,6 +205,7 @@ fn more_members(
         kind: more_spans(met.kind, key, TYPE, from, to),
         checksum: more_spans(met.checksum, key, CHECKSUM, from, to),
         gsn: more_spans(met.gsn, key, GSN, from, to),
+        previous: more_spans(met.previous, key, PREVIOUS, from, to),
     }
 }
 
@@ -216,6 +230,9 @@ fn key_of(s: &[u8], from: usize, to: usize) -> usize
     }
     if is_name(s, from, to, b"gsn") {
         return GSN;
+    }
+    if is_name(s, from, to, b"prev_gsn") {
+        return PREVIOUS;
     }
     OTHER
 }
@@ -394,16 +411,47 @@ fn no_data(end: usize, before: Tally) -> Data
 }
 
 // What the members of a message that ends at `end` tell of it.
-fn scan(s: &[u8], met: Members, end: usize) -> Scan
-    requires { ⌜ Placed (now s) (met .checksum) × Placed (now s) (met .gsn) ⌝ }
-    ensures { λ r. ⌜ r ≡ scanIn (now (s .entry)) end met ⌝ }
+fn scan(s: &[u8], linked: bool, met: Members, end: usize) -> Scan
+    requires { ⌜ Placed (now s) (met .checksum) × Placed (now s) (met .gsn) × Placed (now s) (met .previous) ⌝ }
+    ensures { λ r. ⌜ r ≡ scanIn linked (now (s .entry)) end met ⌝ }
 {
+    let outline = m_outline(s, met);
     Scan {
         end,
         framed: true,
         ours: both(met.is_book, met.is_product),
-        outline: m_outline(s, met),
+        outline: linked_outline(s, linked, met.previous, outline),
     }
+}
+
+// The layout of a message, where an update may have to name the sequence number before its own.
+fn linked_outline(s: &[u8], linked: bool, previous: MemberSpan, outline: Outline) -> Outline
+    requires { ⌜ Placed (now s) previous ⌝ }
+    ensures { λ r. ⌜ r ≡ linkedOutline linked (now (s .entry)) previous outline ⌝ }
+{
+    let kind = outline.kind;
+    if linked {
+        if outline.well_formed {
+            if is_snapshot(kind) {
+                return outline;
+            }
+            return match gsn_of(s, previous) {
+                ParsedWhole::Number(number) => follow(number, outline),
+                ParsedWhole::Refused => no_outline(),
+            };
+        }
+        return outline;
+    }
+    outline
+}
+
+// The layout with the sequence number before its own.
+fn follow(previous: u64, outline: Outline) -> Outline
+    ensures { λ r. ⌜ r ≡ following previous outline ⌝ }
+{
+    let mut next = outline;
+    next.previous = previous;
+    next
 }
 
 // The layout, out of the members that were met.

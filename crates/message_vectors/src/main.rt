@@ -1,11 +1,11 @@
 // Runs the lines of standard input and writes a line for each, with what the crate `message` answers:
 //
-//     = DIALECT DEPTH NAME    the settings for what follows: a letter, digits, and the rest of the line
+//     = DIALECT DEPTH NAME    the settings for what follows, as on line 1 of the line program
 //     < MESSAGE               a message
 //     + LENGTH MESSAGE        a message with blanks at its end up to a length
 //
 // Of a message it writes the number of the first of checks 1 to 8 that fails, or 0, how many entries there are for each side, the checksum,
-// the sequence number and the entries in message order: the side's letter, then digits and code of the price and of the size. Then
+// the sequence number, in M2 the one before it, and the entries in message order: the side's letter, then digits and code of the price and of the size. Then
 // where the first bad decimal lies, and its text. Other lines are written as they are. What is to come was worked out apart from the
 // crate, by tools/message_vectors.py.
 use answer::number_of;
@@ -18,6 +18,7 @@ use layout::Outline;
 use layout::is_snapshot;
 use libc::STDIN_FILENO;
 use libc::STDOUT_FILENO;
+use line_text::read_settings;
 use lines::LINE_END;
 use lines::find;
 use message::Verdict;
@@ -103,31 +104,18 @@ fn run_line(s: &[u8], terms: Config, from: usize, to: usize) -> Config
 fn read_terms(s: &[u8], from: usize, to: usize) -> Config
     requires { ⌜ (from ≤ to) × (to ≤ length (now s)) ⌝ }
 {
-    if to - from < 2 {
-        return no_terms();
-    }
-    let c = s[from];
-    let digits = from + 2;
-    let end = find(s, digits, BLANK);
-    if to <= end {
+    let first = read_settings(&s[from..to]);
+    let dialect = first.dialect;
+    let name = first.name;
+    if to - from < name {
         return no_terms();
     }
     Config {
-        dialect: dialect_of(c),
-        depth: whole(&s[digits..end]),
-        from: end + 1,
+        dialect,
+        depth: first.depth,
+        from: from + name,
         to,
     }
-}
-
-fn dialect_of(c: u8) -> Dialect {
-    if c == b'K' {
-        return Dialect::K;
-    }
-    if c == b'M' {
-        return Dialect::M;
-    }
-    Dialect::Unknown
 }
 
 // The whole number that a text writes, or 0 where it writes none.
@@ -189,7 +177,7 @@ fn run_message(s: &[u8], terms: Config, text: &[u8]) {
 fn tell(dialect: Dialect, depth: usize, name: &[u8], text: &[u8]) {
     match message::read(dialect, depth, name, text) {
         Verdict::Fails(answer) => write_number(number_of(answer)),
-        Verdict::Passes(outline) => tell_outline(outline),
+        Verdict::Passes(outline) => tell_outline(outline, is_linked(dialect)),
     }
     tell_entries(dialect, depth, name, text);
     tell_bad(dialect, depth, name, text);
@@ -263,7 +251,16 @@ fn tell_bad(dialect: Dialect, depth: usize, name: &[u8], text: &[u8]) {
     }
 }
 
-fn tell_outline(outline: Outline) {
+// Whether an update names the sequence number before its own.
+fn is_linked(dialect: Dialect) -> bool {
+    match dialect {
+        Dialect::K => false,
+        Dialect::M(edition) => settings::is_linked(edition),
+        Dialect::Unknown => false,
+    }
+}
+
+fn tell_outline(outline: Outline, linked: bool) {
     let kind = outline.kind;
     if is_snapshot(kind) {
         write(b"0 snapshot");
@@ -280,6 +277,13 @@ fn tell_outline(outline: Outline) {
     }
     write(b" number ");
     write_number(outline.number);
+    if linked {
+        if is_snapshot(kind) {
+            return;
+        }
+        write(b" previous ");
+        write_number(outline.previous);
+    }
 }
 
 fn write(s: &[u8]) {

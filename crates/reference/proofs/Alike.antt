@@ -62,7 +62,7 @@ module _ (p q : Reference) (config : p .config ≡ q .config) (sides : p .last .
     where
       at : (d : Dialect) → textIn d p ≡ textIn d q
       at K = rw (config, sides)
-      at M = rw (config, sides, number)
+      at (M e) = rw (config, sides, number)
       at Unknown = refl
 
   respond-alike : (room : ℕ) (x : Question) → ((scope : Scope) → x ≡ howManyUpdates scope → ⊥) → respond p room x ≡ respond q room x

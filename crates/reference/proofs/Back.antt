@@ -15,9 +15,11 @@ use Rattle.decimal.specs.Limits.{Within}
 use Rattle.decimal.proofs.RoundTrip.{read-within}
 use Rattle.json.specs.Json.{Span}
 use Rattle.settings.specs.Settings.{Config, good, kept}
-use Rattle.settings.specs.Rules.{rulesOf}
+use Rattle.settings.specs.Rules.{summedIn, rulesOf}
 use Rattle.settings.specs.declared.Dialect.{Dialect}
 use Rattle.settings.specs.declared.Dialect.the-variants.{K, M, Unknown}
+use Rattle.settings.specs.declared.Edition.{Edition}
+use Rattle.settings.specs.declared.Edition.the-variants.{M1, M2}
 use Rattle.json.specs.Names.{inner}
 use Rattle.entries.specs.Rows.{Entry, isBadPrice, numberIn, numberAt, numbersAt, badPrice, badSize, badTexts}
 use Rattle.edit.specs.Edit.{PriceLevel, shownPrice, Edit, sets, removes, Numbers, editOf, isSame, forSide}
@@ -190,7 +192,7 @@ pub record Sane (p : Reference) : Type 0 where
   pub asks : SaneSide Asks (p .config .depth) (p .last .sides .asks)
   pub small : p .last .number < 10 ^ 19
   -- an M book's checksum was compared with one that a message carried
-  pub low : p .config .dialect ≡ M → checksumOf (rulesOf M) (p .last .sides) ≤ 4294967295
+  pub low : (v : Edition) → p .config .dialect ≡ M v → checksumOf (rulesOf (M v)) (p .last .sides) ≤ 4294967295
 
 empty-sane : (side : Side) (depth : ℕ) → SaneSide side depth []
 unfolding Sorted All
@@ -220,11 +222,12 @@ module _ (t : Config) (g : good t ≡ true) (side : Side) (es : List (Edit Price
       at false f x = let e = x refl in record { sorted = worked-sorted; fine = worked-fine; few = omega arith }
 
 sane-opened : (t : Config) → Sane (opened t)
-unfolding opened rulesOf checksumOf checksumText mChecksumText interleaved colonJoined crc run
-sane-opened t = record { bids = empty-sane Bids (kept t .depth); asks = empty-sane Asks (kept t .depth); small = lit< tt; low = λ e. none-low }
+unfolding opened summedIn rulesOf checksumOf checksumText mChecksumText interleaved colonJoined crc run
+sane-opened t = record { bids = empty-sane Bids (kept t .depth); asks = empty-sane Asks (kept t .depth); small = lit< tt; low = λ v e. none-low v }
   where
-    none-low : checksumOf (rulesOf M) (record { bids = []; asks = [] }) ≤ 4294967295
-    none-low = let e : checksumOf (rulesOf M) (record { bids = []; asks = [] }) ≡ 0 = refl in omega arith
+    none-low : (v : Edition) → checksumOf (rulesOf (M v)) (record { bids = []; asks = [] }) ≤ 4294967295
+    none-low M1 = let e : checksumOf (rulesOf (M M1)) (record { bids = []; asks = [] }) ≡ 0 = refl in omega arith
+    none-low M2 = let e : checksumOf (rulesOf (M M2)) (record { bids = []; asks = [] }) ≡ 0 = refl in omega arith
 
 module _ (p : Reference) (s : List ℕ) (m : Message) (q : decode (p .config) s ≡ decodes m) (a : Acceptable p m) (g : good (p .config) ≡ true) (h : Sane p) where
   u : Understood m
@@ -246,16 +249,16 @@ module _ (p : Reference) (s : List ℕ) (m : Message) (q : decode (p .config) s 
       at true e = after-sane (p .config) g Asks (editsFor Asks m) (cond (isSnapshot (m .kind)) [] (p .last .sides .asks)) (rw e (empty-sane Asks (p .config .depth))) (u .edits Asks) (a .few .1)
       at false e = after-sane (p .config) g Asks (editsFor Asks m) (cond (isSnapshot (m .kind)) [] (p .last .sides .asks)) (rw e (h .asks)) (u .edits Asks) (a .few .1)
 
-  taken-low : p .config .dialect ≡ M → checksumOf (rulesOf M) (sidesAfter p m) ≤ 4294967295
-  taken-low e = go (a .checksum)
+  taken-low : (v : Edition) → p .config .dialect ≡ M v → checksumOf (rulesOf (M v)) (sidesAfter p m) ≤ 4294967295
+  taken-low v e = go (a .checksum)
     where
-      go : Agrees (m .checksum) (checksumOf (rules p) (sidesAfter p m)) → checksumOf (rulesOf M) (sidesAfter p m) ≤ 4294967295
+      go : Agrees (m .checksum) (checksumOf (rules p) (sidesAfter p m)) → checksumOf (rulesOf (M v)) (sidesAfter p m) ≤ 4294967295
       go (carries-none c) =
           let k = said-carries (p .config) s m q .compared c .0 in
-          let z : _≡_ {A = Dialect} M K = sym e ∙ k in
-          let w : _≡_ {A = ℕ} 1 0 = ap (λ (d : Dialect). elim d [ K ↦ 0 | M ↦ 1 | Unknown ↦ 2 ]) z in
+          let z : _≡_ {A = Dialect} (M v) K = sym e ∙ k in
+          let w : _≡_ {A = ℕ} 1 0 = ap (λ (d : Dialect). elim d [ K ↦ 0 | M x ↦ 1 | Unknown ↦ 2 ]) z in
           absurd (omega arith)
-      go (the-same c) = u .low (checksumOf (rulesOf M) (sidesAfter p m)) (c ∙ ap (λ (d : Dialect). printed (checksumOf (rulesOf d) (sidesAfter p m))) e)
+      go (the-same c) = u .low (checksumOf (rulesOf (M v)) (sidesAfter p m)) (c ∙ ap (λ (d : Dialect). printed (checksumOf (rulesOf d) (sidesAfter p m))) e)
 
   sane-taken : Sane (taken p m)
   unfolding taken
@@ -351,7 +354,7 @@ bids-first bids asks = record {
 
 -- the message that a snapshot of a book is
 snapshotOf : Reference → List SidedEdit → Printed → Message
-snapshotOf p edits c = record { kind = Snapshot; edits = edits; checksum = c; number = p .last .number }
+snapshotOf p edits c = record { kind = Snapshot; edits = edits; checksum = c; number = p .last .number; previous = 0 }
 
 module _ (t : Config) (p : Reference) (r : Reached t p) (h : Sane p) (g : good t ≡ true) where
   same-terms : p .config ≡ t
@@ -398,7 +401,9 @@ module _ (t : Config) (p : Reference) (r : Reached t p) (h : Sane p) (g : good t
             ap (λ (es : List (Edit PriceLevel)). namesTwice (pricesOf es)) on-asks ∙ back-once t g Asks (p .last .sides .asks) at-asks,
           );
           newer = λ e n. absurd (true≢false (of-update n));
+          follows = λ e l n. absurd (true≢false (of-update n));
           few = rw (sides-back, open-terms) (omega arith, omega arith);
+          uncrossed = rw sides-back (r .uncrossed);
           checksum = rw (sides-back, open-terms) x;
         }
       where
@@ -440,19 +445,19 @@ module _ (t : Config) (p : Reference) (r : Reached t p) (h : Sane p) (g : good t
       let q : decode t (snapshotText p) ≡ decodes (snapshotOf p (map (setting Asks) asks ++ map (setting Bids) bids) unprinted) = ap₂ decode (sym i) x ∙ w ∙ rw n in
       read-back (map (setting Asks) asks ++ map (setting Bids) bids) (asks-first bids asks) unprinted q (carries-none refl)
 
-  m-back : t .dialect ≡ M → ReadsBack t p
+  m-back : (v : Edition) → t .dialect ≡ M v → ReadsBack t p
   unfolding snapshotOf textIn
-  m-back e =
+  m-back v e =
       let bids : List PriceLevel = p .last .sides .bids in
       let asks : List PriceLevel = p .last .sides .asks in
-      let i = in-dialect M e in
-      let d : t .depth ≡ 100 = good-depth t g .1 e in
-      let j : record { dialect = M; depth = 100; name = t .name } ≡ t = ap (λ (x : ℕ). record { dialect = M; depth = x; name = t .name }) (sym d) ∙ i in
-      let g′ : good (record { dialect = M; depth = 100; name = t .name }) ≡ true = subst (λ (x : Config). good x ≡ true) (sym j) g in
-      let sum : ℕ = checksumOf (rulesOf M) (p .last .sides) in
-      let low = h .low (ap (λ (x : Config). x .dialect) same-terms ∙ e) in
-      let w = m-round-trip (t .name) (p .last .sides .bids) (p .last .sides .asks) sum (p .last .number) g′ (back-fine t g Bids (p .last .sides .bids) at-bids) (back-fine t g Asks (p .last .sides .asks) at-asks) low (h .small) in
-      let x : snapshotText p ≡ mSnapshot (t .name) (p .last .sides .bids) (p .last .sides .asks) sum (p .last .number) = text-in M e ∙ ap (λ (y : Config). mSnapshot (y .name) (p .last .sides .bids) (p .last .sides .asks) sum (p .last .number)) same-terms in
+      let i = in-dialect (M v) e in
+      let d : t .depth ≡ 100 = good-depth t g .1 v e in
+      let j : record { dialect = M v; depth = 100; name = t .name } ≡ t = ap (λ (x : ℕ). record { dialect = M v; depth = x; name = t .name }) (sym d) ∙ i in
+      let g′ : good (record { dialect = M v; depth = 100; name = t .name }) ≡ true = subst (λ (x : Config). good x ≡ true) (sym j) g in
+      let sum : ℕ = checksumOf (rulesOf (M v)) (p .last .sides) in
+      let low = h .low v (ap (λ (x : Config). x .dialect) same-terms ∙ e) in
+      let w = m-round-trip v (t .name) (p .last .sides .bids) (p .last .sides .asks) sum (p .last .number) g′ (back-fine t g Bids (p .last .sides .bids) at-bids) (back-fine t g Asks (p .last .sides .asks) at-asks) low (h .small) in
+      let x : snapshotText p ≡ mSnapshot (t .name) (p .last .sides .bids) (p .last .sides .asks) sum (p .last .number) = text-in (M v) e ∙ ap (λ (y : Config). mSnapshot (y .name) (p .last .sides .bids) (p .last .sides .asks) sum (p .last .number)) same-terms in
       let q : decode t (snapshotText p) ≡ decodes (snapshotOf p (map (setting Bids) bids ++ map (setting Asks) asks) (printed sum)) = ap₂ decode (sym j) x ∙ w in
       read-back (map (setting Bids) bids ++ map (setting Asks) asks) (bids-first bids asks) (printed sum) q (the-same (ap (λ (x : Dialect). printed (checksumOf (rulesOf x) (p .last .sides))) (sym e)))
 
@@ -461,7 +466,7 @@ module _ (t : Config) (p : Reference) (r : Reached t p) (h : Sane p) (g : good t
     where
       go : {d : Dialect} → Readable d → t .dialect ≡ d → ReadsBack t p
       go is-k e = k-back e
-      go is-m e = m-back e
+      go (is-m v) e = m-back v e
 
 live-good : (t : Config) (p : Reference) → Reached t p → isLive (p .status) ≡ true → good t ≡ true
 unfolding opened isShut isLive

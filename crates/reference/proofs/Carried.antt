@@ -11,15 +11,17 @@ use Rattle.json.specs.Json.{Span, Pair, maxDepth}
 use Rattle.settings.specs.Settings.{Config}
 use Rattle.settings.specs.declared.Dialect.{Dialect}
 use Rattle.settings.specs.declared.Dialect.the-variants.{K, M, Unknown}
+use Rattle.settings.specs.declared.Edition.{Edition}
+use Rattle.settings.specs.Rules.{isLinked}
 use Rattle.entries.specs.Places.{andThen, all, top, arrayAt, objectAt, valuesOf, only, wholeAt, checksumAt, quotedChecksumAt}
 use Rattle.entries.specs.Rows.{Entry}
 use Rattle.entries.specs.declared.Form.the-variants as forms
 use Rattle.layout.specs.Depths.{sideDepth}
 use Rattle.layout.specs.declared.Kind.{Kind}
 use Rattle.layout.specs.declared.Kind.the-variants.{Snapshot, Update}
-use Rattle.layout.specs.Layout.{Printed, printed, unprinted, Layout, Envelope, entriesIn, laid}
+use Rattle.layout.specs.Layout.{isSnapshot as isSnapshot·l, Printed, printed, unprinted, Layout, Envelope, entriesIn, laid}
 use Rattle.message_k.specs.LayoutK.{Frame, frameOf, together, isSnapshot, isUpdate, entriesK, objectsLayout, layoutK, envelopeK}
-use Rattle.message_m.specs.LayoutM.{kindAt, layoutM, envelopeM}
+use Rattle.message_m.specs.LayoutM.{kindAt, layoutM, linkedTo, layoutIn, envelopeM}
 use Rattle.message.specs.Meaning.{Message, decodes, decode, Checked, fails, passes, envelopeIn, checked, decodedOf, messageOf}
 use Rattle.reference.specs.Claims.{Carries}
 use Rattle.reference.proofs.Checks.{Refusals, Read, Either, checked-either}
@@ -47,8 +49,8 @@ not-unprinted n h = let z : _≡_ {A = ℕ} 0 1 = cc in absurd (omega arith)
 update-not : {A : Type 0} → Update ≡ Snapshot → A
 update-not h = let z : _≡_ {A = ℕ} 0 1 = cc in absurd (omega arith)
 
-m-not-k : {A : Type 0} → M ≡ K → A
-m-not-k h = let z : _≡_ {A = ℕ} 0 1 = cc in absurd (omega arith)
+m-not-k : {A : Type 0} (e : Edition) → M e ≡ K → A
+m-not-k e h = let z : _≡_ {A = ℕ} 0 1 = cc in absurd (omega arith)
 
 objects-carry : (s : List ℕ) (objects : List (List Pair)) → Read (Carrying K) (objectsLayout s objects)
 unfolding objectsLayout
@@ -72,9 +74,9 @@ k-carries : (s : List ℕ) (f : Frame) → Read (Carrying K) (layoutK s f)
 unfolding layoutK
 k-carries s f = then-read (Carrying K) (wholeAt s (f .first)) _ (λ n. then-read (Carrying K) (all (objectAt 15 s) (f .objects)) _ (objects-carry s))
 
-m-carries : (s : List ℕ) (ms : List Pair) → Read (Carrying M) (layoutM s ms)
+m-carries : (v : Edition) (s : List ℕ) (ms : List Pair) → Read (Carrying (M v)) (layoutM s ms)
 unfolding layoutM
-m-carries s ms =
+m-carries v s ms =
     then-read P (only (valuesOf s (ascii "channel") ms)) _ (λ c.
     then-read P (only (valuesOf s (ascii "product") ms)) _ (λ p.
     then-read P (only (valuesOf s (ascii "type") ms)) _ (λ t.
@@ -87,11 +89,29 @@ m-carries s ms =
     then-read P (checksumAt s k) _ (λ sum.
     then-read P (only (valuesOf s (ascii "gsn") ms)) _ (λ g.
     then-read P (wholeAt s g) _ (λ number.
-    laid-carries M kind (printed sum) number (entriesIn forms.Pair sideDepth s (ascii "bids") (ascii "asks") ds)
-    (record { compared = λ e. not-unprinted sum e; none = λ e h. m-not-k e; number = λ e. m-not-k e })))))))))))))
+    laid-carries (M v) kind (printed sum) number (entriesIn forms.Pair sideDepth s (ascii "bids") (ascii "asks") ds)
+    (record { compared = λ e. not-unprinted sum e; none = λ e h. m-not-k v e; number = λ e. m-not-k v e })))))))))))))
   where
     P : Layout → Type 0
-    P = Carrying M
+    P = Carrying (M v)
+
+-- .. also where an update names the sequence number before its own
+linked-carries : (v : Edition) (linked : Bool) (s : List ℕ) (ms : List Pair) → Read (Carrying (M v)) (layoutIn linked s ms)
+unfolding layoutIn linkedTo andThen
+linked-carries v false s ms = m-carries v s ms
+linked-carries v true s ms = go (layoutM s ms) (m-carries v s ms)
+  where
+    before : Reading ℕ
+    before = andThen (only (valuesOf s (ascii "prev_gsn") ms)) (wholeAt s)
+
+    at : (l : Layout) (b : Bool) → Carrying (M v) l
+        → Read (Carrying (M v)) (cond b (reads l) (andThen before (λ n. reads (record { kind = l .kind; entries = l .entries; checksum = l .checksum; number = l .number; previous = n }))))
+    at l true h = h
+    at l false h = then-read (Carrying (M v)) before _ (λ n. record { compared = h .compared; none = h .none; number = h .number })
+
+    go : (x : Reading Layout) → Read (Carrying (M v)) x → Read (Carrying (M v)) (andThen x (linkedTo s (valuesOf s (ascii "prev_gsn") ms)))
+    go (reads l) h = at l (isSnapshot·l (l .kind)) h
+    go refused h = tt
 
 abbrev Heard-carries : Dialect → Envelope → Type 0
 Heard-carries d h = Read (Carrying d) (h .layout)
@@ -99,7 +119,7 @@ Heard-carries d h = Read (Carrying d) (h .layout)
 heard-carries : (d : Dialect) (t : Config) (s : List ℕ) (a : Span) → Read (Heard-carries d) (envelopeIn d t s a)
 unfolding envelopeIn envelopeK envelopeM
 heard-carries K t s a = then-read (Heard-carries K) (andThen (arrayAt maxDepth s a) frameOf) _ (k-carries s)
-heard-carries M t s a = then-read (Heard-carries M) (objectAt maxDepth s a) _ (m-carries s)
+heard-carries (M v) t s a = then-read (Heard-carries (M v)) (objectAt maxDepth s a) _ (linked-carries v (isLinked v) s)
 heard-carries Unknown t s a = tt
 
 -- ---- the message

@@ -20,7 +20,7 @@ use Rattle.layout.specs.declared.Kind.the-variants.{Snapshot, Update}
 use Rattle.reference.proofs.Snapshot.{of-snapshot, of-update}
 use Rattle.reference.proofs.Shutting as shutting·
 use Rattle.reference.proofs.Back.{reached-back}
-use Rattle.reference.specs.Claims.{Round-trip, Refused, Demand-1, Settings-decide, Ready, is-live, restarts, Acceptable, Demand-2, All-compared, call, From-snapshot, takenIn, takenOf, anySnapshot, sinceSnapshot, rebuilt, Latest-snapshot, K-number, prices, No-price}
+use Rattle.reference.specs.Claims.{Round-trip, Refused, Demand-1, Settings-decide, Ready, is-live, restarts, Acceptable, Demand-2, All-compared, call, From-snapshot, takenIn, takenOf, anySnapshot, sinceSnapshot, rebuilt, Latest-snapshot, Never-crossed, K-number, prices, No-price}
 use Rattle.reference.proofs.Carried.{said-carries}
 use Rattle.reference.proofs.Outcome.{statusAfter, Outcome, is-refused, is-accepted, outcome, acceptable-taken, ready-open, or-none}
 use Rattle.reference.proofs.Questions.{question-one, zeros-again, no-answer, no-snapshot}
@@ -202,6 +202,9 @@ latest-snapshot t cs =
       had-snapshot = ever-live t cs;
       current = current t cs;
     }
+
+pub never-crossed : Never-crossed
+never-crossed t cs = reached t cs .uncrossed
 
 pub k-number : K-number
 k-number t cs h = reached t cs .number h

@@ -1,18 +1,20 @@
 -- What a reference book does with a message: it refuses it and keeps all but its status, or takes it, and takes it exactly when it is acceptable.
 -- Assumes nothing.
-use mathlib.Core.Path.{_≡_, refl, sym, ap, _∙_}
-use mathlib.Core.List.{List}
+use mathlib.Core.Path.{_≡_, refl, sym, ap, ap₂, _∙_}
+use mathlib.Core.List.{List, [], _∷_}
 use mathlib.Core.Bool.{Bool, true, false, true≢false, false≢true, _&&_, _||_, not, cond}
 use Prim.Native.Nat.{ℕ, _≤_}
 use native.Mathlib.Omega.{arith}
-use borrow.Author.Tests.{ltb-false, le-ltb, leb-true, leb-false, lt-leb, eqb-true, eq-eqb, not-false}
+use borrow.Author.Tests.{ltb-true, ltb-false, lt-ltb, le-ltb, leb-true, leb-false, lt-leb, eqb-true, eq-eqb, not-false}
 use lib.Dec.{leb, ltb, eqb}
 use lib.ListN.{length}
+use Rattle.decimal.specs.Decimal.{value}
 use Rattle.decimal.specs.Digits.{Reading, reads, refused}
 use Rattle.settings.specs.Settings.{Config}
 use Rattle.settings.specs.declared.Rules.{Rules}
+use Rattle.edit.specs.Edit.{PriceLevel, shownPrice}
 use Rattle.edit.specs.declared.Side.the-variants.{Bids, Asks}
-use Rattle.level.specs.Side.{namesTwice}
+use Rattle.level.specs.Side.{namesTwice, crosses}
 use Rattle.entries.specs.Places.{top}
 use Rattle.layout.specs.declared.Kind.{Kind}
 use Rattle.layout.specs.declared.Kind.the-variants.{Snapshot, Update}
@@ -21,11 +23,11 @@ use Rattle.answer.specs.Answers.{answerNumber, oneOf, toMessages, isTaken, leav
 use Rattle.answer.proofs.Laws.{taken-answer}
 use Rattle.message.specs.Meaning.{Message, Decoded, refuses, decodes, decode, Checked, fails, passes, envelopeIn, checked, decodedOf}
 use Rattle.answer.specs.declared.Answer.{Answer}
-use Rattle.answer.specs.declared.Answer.the-variants.{Taken, Shut, TooLong, NotJson, NotOurs, BadLayout, TooManyEntries, BadDecimal, PriceTwice, NoSnapshot, OldNumber, TooManyLevels, WrongChecksum, NoLevel, NoRoom}
-use Rattle.reference.specs.Reference.{Status, shut, waiting, live, isShut, isLive, Reference, rules, checksumOf, editsFor, pricesOf, namesPriceTwice, lacksSnapshot, isOld, hasTooMany, differs, hasWrongChecksum, sidesAfter, verdict, taken, withStatus, refusedBy, answered, received, receive}
+use Rattle.answer.specs.declared.Answer.the-variants.{Taken, Shut, TooLong, NotJson, NotOurs, BadLayout, TooManyEntries, BadDecimal, PriceTwice, NoSnapshot, OldNumber, TooManyLevels, WrongChecksum, NoLevel, NoRoom, Crossed}
+use Rattle.reference.specs.Reference.{Status, shut, waiting, live, isShut, isLive, Sides, Reference, rules, checksumOf, editsFor, pricesOf, namesPriceTwice, lacksSnapshot, isOld, hasTooMany, hasCrossed, differs, hasWrongChecksum, sidesAfter, verdict, taken, withStatus, refusedBy, answered, received, receive}
 use Rattle.reference.proofs.Snapshot.{of-snapshot, of-update, a-snapshot, an-update}
 use Rattle.reference.proofs.Checks.{Refusals, Read, Either, checked-either}
-use Rattle.reference.specs.Claims.{Ready, is-live, restarts, Agrees, carries-none, the-same, Acceptable}
+use Rattle.reference.specs.Claims.{Ready, is-live, restarts, Agrees, carries-none, the-same, Uncrossed, Acceptable}
 
 -- ---- what a message is refused with: checks 2 to 8
 
@@ -67,7 +69,7 @@ refusal-number : (a : Answer) → refusal a ≡ true → oneOf toMessages (answe
 unfolding refusal
 refusal-number a h = rw (refusal-other a h) at h
 
--- ---- the checks 9 to 13, each as a test and as a statement
+-- ---- the checks 9 to 13 and 16, each as a test and as a statement
 
 pub or-none : (a b : Bool) → (a || b) ≡ false → (a ≡ false) × (b ≡ false)
 or-none true b h = absurd (true≢false h)
@@ -94,33 +96,50 @@ unfolding differs
 agrees-same c sum (carries-none e) = rw (e, differs)
 agrees-same c sum (the-same e) = rw (e, differs, eq-eqb sum sum refl)
 
--- whichever test holds, the first gives the verdict
-none-fits : (a b c d e : Bool)
-    → isTaken (cond a PriceTwice (cond b NoSnapshot (cond c OldNumber (cond d TooManyLevels (cond e WrongChecksum Taken))))) ≡ true
-    → (a ≡ false) × (b ≡ false) × (c ≡ false) × (d ≡ false) × (e ≡ false)
-unfolding isTaken answerNumber
-none-fits true b c d e h = absurd (false≢true h)
-none-fits false true c d e h = absurd (false≢true h)
-none-fits false false true d e h = absurd (false≢true h)
-none-fits false false false true e h = absurd (false≢true h)
-none-fits false false false false true h = absurd (false≢true h)
-none-fits false false false false false h = (refl, refl, refl, refl, refl)
+crossed-none : (s : Sides) → crosses shownPrice (s .bids) (s .asks) ≡ false → Uncrossed s
+unfolding crosses
+crossed-none s h bid ask bids asks e f =
+    let n : crosses shownPrice (bid ∷ bids) (ask ∷ asks) ≡ false = ap₂ (crosses shownPrice) (sym e) (sym f) ∙ h in
+    ltb-true (value (bid .price)) (value (ask .price)) (not-false (ltb (value (bid .price)) (value (ask .price))) n)
 
-some-fits : (a b c d e : Bool)
-    → isTaken (cond a PriceTwice (cond b NoSnapshot (cond c OldNumber (cond d TooManyLevels (cond e WrongChecksum Taken))))) ≡ false
-    → refusal (cond a PriceTwice (cond b NoSnapshot (cond c OldNumber (cond d TooManyLevels (cond e WrongChecksum Taken))))) ≡ true
+uncrossed-not : (s : Sides) → Uncrossed s → crosses shownPrice (s .bids) (s .asks) ≡ false
+unfolding crosses
+uncrossed-not s u = at (s .bids) (s .asks) refl refl
+  where
+    at : (x y : List PriceLevel) → s .bids ≡ x → s .asks ≡ y → crosses shownPrice x y ≡ false
+    at [] y e f = refl
+    at (bid ∷ x) [] e f = refl
+    at (bid ∷ x) (ask ∷ y) e f = ap not (lt-ltb (value (bid .price)) (value (ask .price)) (u bid ask x y e f))
+
+-- whichever test holds, the first gives the verdict
+none-fits : (a b c d x e : Bool)
+    → isTaken (cond a PriceTwice (cond b NoSnapshot (cond c OldNumber (cond d TooManyLevels (cond x Crossed (cond e WrongChecksum Taken)))))) ≡ true
+    → (a ≡ false) × (b ≡ false) × (c ≡ false) × (d ≡ false) × (x ≡ false) × (e ≡ false)
+unfolding isTaken answerNumber
+none-fits true b c d x e h = absurd (false≢true h)
+none-fits false true c d x e h = absurd (false≢true h)
+none-fits false false true d x e h = absurd (false≢true h)
+none-fits false false false true x e h = absurd (false≢true h)
+none-fits false false false false true e h = absurd (false≢true h)
+none-fits false false false false false true h = absurd (false≢true h)
+none-fits false false false false false false h = (refl, refl, refl, refl, refl, refl)
+
+some-fits : (a b c d x e : Bool)
+    → isTaken (cond a PriceTwice (cond b NoSnapshot (cond c OldNumber (cond d TooManyLevels (cond x Crossed (cond e WrongChecksum Taken)))))) ≡ false
+    → refusal (cond a PriceTwice (cond b NoSnapshot (cond c OldNumber (cond d TooManyLevels (cond x Crossed (cond e WrongChecksum Taken)))))) ≡ true
 unfolding refusal isTaken answerNumber oneOf
-some-fits true b c d e h = refl
-some-fits false true c d e h = refl
-some-fits false false true d e h = refl
-some-fits false false false true e h = refl
-some-fits false false false false true h = refl
-some-fits false false false false false h = absurd (true≢false h)
+some-fits true b c d x e h = refl
+some-fits false true c d x e h = refl
+some-fits false false true d x e h = refl
+some-fits false false false true x e h = refl
+some-fits false false false false true e h = refl
+some-fits false false false false false true h = refl
+some-fits false false false false false false h = absurd (true≢false h)
 
 module _ (p : Reference) (m : Message) where
   verdict-refusal : isTaken (verdict p m) ≡ false → refusal (verdict p m) ≡ true
   unfolding verdict
-  verdict-refusal h = some-fits (namesPriceTwice m) (lacksSnapshot p m) (isOld p m) (hasTooMany p m) (hasWrongChecksum p m) h
+  verdict-refusal h = some-fits (namesPriceTwice m) (lacksSnapshot p m) (isOld p m) (hasTooMany p m) (hasCrossed p m) (hasWrongChecksum p m) h
 
   ready-from : isShut (p .status) ≡ false → lacksSnapshot p m ≡ false → Ready p m
   unfolding lacksSnapshot isShut isLive
@@ -146,18 +165,24 @@ module _ (p : Reference) (m : Message) where
       at false = refl
   ready-has (restarts e k) = rw (of-snapshot k, lacksSnapshot)
 
+  new-update : isOld p m ≡ false → rules p .numbered ≡ true → m .kind ≡ Update → (leb (m .number) (p .last .number) || (rules p .linked && not (eqb (m .previous) (p .last .number)))) ≡ false
+  unfolding isOld
+  new-update h e k = rw (of-update k) at (where-rule (rules p .numbered) _ h e)
+
   verdict-acceptable : isShut (p .status) ≡ false → isTaken (verdict p m) ≡ true → Acceptable p m
-  unfolding verdict namesPriceTwice isOld hasTooMany hasWrongChecksum
+  unfolding verdict namesPriceTwice isOld hasTooMany hasCrossed hasWrongChecksum
   verdict-acceptable u h =
-      let f = none-fits (namesPriceTwice m) (lacksSnapshot p m) (isOld p m) (hasTooMany p m) (hasWrongChecksum p m) h in
+      let f = none-fits (namesPriceTwice m) (lacksSnapshot p m) (isOld p m) (hasTooMany p m) (hasCrossed p m) (hasWrongChecksum p m) h in
       record {
         ready = ready-from u (f .1);
         once = λ k. or-none (namesTwice (pricesOf (editsFor Bids m))) (namesTwice (pricesOf (editsFor Asks m))) (rw (of-snapshot k) at (f .0));
-        newer = λ e k. leb-false (m .number) (p .last .number) (rw (of-update k) at (where-rule (rules p .numbered) (not (isSnapshot (m .kind)) && leb (m .number) (p .last .number)) (f .2) e));
+        newer = λ e k. leb-false (m .number) (p .last .number) (or-none (leb (m .number) (p .last .number)) (rules p .linked && not (eqb (m .previous) (p .last .number))) (new-update (f .2) e k) .0);
+        follows = λ e l k. eqb-true (m .previous) (p .last .number) (not-false _ (where-rule (rules p .linked) (not (eqb (m .previous) (p .last .number))) (or-none (leb (m .number) (p .last .number)) (rules p .linked && not (eqb (m .previous) (p .last .number))) (new-update (f .2) e k) .1) l));
         few =
             let o = or-none (ltb (rules p .levels) (length (sidesAfter p m .bids))) (ltb (rules p .levels) (length (sidesAfter p m .asks))) (f .3) in
             (ltb-false (rules p .levels) (length (sidesAfter p m .bids)) (o .0), ltb-false (rules p .levels) (length (sidesAfter p m .asks)) (o .1));
-        checksum = differs-none (m .checksum) (checksumOf (rules p) (sidesAfter p m)) (f .4);
+        uncrossed = crossed-none (sidesAfter p m) (f .4);
+        checksum = differs-none (m .checksum) (checksumOf (rules p) (sidesAfter p m)) (f .5);
       }
 
   acceptable-once : Acceptable p m → namesPriceTwice m ≡ false
@@ -172,20 +197,27 @@ module _ (p : Reference) (m : Message) where
   unfolding isOld
   acceptable-newer a = only-where (rules p .numbered) _ (λ e. at (isSnapshot (m .kind)) refl e)
     where
-      at : (b : Bool) → isSnapshot (m .kind) ≡ b → rules p .numbered ≡ true → (not b && leb (m .number) (p .last .number)) ≡ false
+      at : (b : Bool) → isSnapshot (m .kind) ≡ b → rules p .numbered ≡ true
+          → (not b && (leb (m .number) (p .last .number) || (rules p .linked && not (eqb (m .previous) (p .last .number))))) ≡ false
       at true k e = refl
-      at false k e = lt-leb (m .number) (p .last .number) (a .newer e (an-update (m .kind) k))
+      at false k e =
+          neither _ _ (lt-leb (m .number) (p .last .number) (a .newer e (an-update (m .kind) k)))
+          (only-where (rules p .linked) _ (λ l. ap not (eq-eqb (m .previous) (p .last .number) (a .follows e l (an-update (m .kind) k)))))
 
   acceptable-few : Acceptable p m → hasTooMany p m ≡ false
   unfolding hasTooMany
   acceptable-few a =
       neither _ _ (le-ltb (rules p .levels) (length (sidesAfter p m .bids)) (a .few .0)) (le-ltb (rules p .levels) (length (sidesAfter p m .asks)) (a .few .1))
 
+  acceptable-uncrossed : Acceptable p m → hasCrossed p m ≡ false
+  unfolding hasCrossed
+  acceptable-uncrossed a = uncrossed-not (sidesAfter p m) (a .uncrossed)
+
   acceptable-verdict : Acceptable p m → verdict p m ≡ Taken
   unfolding verdict hasWrongChecksum
   acceptable-verdict a =
       let h = agrees-same (m .checksum) (checksumOf (rules p) (sidesAfter p m)) (a .checksum) in
-      rw (acceptable-once a, ready-has (a .ready), acceptable-newer a, acceptable-few a, h)
+      rw (acceptable-once a, ready-has (a .ready), acceptable-newer a, acceptable-few a, acceptable-uncrossed a, h)
 
 -- ---- a message is refused or taken
 

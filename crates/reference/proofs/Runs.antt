@@ -4,6 +4,7 @@ use mathlib.Core.Path.{_≡_, refl, sym, ap, _∙_}
 use mathlib.Core.List.{List, [], _∷_, _++_}
 use mathlib.Core.Bool.{Bool, true, false, true≢false, false≢true, _||_, cond, or-true, or-assoc, or-comm}
 use Prim.Native.Nat.{ℕ}
+use native.Mathlib.Omega.{arith}
 use Rattle.answer.proofs.Laws.{is-taken}
 use Rattle.settings.specs.Settings.{Config, kept, good}
 use Rattle.settings.specs.declared.Dialect.the-variants.{K}
@@ -12,7 +13,7 @@ use Rattle.message.specs.Meaning.{Message, Decoded, refuses, decodes, decode}
 use Rattle.answer.specs.declared.Answer.{Answer}
 use Rattle.answer.specs.declared.Answer.the-variants.{Taken}
 use Rattle.reference.specs.Reference.{Status, shut, waiting, live, isShut, isLive, Reference, opened, rules, sidesAfter, taken, After, receive, Question, Reply, Ask, message, question, does, replied, Call, repliesTo, final, withStatus}
-use Rattle.reference.specs.Claims.{Ready, is-live, restarts, Acceptable, ifAnswered, takenIn, takenOf, anySnapshot, sinceSnapshot, Begins, begins, rebuilt}
+use Rattle.reference.specs.Claims.{Ready, is-live, restarts, Uncrossed, Acceptable, ifAnswered, takenIn, takenOf, anySnapshot, sinceSnapshot, Begins, begins, rebuilt}
 use Rattle.layout.specs.Layout.{isSnapshot}
 use Rattle.layout.specs.declared.Kind.the-variants.{Snapshot}
 use Rattle.reference.proofs.Snapshot.{of-snapshot, of-update, a-snapshot}
@@ -46,12 +47,13 @@ steps p (message s) buffer = go (outcome p s)
     go (is-accepted m q a e) = moves s m q a (rw (e, q, is-taken Taken refl)) (ap (λ (x : After). x .book) e)
 steps p (question q) buffer = stays (p .status) refl (λ h. h) refl refl
 
--- ---- what every book that is reached has: the settings it was opened with, shut or not as it was opened, live only after a snapshot, in K no number
+-- ---- what every book that is reached has: the settings it was opened with, shut or not as it was opened, live only after a snapshot, not crossed, in K no number
 
 pub record Reached (t : Config) (p : Reference) : Type 0 where
   pub config : p .config ≡ kept t
   pub shut : isShut (p .status) ≡ isShut (opened t .status)
   pub had-snapshot : isLive (p .status) ≡ true → p .had-snapshot ≡ true
+  pub uncrossed : Uncrossed (p .last .sides)
   pub number : kept t .dialect ≡ K → p .last .number ≡ 0
 
 reached-taken : (t : Config) (p : Reference) (s : List ℕ) (m : Message) → decode (p .config) s ≡ decodes m → Acceptable p m → Reached t p → Reached t (taken p m)
@@ -61,6 +63,7 @@ reached-taken t p s m q a r =
       config = r .config;
       shut = sym (ready-open p m (a .ready)) ∙ r .shut;
       had-snapshot = λ h. go (a .ready);
+      uncrossed = a .uncrossed;
       number = λ k. said-carries (p .config) s m q .number (rw (r .config) k);
     }
   where
@@ -70,7 +73,7 @@ reached-taken t p s m q a r =
 
 pub reached-step : (t : Config) (p : Reference) (ask : Ask) (q : Reference) → Steps p ask q → Reached t p → Reached t q
 unfolding withStatus
-reached-step t p ask q (stays status k l n e) r = rw e (record { config = r .config; shut = k ∙ r .shut; had-snapshot = λ h. r .had-snapshot (l h); number = r .number })
+reached-step t p ask q (stays status k l n e) r = rw e (record { config = r .config; shut = k ∙ r .shut; had-snapshot = λ h. r .had-snapshot (l h); uncrossed = r .uncrossed; number = r .number })
 reached-step t p ask q (moves s m d a n e) r = rw e (reached-taken t p s m d a r)
 
 reached-final : (t : Config) (p : Reference) (cs : List Call) → Reached t p → Reached t (final p cs)
@@ -89,7 +92,14 @@ opened-waits t = at (good t)
 
 pub reached-opened : (t : Config) → Reached t (opened t)
 unfolding opened
-reached-opened t = record { config = refl; shut = refl; had-snapshot = λ h. absurd (true≢false (sym h ∙ opened-waits t)); number = λ k. refl }
+reached-opened t =
+    record {
+      config = refl;
+      shut = refl;
+      had-snapshot = λ h. absurd (true≢false (sym h ∙ opened-waits t));
+      uncrossed = λ bid ask bids asks e f. let z : _≡_ {A = ℕ} 0 1 = cc in absurd (omega arith);
+      number = λ k. refl;
+    }
 
 pub reached : (t : Config) (cs : List Call) → Reached t (final (opened t) cs)
 reached t cs = reached-final t (opened t) cs (reached-opened t)
@@ -118,7 +128,9 @@ module _ (p q : Reference) (m : Message) (k : m .kind ≡ Snapshot) (h : p .conf
         ready = r;
         once = a .once;
         newer = λ e n. absurd (true≢false (sym (of-snapshot k) ∙ of-update n));
+        follows = λ e l n. absurd (true≢false (sym (of-snapshot k) ∙ of-update n));
         few = rw (← sides-fresh, ← h) (a .few);
+        uncrossed = rw (← sides-fresh) (a .uncrossed);
         checksum = rw (← sides-fresh, ← h) (a .checksum);
       }
 

@@ -13,8 +13,8 @@ use Rattle.layout.specs.Layout.{Layout, Envelope}
 use Rattle.answer.specs.Answers.{answerNumber, isTaken}
 use Rattle.message.specs.Meaning.{Message, Decoded, refuses, decodes, decode, Checked, fails, passes, envelopeIn, checked, decodedOf}
 use Rattle.answer.specs.declared.Answer.{Answer}
-use Rattle.answer.specs.declared.Answer.the-variants.{Taken, Shut, PriceTwice, NoSnapshot, OldNumber, TooManyLevels, WrongChecksum}
-use Rattle.reference.specs.Reference.{shut, waiting, isShut, Reference, opened, namesPriceTwice, lacksSnapshot, isOld, hasTooMany, hasWrongChecksum, verdict, taken, refusedBy, answered, received, receive, stands, Question, Response, respond, refusal, replied, Ask, message, question, does, Call, final}
+use Rattle.answer.specs.declared.Answer.the-variants.{Taken, Shut, PriceTwice, NoSnapshot, OldNumber, TooManyLevels, WrongChecksum, Crossed}
+use Rattle.reference.specs.Reference.{shut, waiting, isShut, Reference, opened, namesPriceTwice, lacksSnapshot, isOld, hasTooMany, hasCrossed, hasWrongChecksum, verdict, taken, refusedBy, answered, received, receive, stands, Question, Response, respond, refusal, replied, Ask, message, question, does, Call, final}
 use Rattle.reference.specs.Claims.{Settings-decide}
 use Rattle.reference.proofs.Checks.{Refusals, Read, Either, checked-either}
 use Rattle.reference.proofs.Questions.{lacks-one}
@@ -58,15 +58,16 @@ decoded-other t s a h = go (checked t s) (checked-either Other (λ l. Unit {0}) 
 
 verdict-other : (p : Reference) (m : Message) → Other (verdict p m)
 unfolding verdict Other answerNumber
-verdict-other p m = at (namesPriceTwice m) (lacksSnapshot p m) (isOld p m) (hasTooMany p m) (hasWrongChecksum p m)
+verdict-other p m = at (namesPriceTwice m) (lacksSnapshot p m) (isOld p m) (hasTooMany p m) (hasCrossed p m) (hasWrongChecksum p m)
   where
-    at : (a b c d e : Bool) → Other (cond a PriceTwice (cond b NoSnapshot (cond c OldNumber (cond d TooManyLevels (cond e WrongChecksum Taken)))))
-    at true b c d e = refl
-    at false true c d e = refl
-    at false false true d e = refl
-    at false false false true e = refl
-    at false false false false true = refl
-    at false false false false false = refl
+    at : (a b c d x e : Bool) → Other (cond a PriceTwice (cond b NoSnapshot (cond c OldNumber (cond d TooManyLevels (cond x Crossed (cond e WrongChecksum Taken))))))
+    at true b c d x e = refl
+    at false true c d x e = refl
+    at false false true d x e = refl
+    at false false false true x e = refl
+    at false false false false true e = refl
+    at false false false false false true = refl
+    at false false false false false false = refl
 
 received-other : (p : Reference) (s : List ℕ) → isShut (p .status) ≡ false → Other (receive p s .answer)
 unfolding receive received answered refusedBy Other answerNumber

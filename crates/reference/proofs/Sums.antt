@@ -1,25 +1,16 @@
--- The checksums of K and M books, and that of no dialect. Assumes nothing.
-use mathlib.Core.Path.{_≡_, refl}
-use mathlib.Core.List.{List, [], _∷_, _++_, map}
-use lib.ListN.{take}
-use Rattle.settings.specs.Rules.{rulesOf}
-use Rattle.settings.specs.declared.Dialect.the-variants.{K, M, Unknown}
-use Rattle.text.specs.Text.{joined}
-use Rattle.edit.specs.Edit.{PriceLevel}
-use Rattle.crc32_spec.specs.Crc.{run, crc}
-use Rattle.checksum.specs.Text.{kChecksumText}
-use Rattle.checksum.specs.Sums.{kChecksum, mChecksum}
+-- The checksum of a book by which text its dialect sums. Assumes nothing.
+use mathlib.Core.Path.{_≡_}
+use Rattle.settings.specs.declared.Rules.{Rules}
+use Rattle.settings.specs.declared.SumText.the-variants.{Stripped, Interleaved}
+use Rattle.crc32_spec.specs.Crc.{crc}
+use Rattle.checksum.specs.Text.{kChecksumText, mChecksumText}
 use Rattle.reference.specs.Reference.{Sides, checksumText, checksumOf}
 
-module _ (s : Sides) where
-  pub sum-k : kChecksum (s .bids) (s .asks) ≡ checksumOf (rulesOf K) s
-  unfolding kChecksum checksumOf checksumText rulesOf
-  sum-k = refl
+module _ (r : Rules) (s : Sides) where
+  pub sum-stripped : r .text ≡ Stripped → crc (kChecksumText (r .summed) (s .bids) (s .asks)) ≡ checksumOf r s
+  unfolding checksumOf checksumText
+  sum-stripped h = rw h
 
-  pub sum-m : mChecksum (s .bids) (s .asks) ≡ checksumOf (rulesOf M) s
-  unfolding mChecksum checksumOf checksumText rulesOf
-  sum-m = refl
-
-  pub sum-none : 0 ≡ checksumOf (rulesOf Unknown) s
-  unfolding checksumOf checksumText rulesOf kChecksumText joined crc run
-  sum-none = refl
+  pub sum-interleaved : r .text ≡ Interleaved → crc (mChecksumText (r .summed) (s .bids) (s .asks)) ≡ checksumOf r s
+  unfolding checksumOf checksumText
+  sum-interleaved h = rw h

@@ -5,9 +5,11 @@ use mathlib.Core.Path.{_≡_}
 use mathlib.Core.Bool.{Bool, true, false, _&&_, _||_, cond}
 use mathlib.Core.List.{List, [], _∷_, _++_}
 use lib.ListN.{length}
+use Rattle.decimal.specs.Decimal.{value}
 use Rattle.settings.specs.Settings.{Config, good, kept}
 use Rattle.settings.specs.declared.Dialect.{Dialect}
 use Rattle.settings.specs.declared.Dialect.the-variants.{K}
+use Rattle.edit.specs.Edit.{PriceLevel}
 use Rattle.edit.specs.declared.Side.the-variants.{Bids, Asks}
 use Rattle.level.specs.Side.{namesTwice}
 use Rattle.layout.specs.Layout.{isSnapshot, Printed, printed, unprinted}
@@ -17,7 +19,7 @@ use Rattle.answer.specs.Answers.{answerNumber as numberOf, oneOf, toMessages, t
 use Rattle.message.specs.Meaning.{Message, Decoded, refuses, decodes, decode}
 use Rattle.answer.specs.declared.Answer.{Answer}
 use Rattle.answer.specs.declared.Answer.the-variants.{Taken, Shut, NoSnapshot}
-use Rattle.reference.specs.Reference.{waiting, live, withStatus, Reference, rules, isShut, isLive, opened, editsFor, sidesAfter, pricesOf, checksumOf, taken, receive, Question, write, zeros, respond, Reply, Ask, message, question, does, Call, repliesTo, final, snapshotText}
+use Rattle.reference.specs.Reference.{waiting, live, withStatus, Sides, Reference, rules, isShut, isLive, opened, editsFor, sidesAfter, pricesOf, checksumOf, taken, receive, Question, write, zeros, respond, Reply, Ask, message, question, does, Call, repliesTo, final, snapshotText}
 use Rattle.reference.specs.declared.Scope.{Scope}
 use Rattle.reference.specs.declared.Scope.the-variants.{Current, LastGood}
 
@@ -65,14 +67,22 @@ pub data Agrees (c : Printed) (sum : ℕ) : Type 0 where
   carries-none : c ≡ unprinted → Agrees c sum
   the-same : c ≡ printed sum → Agrees c sum
 
+-- Where both sides have levels, the best bid is below the best ask.
+abbrev pub Uncrossed : Sides → Type 0
+Uncrossed s = (bid ask : PriceLevel) (bids asks : List PriceLevel) → s .bids ≡ bid ∷ bids → s .asks ≡ ask ∷ asks → value (bid .price) < value (ask .price)
+
 pub record Acceptable (p : Reference) (m : Message) : Type 0 where
   pub ready : Ready p m
   -- A snapshot names no price twice on a side.
   pub once : m .kind ≡ Snapshot → (namesTwice (pricesOf (editsFor Bids m)) ≡ false) × (namesTwice (pricesOf (editsFor Asks m)) ≡ false)
   -- Where messages are numbered, an update's number is greater than the book's.
   pub newer : rules p .numbered ≡ true → m .kind ≡ Update → p .last .number < m .number
+  -- Where updates are linked too, an update names the book's number as the one before its own.
+  pub follows : rules p .numbered ≡ true → rules p .linked ≡ true → m .kind ≡ Update → m .previous ≡ p .last .number
   -- No more levels stand on a side afterwards than may.
   pub few : (length (sidesAfter p m .bids) ≤ rules p .levels) × (length (sidesAfter p m .asks) ≤ rules p .levels)
+  -- The book is not crossed afterwards.
+  pub uncrossed : Uncrossed (sidesAfter p m)
   -- A checksum, if the message carries one, is that of the book afterwards.
   pub checksum : Agrees (m .checksum) (checksumOf (rules p) (sidesAfter p m))
 
@@ -146,6 +156,11 @@ pub record Latest (t : Config) (cs : List Call) : Type 0 where
 
 abbrev pub Latest-snapshot : Type 0
 Latest-snapshot = (t : Config) (cs : List Call) → Latest t cs
+
+-- No book is ever crossed: whatever the calls, the sides of a live book are not, nor those that a waiting one keeps as last good. Rules out a crossed book whose
+-- checksum agrees, and a crossed K snapshot, which carries none.
+abbrev pub Never-crossed : Type 0
+Never-crossed = (t : Config) (cs : List Call) → Uncrossed (final (opened t) cs .last .sides)
 
 -- "A K book's number is always 0."
 abbrev pub K-number : Type 0

@@ -15,7 +15,7 @@ use Rattle.settings.specs.declared.Rules.{Rules}
 use Rattle.settings.specs.declared.SumText.{SumText}
 use Rattle.settings.specs.declared.SumText.the-variants.{Stripped, Interleaved}
 use Rattle.edit.specs.Edit.{PriceLevel, shownPrice, Edit, forSide}
-use Rattle.level.specs.Side.{namesTwice, applyAll, ranked}
+use Rattle.level.specs.Side.{namesTwice, applyAll, ranked, crosses}
 use Rattle.edit.specs.Edit.{named}
 use Rattle.edit.specs.declared.Side.{Side}
 use Rattle.edit.specs.declared.Side.the-variants.{Bids, Asks}
@@ -25,7 +25,7 @@ use Rattle.layout.specs.Layout.{isSnapshot, Printed, printed, unprinted}
 use Rattle.answer.specs.Answers.{isTaken, leavesStatus}
 use Rattle.message.specs.Meaning.{SidedEdit, Message, Decoded, refuses, decodes, decode}
 use Rattle.answer.specs.declared.Answer.{Answer}
-use Rattle.answer.specs.declared.Answer.the-variants.{Taken, Shut, TooLong, NotJson, NotOurs, BadLayout, TooManyEntries, BadDecimal, PriceTwice, NoSnapshot, OldNumber, TooManyLevels, WrongChecksum, NoLevel, NoRoom}
+use Rattle.answer.specs.declared.Answer.the-variants.{Taken, Shut, TooLong, NotJson, NotOurs, BadLayout, TooManyEntries, BadDecimal, PriceTwice, NoSnapshot, OldNumber, TooManyLevels, WrongChecksum, NoLevel, NoRoom, Crossed}
 use Rattle.writer.specs.Snapshot.{kSnapshot, mSnapshot}
 use Rattle.reference.specs.declared.Scope.{Scope}
 use Rattle.reference.specs.declared.Scope.the-variants.{Current, LastGood}
@@ -93,7 +93,7 @@ sidesAfter p m =
       asks = afterEdits (p .config) Asks (editsFor Asks m) (cond (isSnapshot (m .kind)) [] (p .last .sides .asks));
     }
 
--- ---- checks 9 to 13
+-- ---- checks 9 to 13, and 16
 
 abbrev pub pricesOf : List (Edit PriceLevel) → List Number
 pricesOf es = map (named shownPrice) es
@@ -113,13 +113,17 @@ namesPriceTwice m = isSnapshot (m .kind) && (namesTwice (pricesOf (editsFor Bids
 unfoldable pub lacksSnapshot : Reference → Message → Bool
 lacksSnapshot p m = not (isSnapshot (m .kind)) && not (isLive (p .status))
 
--- 11: an update whose sequence number is not greater
+-- 11: an update whose sequence number is not greater, or, where updates are linked, does not follow the book's
 unfoldable pub isOld : Reference → Message → Bool
-isOld p m = rules p .numbered && (not (isSnapshot (m .kind)) && leb (m .number) (p .last .number))
+isOld p m = rules p .numbered && (not (isSnapshot (m .kind)) && (leb (m .number) (p .last .number) || (rules p .linked && not (eqb (m .previous) (p .last .number)))))
 
 -- 12: too many levels on a side after the message
 unfoldable pub hasTooMany : Reference → Message → Bool
 hasTooMany p m = ltb (rules p .levels) (length (sidesAfter p m .bids)) || ltb (rules p .levels) (length (sidesAfter p m .asks))
+
+-- 16, after 12 and before 13: both sides have levels and the best bid is not below the best ask
+unfoldable pub hasCrossed : Reference → Message → Bool
+hasCrossed p m = crosses shownPrice (sidesAfter p m .bids) (sidesAfter p m .asks)
 
 -- 13: checksum differs
 unfoldable pub differs : Printed → ℕ → Bool
@@ -135,7 +139,8 @@ verdict p m =
     (cond (lacksSnapshot p m) NoSnapshot
     (cond (isOld p m) OldNumber
     (cond (hasTooMany p m) TooManyLevels
-    (cond (hasWrongChecksum p m) WrongChecksum Taken))))
+    (cond (hasCrossed p m) Crossed
+    (cond (hasWrongChecksum p m) WrongChecksum Taken)))))
 
 -- ---- a message
 
@@ -211,7 +216,7 @@ sideOf Asks p = p .last .sides .asks
 -- The text of the book as a snapshot.
 unfoldable pub textIn : Dialect → Reference → List ℕ
 textIn K p = kSnapshot (p .config .depth) (p .config .name) (p .last .sides .bids) (p .last .sides .asks)
-textIn M p = mSnapshot (p .config .name) (p .last .sides .bids) (p .last .sides .asks) (checksumOf (rulesOf M) (p .last .sides)) (p .last .number)
+textIn (M e) p = mSnapshot (p .config .name) (p .last .sides .bids) (p .last .sides .asks) (checksumOf (rulesOf (M e)) (p .last .sides)) (p .last .number)
 textIn Unknown p = []
 
 unfoldable pub snapshotText : Reference → List ℕ

@@ -6,8 +6,6 @@ use lib.Dec.{leb, eqb}
 use lib.ListN.{length, take, drop}
 use Rattle.text.specs.Words.{wordAt}
 use Rattle.decimal.specs.Words.{digitsNear, digitsPast}
-use Rattle.settings.specs.declared.Dialect.{Dialect}
-use Rattle.settings.specs.declared.Dialect.the-variants.{K, M, Unknown}
 use Rattle.edit.specs.Edit.{PriceLevel}
 use Rattle.edit.specs.declared.Side.{Side}
 use Rattle.edit.specs.declared.Side.the-variants.{Bids, Asks}
@@ -111,8 +109,3 @@ script s out = decode (length s) s out
 unfoldable pub laidIn : List Reply → List ℕ → List ℕ
 laidIn [] out = out
 laidIn (r ∷ rs) out = replyBytes r ++ laidIn rs (drop (length (replyBytes r)) out)
-
--- ---- the dialect, by its letter
-
-unfoldable pub dialectOf : ℕ → Dialect
-dialectOf c = cond (eqb c 75) K (cond (eqb c 77) M Unknown)

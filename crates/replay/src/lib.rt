@@ -10,6 +10,7 @@ mod words;
 use asking::answer;
 use asking::lay_reply;
 use book::Book;
+use line_text::read_settings;
 use settings::Dialect;
 use words::REPLY_WORDS;
 use words::call_length;
@@ -19,7 +20,8 @@ ghost use mathlib.Core.Path.{_≡_};
 ghost use Prim.Native.Nat.{_≤_};
 ghost use lib.ListN.{length};
 ghost use Rattle.book.specs.Shown.{shows, Good};
-ghost use Rattle.replay.specs.Format.{askOf, wordsLength, dialectOf};
+ghost use Rattle.replay.specs.Format.{askOf, wordsLength};
+ghost use Rattle.line_text.specs.Opening.{lineOne};
 ghost use Rattle.replay.specs.Calls.{HasHeader, Called, Replayed};
 
 // Opens a book and makes each call of a script, up to one that is cut, that names no call, or whose reply has no room
@@ -55,28 +57,13 @@ fn call(book: Book, call: &[u8], part: &mut [u8]) -> Book
     reply.book
 }
 
-// The same for C and Rust. The dialect is its letter, K or M.
+// The same for C and Rust. The settings are text, as the line program's first line has them: dialect, depth and name, one blank between.
 #[no_mangle]
-pub extern "C" fn huurqan_replay(
-    dialect: u8,
-    depth: usize,
-    name: &[u8],
-    script: &[u8],
-    out: &mut [u8],
-) -> usize
-    ensures { λ r. ⌜ Replayed (record { dialect = dialectOf dialect; depth = depth; name = now (name .entry) }) (now (script .entry)) (now (out .entry)) (now (out .exit)) r ⌝ }
+pub extern "C" fn huurqan_replay(settings: &[u8], script: &[u8], out: &mut [u8]) -> usize
+    ensures { λ r. ⌜ Replayed (lineOne (now (settings .entry))) (now (script .entry)) (now (out .entry)) (now (out .exit)) r ⌝ }
 {
-    replay(dialect_of(dialect), depth, name, script, out)
-}
-
-fn dialect_of(letter: u8) -> Dialect
-    ensures { λ r. ⌜ r ≡ dialectOf letter ⌝ }
-{
-    if letter == b'K' {
-        return Dialect::K;
-    }
-    if letter == b'M' {
-        return Dialect::M;
-    }
-    Dialect::Unknown
+    let first = read_settings(settings);
+    let dialect = first.dialect;
+    let name = first.name;
+    replay(dialect, first.depth, &settings[name..], script, out)
 }

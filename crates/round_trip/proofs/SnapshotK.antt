@@ -189,7 +189,7 @@ module _ (depth : ℕ) (name : List ℕ) (bids asks : List PriceLevel) (g : good
       (omega (arith, length-quoted name, name-short terms g))
 
   pub said-k : decode terms (kSnapshot depth name bids asks)
-      ≡ decodes (record { kind = Snapshot; edits = map (setting Asks) asks ++ map (setting Bids) bids; checksum = unprinted; number = 0 })
+      ≡ decodes (record { kind = Snapshot; edits = map (setting Asks) asks ++ map (setting Bids) bids; checksum = unprinted; number = 0; previous = 0 })
   unfolding envelopeIn rulesOf
   said-k =
       ap (decode terms) snapshot-spelled

@@ -1,7 +1,7 @@
 -- M's snapshot is read back: its text is an object of six members, one of which is an object with the two sides. Assumes nothing.
 use Prim.Native.Nat.{ℕ, _^_, _≤_, _<_}
 use mathlib.Core.Path.{_≡_, refl, ap, _∙_}
-use mathlib.Core.Bool.{true, false}
+use mathlib.Core.Bool.{true, false, Bool}
 use mathlib.Core.List.{List, [], _∷_, _++_, map, append-assoc}
 use native.Mathlib.Omega.{arith}
 use lib.ListN.{length, length-append}
@@ -16,13 +16,14 @@ use Rattle.json.specs.Json.{Span, Pair}
 use Rattle.json.specs.Names.{meaning}
 use Rattle.entries.specs.Places.{andThen, objectAt, valuesOf, only, wholeAt, checksumAt}
 use Rattle.entries.specs.declared.Form.the-variants as forms
-use Rattle.settings.specs.Rules.{rulesOf}
-use Rattle.layout.specs.Layout.{printed, memberEntries, entriesIn, laid}
+use Rattle.settings.specs.Rules.{isLinked, rulesOf}
+use Rattle.layout.specs.Layout.{isSnapshot, printed, memberEntries, entriesIn, laid}
 use Rattle.layout.specs.declared.Kind.the-variants.{Snapshot}
-use Rattle.message_m.specs.LayoutM.{someMeans, oursM, kindAt, layoutM, envelopeM}
+use Rattle.message_m.specs.LayoutM.{someMeans, oursM, kindAt, layoutM, linkedTo, layoutIn, envelopeM}
 use Rattle.message.specs.Meaning.{SidedEdit, envelopeIn, decode, decodes}
 use Rattle.settings.specs.Settings.{Config, good}
 use Rattle.settings.specs.declared.Dialect.the-variants.{M}
+use Rattle.settings.specs.declared.Edition.{Edition}
 use Rattle.edit.specs.Edit.{PriceLevel}
 use Rattle.edit.specs.declared.Side.the-variants.{Bids, Asks}
 use Rattle.writer.specs.Snapshot.{quoted, commaJoined, array, mEntry, mSnapshot}
@@ -210,22 +211,28 @@ module _ (s : List ℕ) (bids asks : List PriceLevel) (fine-bids : Each ValidLev
           the-entries .gives,
         )
 
-    heard : (a : Span) → objectAt 16 s a ≡ reads ms → HeardAs s the-edits (printed checksum) number (envelopeM name s a)
+    -- a snapshot names no sequence number before its own, and needs none
+    linked-layout : (linked : Bool) → layoutIn linked s ms ≡ reads (laidAs (the-entries .found) (printed checksum) number)
+    unfolding layoutIn linkedTo andThen isSnapshot
+    linked-layout true = rw layout
+    linked-layout false = layout
+
+    heard : (linked : Bool) (a : Span) → objectAt 16 s a ≡ reads ms → HeardAs s the-edits (printed checksum) number (envelopeM linked name s a)
     unfolding envelopeM andThen
-    heard a e = record {
+    heard linked a e = record {
       entries = the-entries .found;
-      is-heard = rw (e, ours, layout);
+      is-heard = rw (e, ours, linked-layout linked);
       carries = the-entries .matches;
     }
 
-  heard-tree : (a : Span) → Is s a (object the-tree) → HeardAs s the-edits (printed checksum) number (envelopeM name s a)
-  heard-tree a h = let g = object-at 15 the-tree (fields-good bids asks name name-is checksum number) s a h in heard (g .found) (g .matches) a (g .gives)
+  heard-tree : (linked : Bool) (a : Span) → Is s a (object the-tree) → HeardAs s the-edits (printed checksum) number (envelopeM linked name s a)
+  heard-tree linked a h = let g = object-at 15 the-tree (fields-good bids asks name name-is checksum number) s a h in heard (g .found) (g .matches) linked a (g .gives)
 
 -- ---- the claim
-module _ (name : List ℕ) (bids asks : List PriceLevel) (checksum number : ℕ) (g : good (record { dialect = M; depth = 100; name = name }) ≡ true) (fine-bids : Valid bids)
+module _ (e : Edition) (name : List ℕ) (bids asks : List PriceLevel) (checksum number : ℕ) (g : good (record { dialect = M e; depth = 100; name = name }) ≡ true) (fine-bids : Valid bids)
     (fine-asks : Valid asks) (low : checksum ≤ 4294967295) (few : number < 10 ^ 19) where
   abbrev terms : Config
-  terms = record { dialect = M; depth = 100; name = name }
+  terms = record { dialect = M e; depth = 100; name = name }
 
   abbrev the-text : List ℕ
   the-text = spelled (quoted name) (side bids) (side asks) (written checksum) (written number)
@@ -244,12 +251,12 @@ module _ (name : List ℕ) (bids asks : List PriceLevel) (checksum number : ℕ)
       (length-written 18 number few)
 
   pub said-m : decode terms (mSnapshot name bids asks checksum number)
-      ≡ decodes (record { kind = Snapshot; edits = map (setting Bids) bids ++ map (setting Asks) asks; checksum = printed checksum; number = number })
+      ≡ decodes (record { kind = Snapshot; edits = map (setting Bids) bids ++ map (setting Asks) asks; checksum = printed checksum; number = number; previous = 0 })
   unfolding envelopeIn rulesOf
   said-m =
       ap (decode terms) snapshot-spelled
       ∙ says-tree terms the-text (object (tree bids asks name checksum number))
       (spelled-tree (quoted name) (side bids) (side asks) (written checksum) (written number)) short
       (tree-reads bids asks name (name-plain terms g) checksum number) (map (setting Bids) bids ++ map (setting Asks) asks) (printed checksum) number
-      (heard-tree the-text bids asks (fine-bids .each) (fine-asks .each) name (name-plain terms g) checksum number low few)
+      (heard-tree the-text bids asks (fine-bids .each) (fine-asks .each) name (name-plain terms g) checksum number low few (isLinked e))
       (bids-first 100 bids asks (fine-bids .few) (fine-asks .few))

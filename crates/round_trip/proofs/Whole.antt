@@ -59,7 +59,7 @@ module _ (s : List ℕ) (r : Reads 16 s) where
 -- ---- the checks, in their order
 
 abbrev pub laidAs : List Entry → Printed → ℕ → Layout
-laidAs entries sum number = record { kind = Snapshot; entries = entries; checksum = sum; number = number }
+laidAs entries sum number = record { kind = Snapshot; entries = entries; checksum = sum; number = number; previous = 0 }
 
 -- it is this book's, and has the layout of a snapshot that carries these edits
 pub record HeardAs (s : List ℕ) (edits : List SidedEdit) (sum : Printed) (number : ℕ) (x : Reading Envelope) : Type 0 where
@@ -109,14 +109,14 @@ module _ (t : Config) (s : List ℕ) (short : length s ≤ rulesOf (t .dialect) 
   unfolding checked alsoDecimals decimals
   is-checked = ap (alsoDecimals s) is-framed ∙ rw (no-bad, decimals)
 
-  says-them : decode t s ≡ decodes (record { kind = Snapshot; edits = edits; checksum = sum; number = number })
+  says-them : decode t s ≡ decodes (record { kind = Snapshot; edits = edits; checksum = sum; number = number; previous = 0 })
   unfolding decode decodedOf messageOf l
   says-them = ap (decodedOf s) is-checked ∙ rw (edits-are (h .carries))
 
 -- the same of a text that is a tree of values
 pub says-tree : (t : Config) (s tree : List ℕ) → s ≡ tree → length s ≤ rulesOf (t .dialect) .longest → Reads 16 tree → (edits : List SidedEdit) (sum : Printed) (number : ℕ)
     → ((a : Span) → Is s a tree → HeardAs s edits sum number (envelopeIn (t .dialect) t s a)) → Few (rulesOf (t .dialect) .entries) edits
-    → decode t s ≡ decodes (record { kind = Snapshot; edits = edits; checksum = sum; number = number })
+    → decode t s ≡ decodes (record { kind = Snapshot; edits = edits; checksum = sum; number = number; previous = 0 })
 says-tree t s tree e short r edits sum number h few =
     let q : Reads 16 s = subst (Reads 16) (sym e) r in
     says-them t s short q edits sum number (h (top s) (subst (Is s (top s)) e (top-is s q))) few

@@ -11,6 +11,7 @@ use Rattle.edit.specs.declared.Side.{Side}
 use Rattle.edit.specs.declared.Side.the-variants.{Bids, Asks}
 use Rattle.settings.specs.Settings.{good}
 use Rattle.settings.specs.declared.Dialect.the-variants.{K, M}
+use Rattle.settings.specs.declared.Edition.{Edition}
 use Rattle.layout.specs.Layout.{printed, unprinted}
 use Rattle.layout.specs.declared.Kind.the-variants.{Snapshot}
 use Rattle.message.specs.Meaning.{SidedEdit, decode, decodes}
@@ -44,10 +45,10 @@ pub record Valid (levels : List PriceLevel) : Type 0 where
 abbrev pub K-round-trip : Type 0
 K-round-trip = (depth : ℕ) (name : List ℕ) (bids asks : List PriceLevel) → good (record { dialect = K; depth = depth; name = name }) ≡ true → Valid bids → Valid asks
     → decode (record { dialect = K; depth = depth; name = name }) (kSnapshot depth name bids asks)
-    ≡ decodes (record { kind = Snapshot; edits = map (setting Asks) asks ++ map (setting Bids) bids; checksum = unprinted; number = 0 })
+    ≡ decodes (record { kind = Snapshot; edits = map (setting Asks) asks ++ map (setting Bids) bids; checksum = unprinted; number = 0; previous = 0 })
 
 abbrev pub M-round-trip : Type 0
-M-round-trip = (name : List ℕ) (bids asks : List PriceLevel) (checksum number : ℕ) → good (record { dialect = M; depth = 100; name = name }) ≡ true → Valid bids → Valid asks
+M-round-trip = (e : Edition) (name : List ℕ) (bids asks : List PriceLevel) (checksum number : ℕ) → good (record { dialect = M e; depth = 100; name = name }) ≡ true → Valid bids → Valid asks
     → checksum ≤ 4294967295 → number < 10 ^ 19
-    → decode (record { dialect = M; depth = 100; name = name }) (mSnapshot name bids asks checksum number)
-    ≡ decodes (record { kind = Snapshot; edits = map (setting Bids) bids ++ map (setting Asks) asks; checksum = printed checksum; number = number })
+    → decode (record { dialect = M e; depth = 100; name = name }) (mSnapshot name bids asks checksum number)
+    ≡ decodes (record { kind = Snapshot; edits = map (setting Bids) bids ++ map (setting Asks) asks; checksum = printed checksum; number = number; previous = 0 })

@@ -13,6 +13,7 @@ use Rattle.settings.specs.Settings.{Config, goodDepth, nameByte, nameByt
 use Rattle.settings.specs.Kept.{padded}
 use Rattle.settings.specs.declared.Dialect.{Dialect}
 use Rattle.settings.specs.declared.Dialect.the-variants.{K, M, Unknown}
+use Rattle.settings.specs.declared.Edition.{Edition}
 
 pub k-low : (depth : ℕ) → depth < 10 → goodDepth K depth ≡ false
 unfolding goodDepth
@@ -22,9 +23,9 @@ pub k-deep : (depth : ℕ) → 10 ≤ depth → goodDepth K depth ≡ leb depth 
 unfolding goodDepth
 k-deep depth h = rw (le-leb 10 depth h)
 
-pub m-depth : (depth : ℕ) → goodDepth M depth ≡ eqb depth 100
+pub m-depth : (e : Edition) (depth : ℕ) → goodDepth (M e) depth ≡ eqb depth 100
 unfolding goodDepth
-m-depth depth = refl
+m-depth e depth = refl
 
 pub no-depth : (depth : ℕ) → goodDepth Unknown depth ≡ false
 unfolding goodDepth

@@ -7,6 +7,7 @@ use mathlib.Core.List.{List, [], _∷_}
 use Rattle.text.specs.Text.{ascii}
 use Rattle.settings.specs.declared.Dialect.{Dialect}
 use Rattle.settings.specs.declared.Dialect.the-variants.{K, M, Unknown}
+use Rattle.settings.specs.declared.Edition.the-variants.{M1, M2}
 use Rattle.settings.specs.Settings.{goodDepth, nameByte, nameBytes, goodName, good}
 
 -- dialect, depth and name, and whether they are good
@@ -26,9 +27,10 @@ table =
     settings K 10 "XBT/USD" true ∷
     settings K 100 "XBT/USD" true ∷
     settings K 101 "XBT/USD" false ∷
-    settings M 99 "BTC-VND" false ∷
-    settings M 100 "BTC-VND" true ∷
-    settings M 101 "BTC-VND" false ∷
+    settings (M M1) 99 "BTC-VND" false ∷
+    settings (M M1) 100 "BTC-VND" true ∷
+    settings (M M2) 100 "BTC-VND" true ∷
+    settings (M M2) 101 "BTC-VND" false ∷
     settings Unknown 100 "BTC-VND" false ∷
     settings K 10 "" false ∷
     settings K 10 "a" true ∷
@@ -43,4 +45,4 @@ table =
 
 examples : Each table
 unfolding table Each Holds good goodDepth goodName nameBytes nameByte
-examples = (refl, (refl, (refl, (refl, (refl, (refl, (refl, (refl, (refl, (refl, (refl, (refl, (refl, (refl, (refl, (refl, (refl, tt)))))))))))))))))
+examples = (refl, (refl, (refl, (refl, (refl, (refl, (refl, (refl, (refl, (refl, (refl, (refl, (refl, (refl, (refl, (refl, (refl, (refl, tt))))))))))))))))))

@@ -16,7 +16,7 @@ pub record Config : Type 0 where
 -- Depth is 10 to 100 for K, 100 exactly for M.
 unfoldable pub goodDepth : Dialect → ℕ → Bool
 goodDepth K depth = leb 10 depth && leb depth 100
-goodDepth M depth = eqb depth 100
+goodDepth (M e) depth = eqb depth 100
 goodDepth Unknown depth = false
 
 -- The name has 1 to 16 bytes, each 33 to 126, no quote and no backslash.

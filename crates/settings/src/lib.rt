@@ -3,12 +3,12 @@
 // Good settings are kept as they are given; any others are kept as none, of dialect `Unknown`, and a book of them is shut.
 //
 //     settings::choose(Dialect::K, 10, name)     // kept: 10 to 100 levels
-//     settings::choose(Dialect::M, 10, name)     // shut: M has 100 levels exactly
+//     settings::choose(Dialect::M(Edition::M1), 10, name)     // shut: M has 100 levels exactly
 ghost use mathlib.Core.Path.{_≡_};
 ghost use Prim.Native.Nat.{_≤_};
 ghost use lib.ListN.{length, take};
 ghost use Rattle.settings.specs.Settings.{goodDepth, nameByte, nameBytes, goodName, good};
-ghost use Rattle.settings.specs.Rules.{rulesOf};
+ghost use Rattle.settings.specs.Rules.{summedIn, isLinked, rulesOf};
 ghost use Rattle.settings.specs.Kept.{Chosen, Copied};
 
 // The longest name.
@@ -16,8 +16,16 @@ pub const MAX_NAME: usize = 16;
 
 pub enum Dialect {
     K,
-    M,
+    M(Edition),
     Unknown,
+}
+
+// What a venue that speaks M's messages sums, and how its updates follow one another.
+pub enum Edition {
+    // All levels; an update's sequence number is greater than the book's. Plain `M` means this one.
+    M1,
+    // The 25 best levels a side; an update also names the sequence number before it.
+    M2,
 }
 
 // Which text a checksum is made of.
@@ -43,6 +51,8 @@ pub struct Rules {
     pub cut: bool,
     // Whether messages have sequence numbers.
     pub numbered: bool,
+    // Whether an update names the sequence number before its own.
+    pub linked: bool,
 }
 
 // The name is the first `length` bytes of `name`.
@@ -93,15 +103,17 @@ pub fn rules_of(dialect: Dialect) -> Rules
             text: SumText::Stripped,
             cut: true,
             numbered: false,
+            linked: false,
         },
-        Dialect::M => Rules {
+        Dialect::M(edition) => Rules {
             longest: 32768,
             entries: 100,
             levels: 100,
-            summed: 100,
+            summed: summed_in(edition),
             text: SumText::Interleaved,
             cut: false,
             numbered: true,
+            linked: is_linked(edition),
         },
         Dialect::Unknown => Rules {
             longest: 0,
@@ -111,7 +123,28 @@ pub fn rules_of(dialect: Dialect) -> Rules
             text: SumText::Stripped,
             cut: false,
             numbered: false,
+            linked: false,
         },
+    }
+}
+
+// How many levels a side are summed.
+fn summed_in(edition: Edition) -> usize
+    ensures { λ r. ⌜ r ≡ summedIn edition ⌝ }
+{
+    match edition {
+        Edition::M1 => 100,
+        Edition::M2 => 25,
+    }
+}
+
+// Whether an update names the sequence number before its own.
+pub fn is_linked(edition: Edition) -> bool
+    ensures { λ r. ⌜ r ≡ isLinked edition ⌝ }
+{
+    match edition {
+        Edition::M1 => false,
+        Edition::M2 => true,
     }
 }
 
@@ -125,7 +158,7 @@ fn is_good_depth(dialect: Dialect, depth: usize) -> bool
             }
             depth <= 100
         }
-        Dialect::M => depth == 100,
+        Dialect::M(_) => depth == 100,
         Dialect::Unknown => false,
     }
 }

@@ -2,32 +2,44 @@
 //! 100 levels midway, every depth, the largest digits, names with escapes, bad
 //! first lines, long files.
 
-use crate::book::{Book, Scope, Sides, State};
+use crate::book::{Book, State};
+use crate::crossed;
 use crate::damage::BAD_DECIMALS;
 use crate::decimal::Decimal;
+use crate::linked;
 use crate::escapes::{misspell, misspelled, respell, respell_wholly, spelled, twice};
+use crate::making::{prices, prices_from, removal, set, sets, Making, AT, LARGEST, LARGEST_12};
 use crate::message::{Kind, Side, MAX_ENTRIES, MAX_MESSAGE};
 use crate::random::Random;
 use crate::seen::{BLOCK, DEPTHS};
 use crate::session::{Call, Opening, Purpose, Session};
-use crate::settings::{Dialect, Settings};
-use crate::traffic::{finished, large, respelled, size, zero, Draft, Line};
+use crate::settings::Dialect;
+use crate::traffic::{large, zero, Line};
+use crate::twelve;
 use crate::value::{key, Blanks, Value};
 
-const AT: u128 = 1 << 63;
-const LARGEST: u128 = 9_999_999_999_999_999_999;
+/// Where digits are large, with the count of decimals: 2^63 among the asks, among the bids, and the largest.
+const BASES: [(u128, u32); 5] =
+    [(AT - 150, 9), (AT - 60, 9), (LARGEST + 1 - 240, 9), (2 * AT - 150, 12), (LARGEST_12 + 1 - 240, 12)];
 
 /// One session for each depth, and some for each other end.
 pub fn sessions(random: &mut Random, purpose: Purpose) -> Vec<Session> {
     let mut all: Vec<Session> = DEPTHS.map(|depth| deep(random, purpose, depth)).collect();
     for _ in 0..4 {
         all.push(deep(random, purpose, 100));
-        all.push(overfull(random, purpose));
-        all.push(midway(random, purpose));
+        for dialect in [Dialect::M1, Dialect::M2] {
+            all.push(overfull(random, purpose, dialect));
+            all.push(midway(random, purpose, dialect));
+        }
     }
-    for dialect in [Dialect::K, Dialect::M] {
-        for base in [AT - 150, LARGEST - 250] {
+    for dialect in Dialect::ALL {
+        for base in BASES {
             all.push(digits(random, purpose, dialect, base));
+        }
+        all.extend([true, false].map(|few| crossed::session(random, purpose, dialect, few)));
+        all.push(twelve::session(random, purpose, dialect));
+        if dialect != Dialect::K {
+            all.push(linked::session(random, purpose, dialect));
         }
         all.push(bad_texts(random, purpose, dialect));
         all.extend(NAMES.map(|name| escaped(random, purpose, dialect, name)));
@@ -37,146 +49,40 @@ pub fn sessions(random: &mut Random, purpose: Purpose) -> Vec<Session> {
 
 /// One of them.
 pub fn one(random: &mut Random, purpose: Purpose) -> Session {
-    let dialect = random.pick(&[Dialect::K, Dialect::M]);
-    match random.below(7) {
+    let dialect = random.pick(&Dialect::ALL);
+    let m = random.pick(&[Dialect::M1, Dialect::M2]);
+    match random.below(10) {
         0 => {
             let depth = random.between(10, 100) as u64;
             deep(random, purpose, depth)
         }
         1 => deep(random, purpose, 100),
-        2 => overfull(random, purpose),
-        3 => midway(random, purpose),
+        2 => overfull(random, purpose, m),
+        3 => midway(random, purpose, m),
         4 => bad_texts(random, purpose, dialect),
         5 => {
             let name = random.pick(&NAMES);
             escaped(random, purpose, dialect, name)
         }
+        6 => {
+            let few = random.percent(50);
+            crossed::session(random, purpose, dialect, few)
+        }
+        7 => linked::session(random, purpose, m),
+        8 => twelve::session(random, purpose, dialect),
         _ => {
-            let base = random.pick(&[AT - 150, LARGEST - 250]);
+            let base = random.pick(&BASES);
             digits(random, purpose, dialect, base)
         }
     }
-}
-
-/// A session in the making, and the book so far.
-struct Making {
-    settings: Settings,
-    book: Book,
-    calls: Vec<Call>,
-    purpose: Purpose,
-}
-
-impl Making {
-    fn new(purpose: Purpose, dialect: Dialect, depth: u64) -> Making {
-        Making::named(purpose, dialect, depth, "XBT/USD")
-    }
-
-    fn named(purpose: Purpose, dialect: Dialect, depth: u64, name: &str) -> Making {
-        let settings = Settings { dialect, depth, name: name.as_bytes().to_vec() };
-        Making { book: Book::open(Some(settings.clone())), settings, calls: vec![], purpose }
-    }
-
-    /// The lines as a message, with the checksum of the book after it.
-    fn value(&self, random: &mut Random, kind: Kind, lines: Vec<Line>) -> Value {
-        let gsn = match kind {
-            Kind::Snapshot => random.below(1000).to_string(),
-            Kind::Update => (self.book.number + 1).to_string(),
-        };
-        let draft = finished(&self.book, Draft { kind, lines, checksum: String::new(), gsn });
-        draft.value(random, &self.settings)
-    }
-
-    fn text(&self, random: &mut Random, kind: Kind, lines: Vec<Line>) -> Vec<u8> {
-        self.value(random, kind, lines).written(random, Blanks::None)
-    }
-
-    fn push(&mut self, text: Vec<u8>) {
-        self.book.take(&text);
-        self.calls.push(Call::Message(text));
-    }
-
-    fn send(&mut self, random: &mut Random, kind: Kind, lines: Vec<Line>) {
-        let text = self.text(random, kind, lines);
-        self.push(text);
-    }
-
-    /// Everything that the book shows; to the line program, an update that changes
-    /// nothing, whose checksum says what stands.
-    fn ask(&mut self, random: &mut Random) {
-        if self.purpose == Purpose::Lines {
-            if self.book.state == State::Live {
-                self.send(random, Kind::Update, vec![]);
-            }
-            return;
-        }
-        let scope = random.pick(&[Scope::Live, Scope::LastGood]);
-        for side in Side::BOTH {
-            let count = self.book.sides.side(side).len() as u64;
-            self.calls.extend((0..=count).map(|place| Call::Level(scope, side, place)));
-        }
-        let mut room = vec![0; 2 * MAX_MESSAGE];
-        let (_, length) = self.book.write(&mut room);
-        let writer = [Call::Write(length.saturating_sub(1)), Call::Write(length)];
-        self.calls.extend([Call::Levels(scope), Call::Number(scope), Call::Updates(scope)]);
-        self.calls.extend(writer);
-    }
-
-    /// Removes the ten best levels of each side again and again: one after another, every
-    /// level of a K book comes into the checksum.
-    fn peel(&mut self, random: &mut Random) {
-        while self.book.state == State::Live && self.book.sides != Sides::default() {
-            let mut lines = Vec::new();
-            for side in Side::BOTH {
-                let best = self.book.sides.side(side).iter().take(10);
-                lines.extend(best.map(|level| removal(random, side, level.price)));
-            }
-            self.send(random, Kind::Update, lines);
-        }
-    }
-
-    fn made(self) -> Session {
-        let Settings { dialect, depth, name } = self.settings;
-        let opening = match self.purpose {
-            Purpose::Lines => Opening::Line([format!("{} {depth} ", dialect.letter()).as_bytes(), &name].concat()),
-            Purpose::Calls => Opening::Words { dialect: dialect.letter() as u8, depth, name },
-        };
-        Session { dialect, opening, calls: self.calls }
-    }
-}
-
-/// `count` different prices one after another from some base on, shuffled.
-fn prices(random: &mut Random, count: usize) -> Vec<Decimal> {
-    let base = random.pick(&[1, 95, 5_000_000_000, AT - 150, LARGEST - 250]);
-    prices_from(random, base, count)
-}
-
-fn prices_from(random: &mut Random, base: u128, count: usize) -> Vec<Decimal> {
-    let decimals = if base > AT / 2 { random.pick(&[9, 12]) } else { random.below(13) as u32 };
-    let step = |place: usize| Decimal { digits: base + place as u128, decimals };
-    let mut all: Vec<Decimal> = (0..count).map(step).collect();
-    random.shuffle(&mut all);
-    all
-}
-
-fn set(random: &mut Random, side: Side, price: Decimal) -> Line {
-    let size = if random.percent(20) { large(random).text() } else { size(random) };
-    Line { side, price: respelled(random, price, 10), size }
-}
-
-fn removal(random: &mut Random, side: Side, price: Decimal) -> Line {
-    Line { side, price: respelled(random, price, 10), size: zero(random) }
-}
-
-fn sets(random: &mut Random, side: Side, prices: &[Decimal]) -> Vec<Line> {
-    prices.iter().map(|&price| set(random, side, price)).collect()
 }
 
 /// A snapshot of 100 levels a side, cut to the depth, then 100 new ones on each:
 /// the working sides have `depth` + 100 levels.
 fn deep(random: &mut Random, purpose: Purpose, depth: u64) -> Session {
     let mut making = Making::new(purpose, Dialect::K, depth);
-    let all = Side::BOTH.map(|side| {
-        let mut prices = prices(random, 2 * MAX_ENTRIES);
+    let [bids, asks] = prices(random, 2 * MAX_ENTRIES);
+    let all = [(Side::Bid, bids), (Side::Ask, asks)].map(|(side, mut prices)| {
         // The entry that fills the working side is often the best of the new ones.
         if random.percent(70) {
             best_last(side, &mut prices[MAX_ENTRIES..]);
@@ -212,9 +118,10 @@ fn best_last(side: Side, prices: &mut [Decimal]) {
 }
 
 /// 100 levels stand in an M book and 100 more come: refused 12.
-fn overfull(random: &mut Random, purpose: Purpose) -> Session {
-    let mut making = Making::new(purpose, Dialect::M, 100);
-    let all = Side::BOTH.map(|side| (side, prices(random, 2 * MAX_ENTRIES)));
+fn overfull(random: &mut Random, purpose: Purpose, dialect: Dialect) -> Session {
+    let mut making = Making::new(purpose, dialect, 100);
+    let [bids, asks] = prices(random, 2 * MAX_ENTRIES);
+    let all = [(Side::Bid, bids), (Side::Ask, asks)];
     let lines = |random: &mut Random, from: usize, to: usize| -> Vec<Line> {
         all.iter().flat_map(|(side, prices)| sets(random, *side, &prices[from..to])).collect()
     };
@@ -235,9 +142,9 @@ fn overfull(random: &mut Random, purpose: Purpose) -> Session {
 }
 
 /// M updates that pass 100 levels and end with at most 100, or now and then with 101.
-fn midway(random: &mut Random, purpose: Purpose) -> Session {
-    let mut making = Making::new(purpose, Dialect::M, 100);
-    let all = Side::BOTH.map(|_| prices(random, 250));
+fn midway(random: &mut Random, purpose: Purpose, dialect: Dialect) -> Session {
+    let mut making = Making::new(purpose, dialect, 100);
+    let all = prices(random, 250);
     let standing = Side::BOTH.map(|_| random.pick(&[100, 100, 99, 80, 60]));
     let mut lines = Vec::new();
     for (place, side) in Side::BOTH.into_iter().enumerate() {
@@ -291,20 +198,20 @@ fn in_and_out(random: &mut Random, book: &Book, side: Side, all: &[Decimal], com
     lines
 }
 
-/// Prices and sizes of 19 digits from `base` on, taken one after another.
-fn digits(random: &mut Random, purpose: Purpose, dialect: Dialect, base: u128) -> Session {
+/// Prices and sizes of many digits from `base` on, taken one after another.
+fn digits(random: &mut Random, purpose: Purpose, dialect: Dialect, (base, decimals): (u128, u32)) -> Session {
     let depth = if dialect == Dialect::K { random.pick(&[10, 57, 100]) } else { 100 };
     let mut making = Making::new(purpose, dialect, depth);
-    let all = prices_from(random, base, 240);
-    let line = |random: &mut Random, price: Decimal| {
-        let side = random.pick(&Side::BOTH);
-        Line { side, price: price.text(), size: large(random).text() }
-    };
-    let lines = all[..100].iter().map(|&price| line(random, price)).collect();
+    let [bids, asks] = prices_from(random, base, decimals, 120);
+    let of = |side: Side, prices: Vec<Decimal>| prices.into_iter().map(move |price| (side, price));
+    let mut all: Vec<(Side, Decimal)> = of(Side::Bid, bids).chain(of(Side::Ask, asks)).collect();
+    random.shuffle(&mut all);
+    let line = |random: &mut Random, (side, price): (Side, Decimal)| Line { side, price: price.text(), size: large(random).text() };
+    let lines = all[..100].iter().map(|&one| line(random, one)).collect();
     making.send(random, Kind::Snapshot, lines);
     making.ask(random);
     for part in all[100..].chunks(5) {
-        let mut lines: Vec<Line> = part.iter().map(|&price| line(random, price)).collect();
+        let mut lines: Vec<Line> = part.iter().map(|&one| line(random, one)).collect();
         for side in Side::BOTH {
             let standing = making.book.sides.side(side);
             if standing.len() > 80 {
@@ -326,8 +233,8 @@ fn bad_texts(random: &mut Random, purpose: Purpose, dialect: Dialect) -> Session
         let kind = random.pick(&[Kind::Snapshot, Kind::Update]);
         let count = random.pick(&[1, 2, 5, MAX_ENTRIES]);
         let mut lines = Vec::new();
-        for side in Side::BOTH {
-            lines.extend(sets(random, side, &all[..count]));
+        for (place, side) in Side::BOTH.into_iter().enumerate() {
+            lines.extend(sets(random, side, &all[place][..count]));
         }
         for _ in 0..random.between(1, 4) {
             let any = random.below(2 * count);
@@ -348,7 +255,7 @@ const NAMES: [&str; 4] = ["a", "XBT/USD", "0123456789abcdef", "JKLMNO/jklmno-~!"
 /// members twice; escapes where none may be.
 fn escaped(random: &mut Random, purpose: Purpose, dialect: Dialect, name: &str) -> Session {
     let mut making = Making::named(purpose, dialect, 100, name);
-    let all = prices(random, 50);
+    let [all, _] = prices(random, 50);
     for turn in 0..96 {
         let live = making.book.state == State::Live;
         // A checksum is an update's, and its layout is looked at in a waiting book too.
@@ -399,7 +306,7 @@ fn escape_value(random: &mut Random, dialect: Dialect, tree: &mut Value) {
 pub const FIRST_LINES: [&str; 16] = [
     "first line missing", "first line empty", "first line with two blanks", "first line with a tab",
     "first line with a trailing blank", "first line with a leading blank", "first line with byte 13",
-    "first line of dialect KK", "first line of dialect M1", "first line of depth 010 or 0100",
+    "first line of dialect KK", "first line of dialect M0, M3 or M22", "first line of depth 010 or 0100",
     "first line of depth +10 or +100", "first line of a depth that is not allowed", "first line with a name of 17 bytes",
     "first line with a name with a quote", "first line with a name with a backslash", "first line without a name",
 ];
@@ -414,7 +321,7 @@ fn bad_lines(kind: usize) -> &'static [&'static str] {
         5 => &[" K 10 x", " M 100 x"],
         6 => &["K 10 x\r", "M 100 x\r", "\r", "K 10\r x", "K\r 10 x", "\rM 100 x"],
         7 => &["KK 10 x", "KK 100 x"],
-        8 => &["M1 100 x", "M1 10 x"],
+        8 => &["M0 100 x", "M3 100 x", "M22 100 x", "M 2 100 x", "M2.0 100 x", "m2 100 x"],
         9 => &["K 010 x", "M 0100 x", "K 0100 x"],
         10 => &["K +10 x", "M +100 x", "K +100 x"],
         11 => &["K 9 x", "K 101 x", "M 99 x", "M 101 x", "M 10 x", "K 0 x", "K 10.0 x", "K 1e1 x", "M -100 x", "K 18446744073709551626 x"],
@@ -432,8 +339,8 @@ pub fn bad_first_lines() -> Vec<(&'static str, Session)> {
     for (kind, name) in FIRST_LINES.iter().enumerate() {
         for line in bad_lines(kind) {
             let calls = if kind == 0 { vec![] } else { lenient(line) };
-            let dialect = if line.contains('M') { Dialect::M } else { Dialect::K };
-            all.push((*name, Session { dialect, opening: Opening::Line(line.as_bytes().to_vec()), calls }));
+            let dialect = if line.contains('M') { Dialect::M1 } else { Dialect::K };
+            all.push((*name, Session { dialect, opening: Opening(line.as_bytes().to_vec()), calls }));
         }
     }
     all
@@ -458,7 +365,7 @@ fn lenient(line: &str) -> Vec<Call> {
 /// and inputs that end there.
 pub fn files(random: &mut Random) -> Vec<Session> {
     let mut all = Vec::new();
-    for dialect in [Dialect::K, Dialect::M] {
+    for dialect in Dialect::ALL {
         for past in [-2, -1, 0, 1, 2, 700] {
             all.push(file(random, dialect, past, false));
             all.push(file(random, dialect, past, true));
@@ -471,8 +378,8 @@ pub fn files(random: &mut Random) -> Vec<Session> {
 /// bytes past the end of each block; more after it, unless the input ends there.
 fn file(random: &mut Random, dialect: Dialect, past: i64, ends: bool) -> Session {
     let mut making = Making::new(Purpose::Lines, dialect, 100);
-    let all = Side::BOTH.map(|_| prices(random, 120));
-    let mut length = format!("{} 100 XBT/USD\n", dialect.letter()).len();
+    let all = prices(random, 120);
+    let mut length = format!("{} 100 XBT/USD\n", dialect.name()).len();
     let blocks = if ends { random.between(1, 2) } else { 3 };
     for block in 1..=blocks {
         let end = (block * BLOCK).saturating_add_signed(past as isize);

@@ -8,6 +8,9 @@ use std::collections::HashMap;
 
 pub const MAX_LEVELS: usize = 100;
 
+/// The levels of a side that M2 sums.
+pub const SUMMED: usize = 25;
+
 #[derive(Clone, Copy, Debug, PartialEq, Eq)]
 pub enum State {
     Shut,
@@ -70,6 +73,14 @@ impl Sides {
         Sides { bids, asks }
     }
 
+    /// Both sides have levels, and the best bid is not below the best ask.
+    pub fn crossed(&self) -> bool {
+        match (self.bids.first(), self.asks.first()) {
+            (Some(bid), Some(ask)) => bid.price.value() >= ask.price.value(),
+            _ => false,
+        }
+    }
+
     fn cut(&mut self, depth: usize) {
         self.bids.truncate(depth);
         self.asks.truncate(depth);
@@ -78,7 +89,8 @@ impl Sides {
     pub fn checksum_text(&self, dialect: Dialect) -> String {
         match dialect {
             Dialect::K => self.text_k(),
-            Dialect::M => self.text_m(),
+            Dialect::M1 => self.text_m(usize::MAX),
+            Dialect::M2 => self.text_m(SUMMED),
         }
     }
 
@@ -91,9 +103,10 @@ impl Sides {
         best.map(|level| level.price.stripped() + &level.size.stripped()).collect()
     }
 
-    fn text_m(&self) -> String {
+    /// Of the best `most` levels of each side.
+    fn text_m(&self, most: usize) -> String {
         let mut parts = Vec::new();
-        for place in 0..self.bids.len().max(self.asks.len()) {
+        for place in 0..self.bids.len().max(self.asks.len()).min(most) {
             for side in [&self.bids, &self.asks] {
                 if let Some(level) = side.get(place) {
                     parts.push(format!("{}:{}", level.price.text(), level.size.text()));
@@ -114,14 +127,14 @@ impl Book {
     /// The answer number; the book is changed as the table says.
     pub fn take(&mut self, text: &[u8]) -> u8 {
         let Some(settings) = self.settings.clone() else { return 1 };
-        self.take_read(&settings, message::read(&settings, text))
+        self.take_read(&settings, &message::read(&settings, text))
     }
 
     /// As `take`, of a message that was read with these settings.
-    pub fn take_read(&mut self, settings: &Settings, read: Result<Message, Refusal>) -> u8 {
+    pub fn take_read(&mut self, settings: &Settings, read: &Result<Message, Refusal>) -> u8 {
         let refusal = match read {
-            Ok(message) => self.apply(settings, &message),
-            Err(refusal) => Err(refusal),
+            Ok(message) => self.apply(settings, message),
+            Err(refusal) => Err(*refusal),
         };
         match refusal {
             Ok(()) => 0,
@@ -146,19 +159,23 @@ impl Book {
         sides
     }
 
-    /// Checks 10 to 13, and the book after a taken message.
+    /// Checks 10 to 13 and 16, and the book after a taken message.
     fn apply(&mut self, settings: &Settings, message: &Message) -> Result<(), Refusal> {
         let is_update = message.kind == Kind::Update;
-        let is_m = settings.dialect == Dialect::M;
+        let is_m = settings.dialect != Dialect::K;
         if is_update && self.state != State::Live {
             return Err(10);
         }
-        if is_m && is_update && message.gsn <= self.number {
+        let wrong_previous = message.previous.is_some_and(|previous| previous != self.number);
+        if is_m && is_update && (message.gsn <= self.number || wrong_previous) {
             return Err(11);
         }
         let sides = self.after(settings, message);
         if is_m && (sides.bids.len() > MAX_LEVELS || sides.asks.len() > MAX_LEVELS) {
             return Err(12);
+        }
+        if sides.crossed() {
+            return Err(16);
         }
         if message.checksum.is_some_and(|sum| sum != sides.checksum(settings.dialect)) {
             return Err(13);
@@ -234,10 +251,10 @@ impl Book {
                 let (asks, bids) = (entries_text(&self.sides.asks, stamp), entries_text(&self.sides.bids, stamp));
                 format!("[0,{{\"as\":{asks},\"bs\":{bids}}},\"book-{depth}\",\"{name}\"]")
             }
-            Dialect::M => {
+            Dialect::M1 | Dialect::M2 => {
                 let (bids, asks) = (entries_text(&self.sides.bids, ""), entries_text(&self.sides.asks, ""));
                 let data = format!("{{\"bids\":{bids},\"asks\":{asks}}}");
-                let (sum, gsn) = (self.sides.checksum(Dialect::M), self.number);
+                let (sum, gsn) = (self.sides.checksum(settings.dialect), self.number);
                 format!("{{\"channel\":\"book\",\"product\":\"{name}\",\"type\":\"snapshot\",\"data\":{data},\"checksum\":{sum},\"gsn\":{gsn}}}")
             }
         }

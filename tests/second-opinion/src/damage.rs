@@ -5,7 +5,7 @@ use crate::escapes::{misspell, misspelled, respell, spelled, twice};
 use crate::message::{Kind, Side, MAX_ENTRIES, MAX_MESSAGE};
 use crate::random::Random;
 use crate::settings::{Dialect, Settings};
-use crate::traffic::{finished, size, zero, Draft, Line, Market};
+use crate::traffic::{finished, respelled, sides_after, size, zero, Draft, Line, Market};
 use crate::value::{key, nested, quoted, raw, stray, text, Value, NAMES};
 
 pub const BAD_DECIMALS: [&str; 31] = [
@@ -29,12 +29,14 @@ const MISNAMED: [&str; 18] = [
 
 /// One fault in the draft's texts.
 pub fn damage_draft(random: &mut Random, book: &Book, market: &Market, draft: Draft) -> Draft {
-    match (random.below(15), draft.kind) {
+    match (random.below(18), draft.kind) {
         (0 | 1, _) => bad_decimal(random, book, market, draft),
         (2, _) => zeros(random, book, market, draft),
         (3 | 4, _) | (5..=9, Kind::Snapshot) => doubled(random, book, market, draft),
         (5..=9, Kind::Update) | (10, _) => crowd(random, book, market, draft),
         (11 | 12, _) => old_gsn(random, book, draft),
+        (13, _) => cross(random, book, market, draft),
+        (14 | 15, _) => wrong_previous(random, book, draft),
         _ => wrong_checksum(random, draft),
     }
 }
@@ -89,7 +91,8 @@ fn crowd(random: &mut Random, book: &Book, market: &Market, mut draft: Draft) ->
     let side = if random.percent(50) { Side::Bid } else { Side::Ask };
     let least = random.pick(&[MAX_ENTRIES - 1, 20]);
     let wanted = random.between(least, MAX_ENTRIES + 2);
-    let wide = Market { spread: 400, middle: market.middle + 400, ..*market };
+    let spread = if side == Side::Bid { (market.middle - 1).min(400) } else { 400 };
+    let wide = Market { spread, ..*market };
     let market = if random.percent(50) { market } else { &wide };
     draft.lines.retain(|line| line.side != side);
     for _ in 0..wanted {
@@ -111,6 +114,52 @@ fn old_gsn(random: &mut Random, book: &Book, mut draft: Draft) -> Draft {
     };
     draft.gsn = number.to_string();
     draft
+}
+
+/// Another number before, or one that is none.
+fn wrong_previous(random: &mut Random, book: &Book, mut draft: Draft) -> Draft {
+    let number = book.number;
+    draft.previous = match random.below(8) {
+        0 => number.saturating_sub(1).to_string(),
+        1 => number.saturating_add(1).to_string(),
+        2 => draft.gsn.clone(),
+        3 => random.pick(&BAD_WHOLE).to_string(),
+        4 => format!("\"{number}\""),
+        5 => "9999999999999999999".to_string(),
+        6 => "0".to_string(),
+        _ => (random.next() % 1_000_000_000_000).to_string(),
+    };
+    if random.percent(20) {
+        draft = old_gsn(random, book, draft);
+    }
+    draft
+}
+
+/// A best bid at or above the best ask, mostly with the checksum of the book that it would give.
+pub fn cross(random: &mut Random, book: &Book, market: &Market, draft: Draft) -> Draft {
+    let mut draft = with_line(random, market, draft);
+    let side = random.pick(&Side::BOTH);
+    let other = if side == Side::Bid { Side::Ask } else { Side::Bid };
+    let opposite = sides_after(book, &draft).map_or(vec![], |sides| sides.side(other).to_vec());
+    let price = match opposite.first() {
+        None => {
+            let price = market.price(random, other);
+            draft.lines.push(Line { side: other, price: price.clone(), size: size(random) });
+            price
+        }
+        Some(best) => {
+            let any = random.pick(&opposite);
+            let price = random.pick(&[best.price, best.price, any.price]);
+            respelled(random, price, 40)
+        }
+    };
+    draft.lines.push(Line { side, price, size: size(random) });
+    let draft = finished(book, draft);
+    match random.below(8) {
+        0 => wrong_checksum(random, draft),
+        1 => old_gsn(random, book, draft),
+        _ => draft,
+    }
 }
 
 fn wrong_checksum(random: &mut Random, mut draft: Draft) -> Draft {
@@ -312,7 +361,7 @@ fn bad_whole(random: &mut Random, settings: &Settings, tree: &mut Value) {
             }
         }
         (_, Value::Object(members)) => {
-            let name = key(random.pick(&["gsn", "checksum"]));
+            let name = key(random.pick(&["gsn", "checksum", "prev_gsn"]));
             members.iter_mut().filter(|member| member.0 == name).for_each(|member| member.1 = bad.clone());
         }
         _ => {}

@@ -188,7 +188,7 @@ pub fn causes(dialect: Dialect) -> Vec<&'static str> {
     ];
     match dialect {
         Dialect::K => [both.as_slice(), &[CHECKSUM]].concat(),
-        Dialect::M => [both.as_slice(), &[TYPE, NO_TYPE]].concat(),
+        Dialect::M1 | Dialect::M2 => [both.as_slice(), &[TYPE, NO_TYPE]].concat(),
     }
 }
 
@@ -246,8 +246,10 @@ impl Parts<'_> {
 
     fn taken(&self, message: &[u8]) -> Vec<&'static str> {
         let mut seen = Vec::new();
-        let ours: [&[u8]; 13] =
-            [b"as", b"bs", b"a", b"b", b"c", b"channel", b"product", b"type", b"data", b"checksum", b"gsn", b"bids", b"asks"];
+        let ours: [&[u8]; 14] = [
+            b"as", b"bs", b"a", b"b", b"c", b"channel", b"product", b"type", b"data", b"checksum", b"gsn", b"bids", b"asks",
+            b"prev_gsn",
+        ];
         for key in self.keys().into_iter().filter(|key| escaped(key, message)) {
             let known = key.name(message).is_some_and(|name| ours.contains(&name.as_ref()));
             seen.push(if known { KEY } else { NO_KEY });
@@ -271,7 +273,7 @@ impl Parts<'_> {
     fn not_ours(&self, settings: &Settings, message: &[u8]) -> Vec<&'static str> {
         let channel = match settings.dialect {
             Dialect::K => settings.channel(),
-            Dialect::M => b"book".to_vec(),
+            Dialect::M1 | Dialect::M2 => b"book".to_vec(),
         };
         let is_other = |nodes: &[&Node], name: &[u8]| {
             let none = !nodes.iter().any(|node| node.is(message, name));

@@ -40,7 +40,7 @@ pub fn line(book: &mut Book, message: &[u8]) -> String {
 
 /// The session's input: first line and messages, the last one perhaps unfinished.
 pub fn input(session: &Session, finished: bool) -> Vec<u8> {
-    let mut input = session.opening.line();
+    let mut input = session.opening.line().to_vec();
     for call in &session.calls {
         if let Call::Message(message) = call {
             input.push(b'\n');

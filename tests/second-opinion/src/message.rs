@@ -50,6 +50,8 @@ pub struct Message {
     pub checksum: Option<u32>,
     /// 0 in K.
     pub gsn: u64,
+    /// The `prev_gsn` of an M2 update.
+    pub previous: Option<u64>,
 }
 
 /// A message that passed checks 2 to 7: its layout is right.
@@ -58,6 +60,7 @@ struct Layout<'a> {
     entries: Vec<Written<'a>>,
     checksum: Option<u32>,
     gsn: u64,
+    previous: Option<u64>,
 }
 
 /// The price and the size of an entry, where they stand.
@@ -78,7 +81,8 @@ pub fn read(settings: &Settings, message: &[u8]) -> Result<Message, Refusal> {
     if layout.kind == Kind::Snapshot && names_twice(&entries) {
         return Err(9);
     }
-    Ok(Message { kind: layout.kind, entries, checksum: layout.checksum, gsn: layout.gsn })
+    let Layout { kind, checksum, gsn, previous, .. } = layout;
+    Ok(Message { kind, entries, checksum, gsn, previous })
 }
 
 /// A text that breaks check 8, and where it stands, with its quotes.
@@ -119,7 +123,7 @@ fn tree(message: &[u8]) -> Result<Node, Refusal> {
 fn layout<'a>(settings: &Settings, message: &[u8], tree: &'a Node) -> Result<Layout<'a>, Refusal> {
     let layout = match settings.dialect {
         Dialect::K => layout_k(settings, message, tree)?,
-        Dialect::M => layout_m(settings, message, tree)?,
+        Dialect::M1 | Dialect::M2 => layout_m(settings, message, tree)?,
     };
     for side in [Side::Bid, Side::Ask] {
         if layout.entries.iter().filter(|entry| entry.side == side).count() > MAX_ENTRIES {
@@ -195,7 +199,7 @@ fn body_k<'a>(message: &[u8], number: &Node, objects: &'a [Node]) -> Option<Layo
         Some((_, node)) => Some(checksum(node.inner(message)?)?),
     };
     let kind = if updating { Kind::Update } else { Kind::Snapshot };
-    Some(Layout { kind, entries: entries_k(message, &objects)?, checksum, gsn: 0 })
+    Some(Layout { kind, entries: entries_k(message, &objects)?, checksum, gsn: 0, previous: None })
 }
 
 fn named_k<'a>(message: &[u8], objects: &[&'a [Member]]) -> NamedK<'a> {
@@ -243,7 +247,7 @@ fn entries_k<'a>(message: &[u8], objects: &[&'a [Member]]) -> Option<Vec<Written
     Some(entries)
 }
 
-// Dialect M.
+// Dialects M1 and M2.
 
 /// Checks 5 and 6 in M.
 fn layout_m<'a>(settings: &Settings, message: &[u8], tree: &'a Node) -> Result<Layout<'a>, Refusal> {
@@ -253,7 +257,7 @@ fn layout_m<'a>(settings: &Settings, message: &[u8], tree: &'a Node) -> Result<L
     if !some(b"channel", b"book") || !some(b"product", &settings.name) {
         return Err(5);
     }
-    body_m(message, members).ok_or(6)
+    body_m(settings.dialect, message, members).ok_or(6)
 }
 
 fn named<'a>(message: &[u8], members: &'a [Member], name: &[u8]) -> Vec<&'a Node> {
@@ -267,7 +271,7 @@ fn once<'a>(message: &[u8], members: &'a [Member], name: &[u8]) -> Option<&'a No
     }
 }
 
-fn body_m<'a>(message: &[u8], members: &'a [Member]) -> Option<Layout<'a>> {
+fn body_m<'a>(dialect: Dialect, message: &[u8], members: &'a [Member]) -> Option<Layout<'a>> {
     once(message, members, b"channel")?;
     once(message, members, b"product")?;
     let kind = match once(message, members, b"type")?.name(message)?.as_ref() {
@@ -278,10 +282,14 @@ fn body_m<'a>(message: &[u8], members: &'a [Member]) -> Option<Layout<'a>> {
     let sum = once(message, members, b"checksum")?;
     let sum = u32::try_from(whole(message, sum)?).ok()?;
     let gsn = whole(message, once(message, members, b"gsn")?)?;
+    let previous = match (dialect, kind) {
+        (Dialect::M2, Kind::Update) => Some(whole(message, once(message, members, b"prev_gsn")?)?),
+        _ => None,
+    };
     let data = once(message, members, b"data")?.members()?;
     once(message, data, b"bids")?;
     once(message, data, b"asks")?;
-    Some(Layout { kind, entries: entries_m(message, data)?, checksum: Some(sum), gsn })
+    Some(Layout { kind, entries: entries_m(message, data)?, checksum: Some(sum), gsn, previous })
 }
 
 fn entries_m<'a>(message: &[u8], data: &'a [Member]) -> Option<Vec<Written<'a>>> {

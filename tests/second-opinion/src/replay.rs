@@ -20,10 +20,8 @@ mod library {
 
     extern "C" {
         fn huurqan_replay(
-            dialect: u8,
-            depth: usize,
-            name: *const u8,
-            name_length: usize,
+            settings: *const u8,
+            settings_length: usize,
             script: *const u8,
             script_length: usize,
             out: *mut u8,
@@ -31,15 +29,14 @@ mod library {
         ) -> usize;
     }
 
+    /// The one place that says how settings are handed over: as line 1, without its end.
     pub fn run(opening: &Opening, script: &[u8], out: &mut [u8]) -> usize {
-        let (dialect, depth, name) = opening.words();
+        let settings = opening.line();
         // Pointers of empty slices are not null, and `out` is lent to this call alone.
         unsafe {
             huurqan_replay(
-                dialect,
-                depth as usize,
-                name.as_ptr(),
-                name.len(),
+                settings.as_ptr(),
+                settings.len(),
                 script.as_ptr(),
                 script.len(),
                 out.as_mut_ptr(),

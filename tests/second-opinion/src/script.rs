@@ -239,7 +239,7 @@ impl Script {
 
     fn report(&self, there: Run) -> String {
         let (ours, theirs) = (self.run(&here), self.run(there));
-        let mut report = format!("opened with {}, room of {}\n", shown(&self.opening.line()), self.out.len());
+        let mut report = format!("opened with {}, room of {}\n", shown(self.opening.line()), self.out.len());
         for part in &self.parts {
             let words: Vec<u64> = (0..6).filter(|&at| 8 * at + 8 <= part.len()).map(|at| word(part, 8 * at)).collect();
             report += &format!("call {words:?} {}\n", shown(part.get(HEADER..).unwrap_or(part)));

@@ -1,11 +1,14 @@
 //! What came up in the calls that were compared, beside the answer numbers: the
 //! ends of the rules that chance alone would rarely reach.
 
-use crate::book::{Book, Scope};
+use crate::book::{Book, Scope, Sides};
+use crate::crossed;
 use crate::escapes;
+use crate::linked;
 use crate::message::{self, BadText, Entry, Kind, Level, Message, Side};
 use crate::session::{Call, Session};
 use crate::settings::{Dialect, Settings};
+use crate::twelve;
 use std::collections::{BTreeMap, BTreeSet, HashSet};
 
 pub const FULL_K: &str = "working side of 200 levels, K, taken";
@@ -20,6 +23,9 @@ pub const SIZE_AT: &str = "size with the digits 2^63, taken";
 pub const SIZE_ABOVE: &str = "size with digits above 2^63, taken";
 pub const PRICE_SHOWN: &str = "level shown, price with the digits 2^63 or above";
 pub const SIZE_SHOWN: &str = "level shown, size with the digits 2^63 or above";
+pub const PRICE_PAST: &str = "level shown, price with digits past the ninth decimal";
+pub const SIZE_PAST: &str = "level shown, size with digits past the ninth decimal";
+pub const LONGEST: &str = "longest snapshot written";
 pub const FILE: &str = "file longer than a block";
 pub const ACROSS: &str = "file with a line across a block's end";
 pub const AT_END: &str = "file with a line end at a block's end";
@@ -36,7 +42,7 @@ const ALWAYS: [&str; 10] = [
     FULL_K, FULL_M, MIDWAY, MIDWAY_FULL, PRICE_BELOW, PRICE_AT, PRICE_ABOVE, SIZE_BELOW, SIZE_AT, SIZE_ABOVE,
 ];
 /// What a run of every call has to bring up.
-const CALLS: [&str; 2] = [PRICE_SHOWN, SIZE_SHOWN];
+const CALLS: [&str; 5] = [PRICE_SHOWN, SIZE_SHOWN, PRICE_PAST, SIZE_PAST, LONGEST];
 /// What a run against the line program has to bring up, beside the bad first lines.
 const LINES: [&str; 3] = [FILE, ACROSS, AT_END];
 /// What a run with the program for the first bad text has to bring up.
@@ -75,10 +81,12 @@ impl Seen {
     pub fn session(&mut self, session: &Session) {
         let mut book = Book::open(session.opening.settings());
         let Some(settings) = book.settings.clone() else { return };
+        self.causes(settings.dialect, linked::seen_opening(&settings, session.opening.line()));
         for call in &session.calls {
             match call {
                 Call::Message(text) => self.message(&mut book, &settings, text),
                 Call::Level(scope, side, place) => self.level(&book, *scope, *side, *place),
+                Call::Write(room) if twelve::is_longest(&book) && book.write(&mut vec![0; *room]).0 == 0 => self.count(LONGEST),
                 _ => {}
             }
         }
@@ -86,22 +94,29 @@ impl Seen {
 
     fn level(&mut self, book: &Book, scope: Scope, side: Side, place: u64) {
         let (_, level) = book.level(scope, side, place);
-        if level.price.words()[0] >= 1 << 63 {
-            self.count(PRICE_SHOWN);
-        }
-        if level.size.words()[0] >= 1 << 63 {
-            self.count(SIZE_SHOWN);
+        for (decimal, large, past) in [(level.price, PRICE_SHOWN, PRICE_PAST), (level.size, SIZE_SHOWN, SIZE_PAST)] {
+            let [digits, past_ninth, _] = decimal.words();
+            if digits >= 1 << 63 {
+                self.count(large);
+            }
+            if past_ninth > 0 {
+                self.count(past);
+            }
         }
     }
 
     fn message(&mut self, book: &mut Book, settings: &Settings, text: &[u8]) {
         let read = message::read(settings, text);
-        let worked = read.as_ref().ok().map(|message| Side::BOTH.map(|side| worked(book, message, side)));
-        let levels: Vec<Level> = read.iter().flat_map(|message| &message.entries).map(|entry| entry.level).collect();
-        let answer = book.take_read(settings, read);
-        self.causes(settings, text, answer);
-        let Some(worked) = worked else { return };
-        for (most, end) in worked {
+        let (before, number) = (book.sides.clone(), book.number);
+        let answer = book.take_read(settings, &read);
+        self.texts(settings, text, answer);
+        let Ok(message) = read else { return };
+        // A refused message leaves the sides as they were.
+        let after = if answer == 0 { book.sides.clone() } else { book.after(settings, &message) };
+        self.causes(settings.dialect, crossed::seen(settings, &message, &before, &after, answer));
+        self.causes(settings.dialect, twelve::seen(&message, &before, &after, answer));
+        self.causes(settings.dialect, linked::seen(settings, &message, number, &before, &after, answer));
+        for (most, end) in Side::BOTH.map(|side| worked(&before, &message, side)) {
             match (settings.dialect, answer) {
                 (Dialect::K, 0) => {
                     if most == 200 {
@@ -111,8 +126,8 @@ impl Seen {
                         self.depths.insert(settings.depth);
                     }
                 }
-                (Dialect::M, 12) if most == 200 => self.count(FULL_M),
-                (Dialect::M, 0) if most > 100 => {
+                (Dialect::M1 | Dialect::M2, 12) if most == 200 => self.count(FULL_M),
+                (Dialect::M1 | Dialect::M2, 0) if most > 100 => {
                     self.count(MIDWAY);
                     if end == 100 {
                         self.count(MIDWAY_FULL);
@@ -122,16 +137,21 @@ impl Seen {
             }
         }
         if answer == 0 {
-            levels.iter().for_each(|level| self.digits(level));
+            message.entries.iter().for_each(|entry| self.digits(&entry.level));
         }
     }
 
-    /// Why a message got its answer, counted for each dialect.
-    fn causes(&mut self, settings: &Settings, text: &[u8], answer: u8) {
+    /// What the texts of a message brought up.
+    fn texts(&mut self, settings: &Settings, text: &[u8], answer: u8) {
         let bad = (answer == 8).then(|| &text[message::first_bad(Some(settings), text)]);
-        for cause in escapes::seen(settings, text, answer, bad) {
-            self.count(&of_dialect(settings.dialect, cause));
-        }
+        self.causes(settings.dialect, escapes::seen(settings, text, answer, bad));
+        self.causes(settings.dialect, linked::seen_texts(settings, text, answer));
+        self.causes(settings.dialect, twelve::seen_bad(bad));
+    }
+
+    /// Why a message got its answer, counted for each dialect.
+    fn causes(&mut self, dialect: Dialect, causes: Vec<&str>) {
+        causes.into_iter().for_each(|cause| self.count(&of_dialect(dialect, cause)));
     }
 
     fn digits(&mut self, level: &Level) {
@@ -200,18 +220,21 @@ impl Seen {
 }
 
 fn of_dialect(dialect: Dialect, cause: &str) -> String {
-    format!("{}: {cause}", dialect.letter())
+    format!("{}: {cause}", dialect.name())
 }
 
 /// What every run has to bring up in each dialect.
 pub fn causes() -> Vec<String> {
-    let of = |dialect: Dialect| escapes::causes(dialect).into_iter().map(move |cause| of_dialect(dialect, cause));
+    let of = |dialect: Dialect| {
+        let all = [escapes::causes(dialect), crossed::causes(dialect), linked::causes(dialect), twelve::CAUSES.to_vec()].concat();
+        all.into_iter().map(move |cause| of_dialect(dialect, cause))
+    };
     Dialect::ALL.into_iter().flat_map(of).collect()
 }
 
 /// The most levels that a side has while the message is worked, and how many before any cut.
-fn worked(book: &Book, message: &Message, side: Side) -> (usize, usize) {
-    let standing: &[Level] = if message.kind == Kind::Update { book.sides.side(side) } else { &[] };
+fn worked(before: &Sides, message: &Message, side: Side) -> (usize, usize) {
+    let standing: &[Level] = if message.kind == Kind::Update { before.side(side) } else { &[] };
     let mut prices: HashSet<u128> = standing.iter().map(|level| level.price.value()).collect();
     let mut most = prices.len();
     for Entry { level, .. } in message.entries.iter().filter(|entry| entry.side == side) {

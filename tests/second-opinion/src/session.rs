@@ -1,7 +1,7 @@
 //! Sessions: an opening and the calls to one book, right ones and damaged ones.
 
 use crate::book::{Book, Scope, State};
-use crate::damage::{damage_bytes, damage_draft, damage_tree, pad};
+use crate::damage::{cross, damage_bytes, damage_draft, damage_tree, pad};
 use crate::escapes::respell;
 use crate::message::{Kind, Side};
 use crate::random::Random;
@@ -20,42 +20,17 @@ pub enum Call {
     Write(usize),
 }
 
-/// What a book is opened with, good or bad.
+/// What a book is opened with, good or bad: line 1, without its end.
 #[derive(Clone, Debug)]
-pub enum Opening {
-    /// The first line of the line program.
-    Line(Vec<u8>),
-    Words { dialect: u8, depth: u64, name: Vec<u8> },
-}
+pub struct Opening(pub Vec<u8>);
 
 impl Opening {
     pub fn settings(&self) -> Option<Settings> {
-        match self {
-            Opening::Line(line) => Settings::of_line(line),
-            Opening::Words { dialect: b'K', depth, name } => Settings::good(Dialect::K, *depth, name),
-            Opening::Words { dialect: b'M', depth, name } => Settings::good(Dialect::M, *depth, name),
-            Opening::Words { .. } => None,
-        }
+        Settings::of_line(&self.0)
     }
 
-    /// Dialect, depth and name; a bad line gives bad ones.
-    pub fn words(&self) -> (u8, u64, Vec<u8>) {
-        match self {
-            Opening::Words { dialect, depth, name } => (*dialect, *depth, name.clone()),
-            Opening::Line(line) => match Settings::of_line(line) {
-                Some(settings) => (settings.dialect.letter() as u8, settings.depth, settings.name),
-                None => (0, 0, vec![]),
-            },
-        }
-    }
-
-    pub fn line(&self) -> Vec<u8> {
-        match self {
-            Opening::Line(line) => line.clone(),
-            Opening::Words { dialect, depth, name } => {
-                [&[*dialect], format!(" {depth} ").as_bytes(), name].concat()
-            }
-        }
+    pub fn line(&self) -> &[u8] {
+        &self.0
     }
 }
 
@@ -98,16 +73,16 @@ const GOOD_NAMES: [&str; 8] = ["BTC-VND", "XBT/USD", "a", "0123456789abcdef", "i
 const BAD_LINES: [&str; 24] = [
     "", " ", "K", "K 10", "K 10 ", "K 9 a", "K 101 a", "M 99 a", "M 101 a", "M 10 a", "L 10 a", "k 10 a", "K  10 a",
     "K 10  a", "K 10 a ", "K 010 a", "K +10 a", "K 10.0 a", "K\t10 a", "K 10 a\r", "K 18446744073709551626 a",
-    "M 100 0123456789abcdefg", "M 1e2 a", "M 0100 a",
+    "M 100 0123456789abcdefg", "M2 1e2 a", "M 0100 a",
 ];
 
 /// A session of `length` calls.
 pub fn session(random: &mut Random, purpose: Purpose, length: usize) -> Session {
-    let dialect = if random.percent(50) { Dialect::K } else { Dialect::M };
-    let opening = match purpose {
-        Purpose::Lines => Opening::Line(first_line(random, dialect)),
+    let dialect = random.pick(&[Dialect::K, Dialect::K, Dialect::K, Dialect::M1, Dialect::M1, Dialect::M2, Dialect::M2]);
+    let opening = Opening(match purpose {
+        Purpose::Lines => first_line(random, dialect),
         Purpose::Calls => words(random, dialect),
-    };
+    });
     let mut book = Book::open(opening.settings());
     let mut source = Source { market: Market::new(random), purpose, damage: random.pick(&[3, 15, 15, 40]) };
     let mut calls = Vec::new();
@@ -127,34 +102,43 @@ fn good_depth(random: &mut Random, dialect: Dialect) -> u64 {
     match dialect {
         Dialect::K if random.percent(50) => random.between(10, 100) as u64,
         Dialect::K => random.pick(&[10, 10, 11, 99, 100]),
-        Dialect::M => 100,
+        Dialect::M1 | Dialect::M2 => 100,
     }
 }
 
-/// Settings that are good, or now and then bad.
-fn words(random: &mut Random, dialect: Dialect) -> Opening {
-    let mut letter = dialect.letter() as u8;
+/// The dialect as settings say it.
+fn spelled(random: &mut Random, dialect: Dialect) -> &'static str {
+    match dialect {
+        Dialect::M1 => random.pick(&["M", "M1"]),
+        _ => dialect.name(),
+    }
+}
+
+/// Settings that are good, or now and then bad, with any bytes.
+fn words(random: &mut Random, dialect: Dialect) -> Vec<u8> {
+    let mut letters = spelled(random, dialect).as_bytes().to_vec();
     let mut depth = good_depth(random, dialect);
     let mut name = random.pick(&GOOD_NAMES).as_bytes().to_vec();
     if random.percent(10) {
-        match random.below(4) {
-            0 => letter = (random.next() % 256) as u8,
-            1 => depth = random.pick(&[0, 9, 10, 99, 100, 101, 256 + 100, (1 << 32) + 100, u64::MAX]),
-            2 => name = vec![b'n'; random.pick(&[0, 1, 15, 16, 17, 255, 256, 257, 272, 40_000])],
+        match random.below(5) {
+            0 => letters = vec![(random.next() % 256) as u8],
+            1 => letters.push(random.pick(b"0123 KM")),
+            2 => depth = random.pick(&[0, 9, 10, 99, 100, 101, 256 + 100, (1 << 32) + 100, u64::MAX]),
+            3 => name = vec![b'n'; random.pick(&[0, 1, 15, 16, 17, 255, 256, 257, 272, 40_000])],
             _ => {
                 let place = random.below(name.len());
                 name[place] = (random.next() % 256) as u8;
             }
         }
     }
-    Opening::Words { dialect: letter, depth, name }
+    [letters.as_slice(), format!(" {depth} ").as_bytes(), name.as_slice()].concat()
 }
 
-/// The first line: settings that are good, or now and then bad.
+/// The first line: settings that are good, or now and then bad, without line ends.
 fn first_line(random: &mut Random, dialect: Dialect) -> Vec<u8> {
     let depth = good_depth(random, dialect);
     let name = random.pick(&GOOD_NAMES).as_bytes();
-    let letter = dialect.letter();
+    let letter = spelled(random, dialect);
     if random.percent(95) {
         return [format!("{letter} {depth} ").as_bytes(), name].concat();
     }
@@ -186,6 +170,9 @@ impl Source {
             Kind::Snapshot => snapshot(random, book, &self.market),
             Kind::Update => update(random, book, &self.market, filling),
         };
+        if random.percent(3) {
+            draft = cross(random, book, &self.market, draft);
+        }
         let damaged = random.percent(self.damage);
         let place = if damaged { random.below(10) } else { 10 };
         if place < 5 {

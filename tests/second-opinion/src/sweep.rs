@@ -6,10 +6,13 @@ use crate::settings::Dialect;
 
 const K_LINE: &str = "K 10 a";
 const M_LINE: &str = "M 100 a";
+const M2_LINE: &str = "M2 100 a";
 const K_SNAPSHOT: &str = r#"[0,{"as":[["2","1","t"]],"bs":[["1.5","1","t"]]},"book-10","a"]"#;
 const K_UPDATE: &str = r#"[0,{"a":[["2","0","t"]]},{"b":[["1.5","0","t",1]],"c":"0"},"book-10","a"]"#;
 const M_SNAPSHOT: &str = r#"{"channel":"book","product":"a","type":"snapshot","data":{"bids":[["9","2"]],"asks":[["10","1"]]},"checksum":1226559413,"gsn":7}"#;
 const M_UPDATE: &str = r#"{"channel":"book","product":"a","type":"update","data":{"bids":[["9","0"]],"asks":[["10","0"]],"gsn":1},"checksum":0,"gsn":8}"#;
+
+const M2_UPDATE: &str = r#"{"channel":"book","product":"a","type":"update","data":{"bids":[],"asks":[["10","0"]]},"checksum":965052660,"gsn":8,"prev_gsn":7}"#;
 
 /// Every sweep, each as sessions of a bearable length.
 pub fn sessions() -> Vec<Session> {
@@ -29,16 +32,26 @@ pub fn sessions() -> Vec<Session> {
         all.extend(chunks(line, decimals(line)));
         all.extend(chunks(line, whole_numbers(line)));
     }
+    let after: Vec<Vec<u8>> = near(M2_UPDATE).into_iter().flat_map(|text| [M_SNAPSHOT.into(), text]).collect();
+    all.extend(chunks(M2_LINE, after));
+    all.extend(chunks(M2_LINE, previous_numbers()));
     all.extend(elements());
     all.extend(openings());
     all
 }
 
+/// The dialect that a session with this first line is about.
+fn dialect_of(line: &[u8]) -> Dialect {
+    let word = line.split(|&byte| byte == b' ').next().unwrap_or(b"");
+    let about = if line.starts_with(b"M") { Dialect::M1 } else { Dialect::K };
+    Dialect::named(word).unwrap_or(about)
+}
+
 fn chunks(line: &str, messages: Vec<Vec<u8>>) -> Vec<Session> {
-    let dialect = if line.starts_with('K') { Dialect::K } else { Dialect::M };
+    let dialect = dialect_of(line.as_bytes());
     let session = |messages: &[Vec<u8>]| Session {
         dialect,
-        opening: Opening::Line(line.into()),
+        opening: Opening(line.into()),
         calls: messages.iter().cloned().map(Call::Message).collect(),
     };
     messages.chunks(1000).map(session).collect()
@@ -225,6 +238,16 @@ fn whole_numbers(line: &str) -> Vec<Vec<u8>> {
     texts.into_iter().map(String::into_bytes).collect()
 }
 
+/// Updates whose `prev_gsn` is written in many ways, each after a snapshot with the number 7.
+fn previous_numbers() -> Vec<Vec<u8>> {
+    let mut spelled = words(b"0179-.eE\"", 3);
+    for length in 1..23 {
+        spelled.extend([b'1', b'7', b'9'].map(|digit| vec![digit; length]));
+    }
+    let update = |text: &[u8]| [M2_UPDATE.trim_end_matches("7}").as_bytes(), text, b"}"].concat();
+    spelled.iter().flat_map(|text| [M_SNAPSHOT.into(), update(text)]).collect()
+}
+
 /// K objects and M members in every choice of up to four named ones.
 fn elements() -> Vec<Session> {
     let k_members = ["\"as\":[]", "\"bs\":[]", "\"a\":[]", "\"b\":[]", "\"c\":\"0\"", "\"x\":0"];
@@ -244,7 +267,7 @@ fn elements() -> Vec<Session> {
     let m_members = [
         "\"channel\":\"book\"", "\"product\":\"a\"", "\"type\":\"snapshot\"", "\"data\":{\"bids\":[],\"asks\":[]}",
         "\"checksum\":0", "\"gsn\":1", "\"type\":\"update\"", "\"channel\":\"trades\"", "\"product\":\"b\"",
-        "\"data\":{\"bids\":[]}", "\"channel\":1",
+        "\"data\":{\"bids\":[]}", "\"channel\":1", "\"prev_gsn\":1", "\"prev_gsn\":\"1\"", "\"prev_gsn\":0",
     ];
     let base = &m_members[..6];
     let mut m_texts: Vec<Vec<u8>> = Vec::new();
@@ -258,7 +281,7 @@ fn elements() -> Vec<Session> {
             m_texts.push(format!("{{{}}}", members.join(",")).into_bytes());
         }
     }
-    [chunks(K_LINE, k_texts), chunks(M_LINE, m_texts)].concat()
+    [chunks(K_LINE, k_texts), chunks(M2_LINE, m_texts.clone()), chunks(M_LINE, m_texts)].concat()
 }
 
 /// Every list of up to `most` numbers below `end`.
@@ -277,7 +300,10 @@ fn choices(end: usize, most: usize) -> Vec<Vec<usize>> {
 
 /// First lines, each with a message that a book with that name would take.
 fn openings() -> Vec<Session> {
-    let mut lines: Vec<Vec<u8>> = [near("K 10 ab"), near("M 100 a")].concat();
+    let mut lines: Vec<Vec<u8>> = [near("K 10 ab"), near("M 100 a"), near("M2 100 a")].concat();
+    for digits in 0..120 {
+        lines.push(format!("M{digits} 100 a").into_bytes());
+    }
     for depth in 0..130 {
         lines.push(format!("K {depth} a").into_bytes());
         lines.push(format!("M {depth} a").into_bytes());
@@ -294,7 +320,7 @@ fn openings() -> Vec<Session> {
 }
 
 fn opening(line: Vec<u8>) -> Session {
-    let dialect = if line.starts_with(b"M") { Dialect::M } else { Dialect::K };
+    let dialect = dialect_of(&line);
     let name = line.rsplit(|&byte| byte == b' ').next().unwrap_or(b"").to_vec();
     let depth = line.split(|&byte| byte == b' ').nth(1).unwrap_or(b"").to_vec();
     let k = [b"[0,{\"as\":[],\"bs\":[]},\"book-".as_slice(), &depth, b"\",\"", &name, b"\"]"].concat();
@@ -304,5 +330,5 @@ fn opening(line: Vec<u8>) -> Session {
         b"\",\"type\":\"snapshot\",\"data\":{\"bids\":[],\"asks\":[]},\"checksum\":0,\"gsn\":1}",
     ]
     .concat();
-    Session { dialect, opening: Opening::Line(line), calls: [k, m].into_iter().map(Call::Message).collect() }
+    Session { dialect, opening: Opening(line), calls: [k, m].into_iter().map(Call::Message).collect() }
 }

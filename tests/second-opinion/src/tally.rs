@@ -2,15 +2,19 @@
 
 use crate::settings::Dialect;
 
+/// Answer numbers are below this.
+pub const ANSWERS: usize = 17;
+
 #[derive(Default)]
 pub struct Tally {
-    counts: [[u64; 16]; 2],
+    counts: [[u64; ANSWERS]; 3],
 }
 
 fn row(dialect: Dialect) -> usize {
     match dialect {
         Dialect::K => 0,
-        Dialect::M => 1,
+        Dialect::M1 => 1,
+        Dialect::M2 => 2,
     }
 }
 
@@ -18,7 +22,7 @@ fn row(dialect: Dialect) -> usize {
 pub fn is_given(dialect: Dialect, answer: u8) -> bool {
     match answer {
         4 => false,
-        11 | 12 => dialect == Dialect::M,
+        11 | 12 => dialect != Dialect::K,
         _ => true,
     }
 }
@@ -38,10 +42,10 @@ impl Tally {
     pub fn wrong(&self, lines: bool) -> Vec<String> {
         let mut wrong = Vec::new();
         for dialect in Dialect::ALL {
-            for answer in 0..self.counts[0].len() as u8 {
+            for answer in 0..ANSWERS as u8 {
                 let wanted = is_given(dialect, answer) && !(lines && (answer == 14 || answer == 15));
                 if wanted != (self.times(dialect, answer) > 0) {
-                    wrong.push(format!("answer {answer} in {}: {} times", dialect.letter(), self.times(dialect, answer)));
+                    wrong.push(format!("answer {answer} in {}: {} times", dialect.name(), self.times(dialect, answer)));
                 }
             }
         }
@@ -53,7 +57,7 @@ impl Tally {
         let line = |dialect: Dialect| {
             let counts = self.counts[row(dialect)].iter().enumerate();
             let words: Vec<String> = counts.map(|(answer, times)| format!("{answer}:{times}")).collect();
-            format!("{} {}\n", dialect.letter(), words.join(" "))
+            format!("{} {}\n", dialect.name(), words.join(" "))
         };
         Dialect::ALL.map(line).concat()
     }

@@ -1,6 +1,6 @@
 //! Drafts of right messages, from the book as it stands.
 
-use crate::book::Book;
+use crate::book::{Book, Sides};
 use crate::decimal::{Decimal, MAX_DECIMALS};
 use crate::message::{Entry, Kind, Level, Message, Side, MAX_ENTRIES};
 use crate::random::Random;
@@ -8,14 +8,19 @@ use crate::settings::{Dialect, Settings};
 use crate::value::{key, nested, quoted, raw, stray, text, Value};
 use std::collections::HashSet;
 
-/// The prices of a session: `spread` ticks around `middle`, each of 10^-`decimals`.
+/// The prices of a session: `spread` ticks on each side of `middle`, each of 10^-`decimals`.
 pub struct Market {
     pub decimals: u32,
     pub middle: u128,
     pub spread: u128,
-    /// Bids and asks share their prices.
-    pub crossed: bool,
+    /// How many prices in a hundred are drawn on the other side of the middle.
+    pub crossing: usize,
 }
+
+const ENDS: [&str; 10] = [
+    "9999999999.999999999999", "9999999999.999999999", "9223372036.854775807", "9223372036.854775808", "0.000000001", "0.000000000001",
+    "9999999999", "9999999999.0", "1", "0.1",
+];
 
 /// An entry as it is to be written.
 #[derive(Clone, Debug)]
@@ -32,40 +37,42 @@ pub struct Draft {
     pub lines: Vec<Line>,
     pub checksum: String,
     pub gsn: String,
+    /// `prev_gsn`, where the dialect has it.
+    pub previous: String,
 }
 
 impl Market {
     pub fn new(random: &mut Random) -> Market {
         let spread = random.pick(&[3, 12, 60, 130, 400]);
-        let crossed = random.percent(25);
+        let crossing = random.pick(&[0, 0, 0, 0, 0, 0, 1, 10]);
         if random.percent(12) {
             let (middle, decimals) = random.pick(&[
                 (1 << 63, 9), ((1 << 63) + 200, 9), (9_999_999_999_999_990_000, 9), (1 << 63, 12), (1 << 64, 12), (1 << 73, 12),
                 (9_999_999_999_999_999_990_000, 12), (1_000_000_000_000, 12),
             ]);
-            return Market { decimals, middle, spread, crossed };
+            return Market { decimals, middle, spread, crossing };
         }
         let decimals = random.below(13) as u32;
         let middle = spread + 1 + u128::from(random.next()) % random.pick(&[1, 50, 100_000, 900_000_000]);
-        Market { decimals, middle, spread, crossed }
+        Market { decimals, middle, spread, crossing }
     }
 
     fn tick(&self, random: &mut Random, side: Side) -> u128 {
         let step = u128::from(random.next()) % self.spread;
-        match side {
-            _ if self.crossed => self.middle + step,
-            Side::Bid => self.middle - 1 - step,
-            Side::Ask => self.middle + step,
+        let below = (side == Side::Bid) != random.percent(self.crossing);
+        if below {
+            self.middle - 1 - step
+        } else {
+            self.middle + step
         }
     }
 
     /// A price above zero, now and then at the ends of what is allowed.
     pub fn price(&self, random: &mut Random, side: Side) -> String {
-        if random.percent(1) {
-            let ends = [
-                "9999999999.999999999999", "9999999999.999999999", "9223372036.854775807", "9223372036.854775808", "0.000000001",
-                "0.000000000001", "9999999999", "9999999999.0", "1", "0.1",
-            ];
+        let middle = Decimal { digits: self.middle, decimals: self.decimals }.value();
+        let is_below = |end: &str| Decimal::read(end.as_bytes()).is_some_and(|end| end.value() < middle);
+        let ends: Vec<&str> = ENDS.into_iter().filter(|end| is_below(end) == (side == Side::Bid)).collect();
+        if random.percent(1) && !ends.is_empty() {
             return random.pick(&ends).to_string();
         }
         let tick = Decimal { digits: self.tick(random, side), decimals: self.decimals };
@@ -145,7 +152,8 @@ pub fn snapshot(random: &mut Random, book: &Book, market: &Market) -> Draft {
         2 => book.number.to_string(),
         _ => (random.next() % 1_000_000_000_000).to_string(),
     };
-    finished(book, Draft { kind: Kind::Snapshot, lines, checksum: String::new(), gsn })
+    let previous = book.number.to_string();
+    finished(book, Draft { kind: Kind::Snapshot, lines, checksum: String::new(), gsn, previous })
 }
 
 /// A right update; with `filling` it mostly adds levels.
@@ -161,7 +169,8 @@ pub fn update(random: &mut Random, book: &Book, market: &Market, filling: bool) 
     }
     let step = random.pick(&[1, 1, 1, 2, 1000]);
     let gsn = book.number.saturating_add(step).min(9_999_999_999_999_999_999).to_string();
-    finished(book, Draft { kind: Kind::Update, lines, checksum: String::new(), gsn })
+    let previous = book.number.to_string();
+    finished(book, Draft { kind: Kind::Update, lines, checksum: String::new(), gsn, previous })
 }
 
 /// A level set or, with `removing` in a hundred, removed. In a crowded book no new price comes.
@@ -194,6 +203,12 @@ pub fn finished(book: &Book, mut draft: Draft) -> Draft {
 
 /// Nothing if a text of the draft is no decimal, or the book is shut.
 pub fn right_checksum(book: &Book, draft: &Draft) -> Option<u32> {
+    let dialect = book.settings.as_ref()?.dialect;
+    Some(sides_after(book, draft)?.checksum(dialect))
+}
+
+/// The sides after the draft, as for its checksum.
+pub fn sides_after(book: &Book, draft: &Draft) -> Option<Sides> {
     let settings = book.settings.as_ref()?;
     let entry = |line: &Line| {
         let price = Decimal::read(line.price.as_bytes())?;
@@ -201,8 +216,8 @@ pub fn right_checksum(book: &Book, draft: &Draft) -> Option<u32> {
         Some(Entry { side: line.side, level: Level { price, size } })
     };
     let entries = draft.lines.iter().map(entry).collect::<Option<Vec<Entry>>>()?;
-    let message = Message { kind: draft.kind, entries, checksum: None, gsn: 0 };
-    Some(book.after(settings, &message).checksum(settings.dialect))
+    let message = Message { kind: draft.kind, entries, checksum: None, gsn: 0, previous: None };
+    Some(book.after(settings, &message))
 }
 
 impl Draft {
@@ -210,7 +225,7 @@ impl Draft {
     pub fn value(&self, random: &mut Random, settings: &Settings) -> Value {
         match settings.dialect {
             Dialect::K => self.value_k(random, settings),
-            Dialect::M => self.value_m(random, settings),
+            Dialect::M1 | Dialect::M2 => self.value_m(random, settings),
         }
     }
 
@@ -268,7 +283,8 @@ impl Draft {
             (key("asks"), self.entries(random, Side::Ask, |_| vec![])),
         ];
         if random.percent(30) {
-            data.push((key("gsn"), stray(random)));
+            let name = random.pick(&["gsn", "gsn", "prev_gsn"]);
+            data.push((key(name), stray(random)));
         }
         pass_over(random, &mut data);
         random.shuffle(&mut data);
@@ -280,6 +296,12 @@ impl Draft {
             (key("checksum"), raw(&self.checksum)),
             (key("gsn"), raw(&self.gsn)),
         ];
+        if settings.dialect == Dialect::M2 && self.kind == Kind::Update {
+            members.push((key("prev_gsn"), raw(&self.previous)));
+        } else if random.percent(15) {
+            // Passed over, whatever it holds.
+            members.push((key("prev_gsn"), if random.percent(30) { raw(&self.previous) } else { stray(random) }));
+        }
         pass_over(random, &mut members);
         if random.percent(50) {
             random.shuffle(&mut members);
@@ -300,7 +322,7 @@ fn timestamp(random: &mut Random) -> Vec<Value> {
 /// Members that are not named, with anything in them.
 fn pass_over(random: &mut Random, members: &mut Vec<(Vec<u8>, Value)>) {
     while random.percent(15) {
-        let name = random.pick(&["timestamp", "x", "", "prev_gsn", "\u{e9}", "A", "bs ", "version"]);
+        let name = random.pick(&["timestamp", "x", "", "prev_sequence", "\u{e9}", "A", "bs ", "version"]);
         let value = match random.below(3) {
             0 => stray(random),
             1 => text("1764643130040025000"),

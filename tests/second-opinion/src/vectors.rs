@@ -2,6 +2,7 @@
 //! the comparison. That program is handed settings and messages, one on a line, and
 //! says the first of checks 1 to 8 that refuses, where the first bad text lies, and the text.
 
+use crate::decimal::whole_number;
 use crate::lines::{first_difference, run, shown};
 use crate::message::{self, bad_texts, BadText};
 use crate::seen::Seen;
@@ -39,8 +40,7 @@ pub fn shortened(line: &str) -> String {
 
 /// Compares the first bad text of the session's messages; a difference is answered as a report.
 pub fn compare(program: &Path, session: &Session, seen: &mut Seen) -> std::io::Result<Option<String>> {
-    let (dialect, depth, name) = session.opening.words();
-    let first = [b"= ", [dialect].as_slice(), format!(" {depth} ").as_bytes(), &name].concat();
+    let first = [b"= ".as_slice(), settings_words(session.opening.line())].concat();
     let mut texts: Vec<&[u8]> = Vec::new();
     for call in &session.calls {
         match call {
@@ -72,6 +72,18 @@ pub fn compare(program: &Path, session: &Session, seen: &mut Seen) -> std::io::R
         texts = rest;
     }
     Ok(None)
+}
+
+/// The line, if it has the three words that the program reads; else other bad settings.
+fn settings_words(line: &[u8]) -> &[u8] {
+    let mut words = line.splitn(3, |&byte| byte == b' ');
+    let (dialect, depth) = (words.next().unwrap_or(b""), words.next().unwrap_or(b""));
+    let is_number = (1..=6).contains(&depth.len()) && whole_number(depth).is_some();
+    if (1..=2).contains(&dialect.len()) && is_number && words.next().is_some() {
+        line
+    } else {
+        b"\0 0 "
+    }
 }
 
 fn counted(settings: Option<&Settings>, text: &[u8], seen: &mut Seen) -> String {

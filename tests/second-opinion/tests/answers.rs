@@ -7,18 +7,18 @@ use second_opinion::random::Random;
 use second_opinion::script::{here, script, Script};
 use second_opinion::session::{answers, session, Call, Opening, Purpose, Session};
 use second_opinion::settings::Dialect;
-use second_opinion::tally::{is_given, Tally};
+use second_opinion::tally::{is_given, Tally, ANSWERS};
 
 #[test]
 fn every_answer_comes_up() {
     let mut random = Random::new(5);
     let mut tally = Tally::default();
-    for _ in 0..150 {
+    for _ in 0..250 {
         let session = session(&mut random, Purpose::Calls, 200);
         tally.count(session.dialect, &answers(&session));
     }
     for dialect in Dialect::ALL {
-        for answer in 0..16 {
+        for answer in 0..ANSWERS as u8 {
             assert_eq!(tally.times(dialect, answer) >= 10, is_given(dialect, answer), "{dialect:?} {answer}");
         }
     }
@@ -85,8 +85,8 @@ fn a_difference_is_reported() {
 fn every_call(dialect: Dialect) -> Session {
     let (line, snapshot): (&str, &str) = match dialect {
         Dialect::K => ("K 10 a", r#"[0,{"as":[["2.50","0.1","t"]],"bs":[["1.5","3","t"]]},"book-10","a"]"#),
-        Dialect::M => (
-            "M 100 a",
+        Dialect::M1 | Dialect::M2 => (
+            if dialect == Dialect::M1 { "M 100 a" } else { "M2 100 a" },
             r#"{"channel":"book","product":"a","type":"snapshot","data":{"bids":[["9","2"]],"asks":[["10","1"]]},"checksum":1226559413,"gsn":7}"#,
         ),
     };
@@ -106,7 +106,7 @@ fn every_call(dialect: Dialect) -> Session {
     let questions = questions.concat();
     let messages = |text: &str| vec![Call::Message(text.as_bytes().to_vec())];
     let calls = [messages(snapshot), questions.clone(), messages("{"), questions].concat();
-    Session { dialect, opening: Opening::Line(line.into()), calls }
+    Session { dialect, opening: Opening(line.into()), calls }
 }
 
 /// The session as a script, with 16 bytes of room past the replies.
@@ -118,7 +118,7 @@ fn with_spare_room(session: &Session) -> Script {
 
 #[test]
 fn every_changed_byte_is_found() {
-    for dialect in [Dialect::K, Dialect::M] {
+    for dialect in Dialect::ALL {
         let script = with_spare_room(&every_call(dialect));
         let answers = script.compare(&here).expect("the same book");
         assert_eq!(answers.len(), script.parts.len());

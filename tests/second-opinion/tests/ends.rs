@@ -53,8 +53,8 @@ fn bids(kind: &str, gsn: u32, entries: &[(u32, u32)], left: &[(u32, u32)]) -> Ca
 }
 
 fn session(line: &str, calls: Vec<Call>) -> Session {
-    let dialect = if line.starts_with('K') { Dialect::K } else { Dialect::M };
-    Session { dialect, opening: Opening::Line(line.into()), calls }
+    let dialect = if line.starts_with('K') { Dialect::K } else { Dialect::M1 };
+    Session { dialect, opening: Opening(line.into()), calls }
 }
 
 #[test]

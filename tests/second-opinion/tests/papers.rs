@@ -67,12 +67,12 @@ fn the_book_of_001() {
 
 #[test]
 fn the_text_of_three_levels() {
-    let mut book = open(Dialect::M, 100, "a");
+    let mut book = open(Dialect::M1, 100, "a");
     let data = r#"{"bids":[["8","3"],["9","2"]],"asks":[["10","1"]]}"#;
     let sum = second_opinion::crc::crc32(b"9:2:10:1:8:3");
     let text = format!(r#"{{"channel":"book","product":"a","type":"snapshot","data":{data},"checksum":{sum},"gsn":0}}"#);
     assert_eq!(line(&mut book, text.as_bytes()), "0 2 1");
-    assert_eq!(book.sides.checksum_text(Dialect::M), "9:2:10:1:8:3");
+    assert_eq!(book.sides.checksum_text(Dialect::M1), "9:2:10:1:8:3");
 }
 
 #[test]
@@ -92,7 +92,7 @@ fn the_text_of_the_writer() {
 #[test]
 fn the_writer_gives_back_the_example() {
     let snapshot = EXAMPLE.lines().nth(1).unwrap().as_bytes();
-    let mut book = open(Dialect::M, 100, "BTC-VND");
+    let mut book = open(Dialect::M1, 100, "BTC-VND");
     assert_eq!(book.take(snapshot), 0);
     let mut room = vec![0; snapshot.len()];
     assert_eq!(book.write(&mut room), (0, snapshot.len()));
@@ -144,7 +144,7 @@ fn names_are_compared_by_meaning() {
         assert_eq!(book.take(text.as_bytes()), answer, "{text}");
         assert_eq!(book.state, State::Waiting, "{text}");
     }
-    let mut book = open(Dialect::M, 100, "a");
+    let mut book = open(Dialect::M1, 100, "a");
     let text = r#"{"ch\u0061nnel":"boo\u006b","product":"\u0061","\u0074ype":"\u0073napshot","data":{"bi\u0064s":[],"asks":[]},"checksum":0,"gs\u006E":1}"#;
     assert_eq!(book.take(text.as_bytes()), 0);
     assert_eq!(book.take(text.replace(r#""gs"#, r#""gsn":1,"gs"#).as_bytes()), 6);
@@ -200,7 +200,7 @@ fn the_first_bad_decimal_in_message_order() {
     assert_eq!(bad_of(Dialect::K, r#"[0,{"a":[["1","x","t"]],"c":"0"},"book-10","b"]"#), "");
     let m = |data: &str| {
         let rest = r#""type":"snapshot","checksum":0,"gsn":1"#;
-        bad_of(Dialect::M, &format!(r#"{{"channel":"book","data":{data},"product":"a",{rest}}}"#)).to_string()
+        bad_of(Dialect::M1, &format!(r#"{{"channel":"book","data":{data},"product":"a",{rest}}}"#)).to_string()
     };
     assert_eq!(m(r#"{"asks":[["1","1"],["1","05"]],"bids":[["-1","1"]]}"#), r#""05""#);
     assert_eq!(m(r#"{"bids":[["-1","1"]],"asks":[["1","1"],["1","05"]]}"#), r#""-1""#);
@@ -231,7 +231,7 @@ fn a_hundred_entries_and_one_more() {
     let entries = |count: u32| (1..=count).map(|price| format!(r#"["{price}","1"]"#)).collect::<Vec<_>>().join(",");
     let text: Vec<String> = (1..=100).rev().map(|price| format!("{price}:1")).collect();
     let checksum = second_opinion::crc::crc32(text.join(":").as_bytes());
-    let mut book = open(Dialect::M, 100, "a");
+    let mut book = open(Dialect::M1, 100, "a");
     assert_eq!(line(&mut book, &m_text("snapshot", &entries(101), 0, 1)), "7 - -");
     assert_eq!(line(&mut book, &m_text("snapshot", &entries(100), checksum, 1)), "0 100 0");
     assert_eq!(line(&mut book, &m_text("update", r#"["101","1"]"#, 0, 2)), "12 - -");
@@ -241,7 +241,7 @@ fn a_hundred_entries_and_one_more() {
 
 #[test]
 fn an_equal_gsn_and_one_more() {
-    let mut book = open(Dialect::M, 100, "a");
+    let mut book = open(Dialect::M1, 100, "a");
     assert_eq!(book.take(&m_text("snapshot", "", 0, 7)), 0);
     assert_eq!(book.take(&m_text("update", "", 0, 8)), 0);
     assert_eq!(book.book_number(Scope::Live), (0, 8));
@@ -253,7 +253,7 @@ fn an_equal_gsn_and_one_more() {
 
 #[test]
 fn one_price_twice() {
-    let mut book = open(Dialect::M, 100, "a");
+    let mut book = open(Dialect::M1, 100, "a");
     let twice = r#"["0.5","1"],["0.50","2"]"#;
     assert_eq!(book.take(&m_text("snapshot", twice, 0, 1)), 9);
     assert_eq!(book.take(&m_text("snapshot", "", 0, 1)), 0);
@@ -263,7 +263,7 @@ fn one_price_twice() {
 
 #[test]
 fn the_samples_of_the_venues() {
-    let mut book = open(Dialect::M, 100, "BTC-VND");
+    let mut book = open(Dialect::M1, 100, "BTC-VND");
     assert_eq!(book.take(EXAMPLE.lines().nth(1).unwrap().as_bytes()), 0);
     let sample = br#"{
 "channel": "book",
@@ -279,6 +279,91 @@ fn the_samples_of_the_venues() {
 "timestamp": "1764643130040025000",
 "gsn": 2309207234
 }"#;
-    assert_eq!(book.take(sample), 13);
+    // Its bid stands above the example's ask; without asks its checksum is another book's.
+    assert_eq!(book.take(sample), 16);
     assert_eq!(book.take(sample), 10);
+    assert_eq!(open_with_bid(&mut book), 0);
+    assert_eq!(book.take(sample), 13);
+}
+
+fn open_with_bid(book: &mut Book) -> u8 {
+    let sum = second_opinion::crc::crc32(b"9:2");
+    let text = format!(
+        r#"{{"channel":"book","product":"BTC-VND","type":"snapshot","data":{{"bids":[["9","2"]],"asks":[]}},"checksum":{sum},"gsn":7}}"#
+    );
+    book.take(text.as_bytes())
+}
+
+/// An M message of product `a` with asks alone, of the prices 1 to `count`; `rest` stands last.
+fn asks_text(kind: &str, count: usize, summed: usize, gsn: u64, rest: &str) -> String {
+    let entries: Vec<String> = (1..=count).map(|price| format!(r#"["{price}","1"]"#)).collect();
+    let text: Vec<String> = (1..=summed.min(count)).map(|price| format!("{price}:1")).collect();
+    let sum = second_opinion::crc::crc32(text.join(":").as_bytes());
+    let data = format!(r#"{{"bids":[],"asks":[{}]}}"#, entries.join(","));
+    format!(r#"{{"channel":"book","product":"a","type":"{kind}","data":{data},"checksum":{sum},"gsn":{gsn}{rest}}}"#)
+}
+
+#[test]
+fn m2_sums_twenty_five_levels() {
+    for count in [24, 25, 26, 100] {
+        let mut book = open(Dialect::M2, 100, "a");
+        assert_eq!(book.take(asks_text("snapshot", count, 100, 7, "").as_bytes()), if count > 25 { 13 } else { 0 }, "{count}");
+        assert_eq!(book.take(asks_text("snapshot", count, 25, 7, "").as_bytes()), 0, "{count}");
+        assert_eq!(book.take(asks_text("snapshot", count, 24, 7, "").as_bytes()), if count > 24 { 13 } else { 0 }, "{count}");
+        let mut book = open(Dialect::M1, 100, "a");
+        assert_eq!(book.take(asks_text("snapshot", count, 25, 7, "").as_bytes()), if count > 25 { 13 } else { 0 }, "{count}");
+    }
+}
+
+#[test]
+fn m2_follows_the_number_before() {
+    let update = |gsn: u64, rest: &str| asks_text("update", 30, 25, gsn, rest);
+    for (gsn, rest, answer) in [
+        (8, r#","prev_gsn":7"#, 0), (8, r#","prev_gsn":6"#, 11), (8, r#","prev_gsn":8"#, 11), (7, r#","prev_gsn":7"#, 11),
+        (8, "", 6), (8, r#","prev_gsn":7,"prev_gsn":7"#, 6), (8, r#","prev_gsn":"7""#, 6), (8, r#","prev_gsn":7.0"#, 6),
+        (8, r#","prev\u005fgsn":7"#, 0), (8, r#","prev_gsn":7,"prev\u005fgsn":7"#, 6), (8, r#","prev_gsn":07"#, 3),
+        (9999999999999999999, r#","prev_gsn":7"#, 0), (8, r#","prev_gsn":10000000000000000000"#, 6), (8, r#","prev_gsn":-0"#, 6),
+    ] {
+        let mut book = open(Dialect::M2, 100, "a");
+        assert_eq!(book.take(asks_text("snapshot", 30, 25, 7, r#","prev_gsn":"x","prev_gsn":[]"#).as_bytes()), 0);
+        assert_eq!(book.take(update(gsn, rest).as_bytes()), answer, "{rest}");
+        assert_eq!(book.state == State::Live, answer == 0);
+    }
+    let mut book = open(Dialect::M1, 100, "a");
+    assert_eq!(book.take(asks_text("snapshot", 20, 25, 7, "").as_bytes()), 0);
+    assert_eq!(book.take(asks_text("update", 20, 25, 8, r#","prev_gsn":"x","prev_gsn":[]"#).as_bytes()), 0);
+}
+
+#[test]
+fn a_crossed_book_is_no_book() {
+    let mut book = k_book();
+    let snapshot = |bid: &str, ask: &str| {
+        format!(r#"[0,{{"as":[["11","1","t"],["{ask}","1","t"]],"bs":[["{bid}","1","t"],["0.1","1","t"]]}},"book-10","XBT/USD"]"#)
+    };
+    for (bid, ask, answer) in [("0.5", "0.50", 16), ("2", "1", 16), ("10", "10", 16), ("1", "2", 0), ("0.999999999", "1", 0)] {
+        assert_eq!(book.take(snapshot(bid, ask).as_bytes()), answer, "{bid} {ask}");
+        assert_eq!(book.state == State::Live, answer == 0);
+    }
+    // By an update, whatever its checksum says.
+    let update = |sum: u32| format!(r#"[0,{{"b":[["1.00","2","t"]],"c":"{sum}"}},"book-10","XBT/USD"]"#);
+    let right = second_opinion::crc::crc32(b"111111002999999999111");
+    for sum in [right, 5] {
+        assert_eq!(line(&mut book, update(sum).as_bytes()), "16 - -");
+        assert_eq!(line(&mut book, snapshot("0.999999999", "1").as_bytes()), "0 2 2");
+    }
+    // M: too many levels and an old number come first.
+    let mut book = open(Dialect::M1, 100, "a");
+    let hundred: Vec<String> = (1..=100).map(|price| format!(r#"["{price}","1"]"#)).collect();
+    let text: Vec<String> = (1..=100).rev().map(|price| format!("{price}:1")).collect();
+    let sum = second_opinion::crc::crc32(text.join(":").as_bytes());
+    assert_eq!(book.take(&m_text("snapshot", &hundred.join(","), sum, 7)), 0);
+    let crossing = |gsn: u64, bid: &str| {
+        let data = format!(r#"{{"bids":[["{bid}","1"]],"asks":[["50.0","1"]]}}"#);
+        format!(r#"{{"channel":"book","product":"a","type":"update","data":{data},"checksum":0,"gsn":{gsn}}}"#)
+    };
+    let mut again = book.clone();
+    assert_eq!(again.take(crossing(7, "101").as_bytes()), 11);
+    let mut again = book.clone();
+    assert_eq!(again.take(crossing(8, "101").as_bytes()), 12);
+    assert_eq!(book.take(crossing(8, "100").as_bytes()), 16);
 }

@@ -54,7 +54,7 @@ returns-3 c =
     let o = c .before .before .before .outline .given in
     record {
       told =
-          c .judge-update .ensures ∙ ap (λ (x : Rules). judgedUpdate (a .lifecycle .state) (x .numbered) (a .number) (o .0 .0)) (c .before .rules-of .ensures)
+          c .judge-update .ensures ∙ ap (λ (x : Rules). judgedUpdate (a .lifecycle .state) x (a .number) (o .0 .0)) (c .before .rules-of .ensures)
           ∙ judged-open (a .settings) (a .lifecycle) (a .number) (now (a .s)) u _ (sym (r .ensures .told) ∙ o .1);
       kept = λ v. r .ensures .kept;
     }

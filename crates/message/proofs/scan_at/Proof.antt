@@ -19,7 +19,7 @@ k-message-requires c κs =
     (d .0, d .1, b .pre .1)
 
 m-message-requires : tie.Need-m-message-requires
-m-message-requires c κs = c .before .before .before .before .before .pre .1
+m-message-requires c κs = c .before .before .before .before .before .before .before .pre .1
 
 returns : tie.Need-returns
 unfolding envelopeIn envelopeK
@@ -27,13 +27,13 @@ returns c = rw (c .before .before .enum-told .given .1) (c .k-message .ensures)
 
 returns-2 : tie.Need-returns-2
 unfolding envelopeIn envelopeM
-returns-2 c = rw (c .before .before .enum-told2 .given .1) (c .m-message .ensures)
+returns-2 c = rw (c .before .before .before .before .dialect .given .1, ← c .before .before .is-linked .ensures) (c .m-message .ensures)
 
 returns-3 : tie.Need-returns-3
 returns-3 c =
     let a = c .before .before .before .before .before .before .args in
     let t : Config = record { dialect = a .dialect; depth = a .depth; name = now (a .name) } in
-    subst (λ (d : Dialect). Scanned (envelopeIn d t) (now (a .s)) (a .at) (now (a .buffer)) (c .not-framed .result)) (sym (c .before .before .enum-told3 .given .1))
+    subst (λ (d : Dialect). Scanned (envelopeIn d t) (now (a .s)) (a .at) (now (a .buffer)) (c .not-framed .result)) (sym (c .before .before .enum-told2 .given .1))
     (record {
       told = c .not-framed .ensures ∙ told-unknown t (now (a .s)) (a .at) (c .before .value-end .result) (c .before .value-end .ensures);
       kept = λ e v h g u l y. kept-unknown t (now (a .s)) (record { from = a .at; to = e }) h g;
@@ -43,4 +43,4 @@ pub scan-at-spec : {M : Type 1} → statement M
 scan-at-spec =
     tie.close
     (tie.spec
-    (λ c. search needs) k-message-requires (λ c. search needs) m-message-requires (λ c. search needs) (λ c κs. search needs) (λ c κs. search needs) returns returns-2 returns-3)
+    (λ c. search needs) k-message-requires (λ c. search needs) (λ c κs. search needs) m-message-requires (λ c. search needs) (λ c κs. search needs) (λ c κs. search needs) returns returns-2 returns-3)

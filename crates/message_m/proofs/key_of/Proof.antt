@@ -3,7 +3,7 @@
 use denote.Ref.{now}
 use mathlib.Core.Path.{_∙_, sym}
 use Rattle.json.specs.Json.{Span}
-use Rattle.message_m.proofs.Steps.{key-channel, key-product, key-type, key-data, key-checksum, key-gsn, key-other}
+use Rattle.message_m.proofs.Steps.{key-channel, key-product, key-type, key-data, key-checksum, key-gsn, key-previous, key-other}
 use borrow.Author.Needs.{needs}
 use Rattle.message_m.proofs.key_of.Statement.{statement}
 use Rattle.message_m.proofs.key_of.Tie as tie
@@ -52,10 +52,17 @@ returns-6 c =
 
 returns-7 : tie.Need-returns-7
 returns-7 c =
-    let a = c .before .before .before .before .before .before .before .before .before .before .before .before .before .before .before .before .before .before .before .args in
+    let a = c .before .before .before .before .before .before .before .before .before .before .before .before .before .before .before .before .before .before .before .before .before .before .args in
     let s = now (a .s) in
     let v : Span = record { from = a .from; to = a .to } in
-    key-other s v (sym (c .before .before .before .before .before .before .before .before .before .before .before .before .before .before .before .before .is-name .ensures) ∙ c .before .before .before .before .before .before .before .before .before .before .before .before .before .before .before .if1 .left) (sym (c .before .before .before .before .before .before .before .before .before .before .before .before .before .is-name2 .ensures) ∙ c .before .before .before .before .before .before .before .before .before .before .before .before .if2 .left) (sym (c .before .before .before .before .before .before .before .before .before .before .is-name3 .ensures) ∙ c .before .before .before .before .before .before .before .before .before .if3 .left) (sym (c .before .before .before .before .before .before .before .is-name4 .ensures) ∙ c .before .before .before .before .before .before .if4 .left) (sym (c .before .before .before .before .is-name5 .ensures) ∙ c .before .before .before .if5 .left) (sym (c .before .is-name6 .ensures) ∙ c .if6 .left)
+    key-previous s v (sym (c .before .before .before .before .before .before .before .before .before .before .before .before .before .before .before .before .before .before .before .is-name .ensures) ∙ c .before .before .before .before .before .before .before .before .before .before .before .before .before .before .before .before .before .before .if1 .left) (sym (c .before .before .before .before .before .before .before .before .before .before .before .before .before .before .before .before .is-name2 .ensures) ∙ c .before .before .before .before .before .before .before .before .before .before .before .before .before .before .before .if2 .left) (sym (c .before .before .before .before .before .before .before .before .before .before .before .before .before .is-name3 .ensures) ∙ c .before .before .before .before .before .before .before .before .before .before .before .before .if3 .left) (sym (c .before .before .before .before .before .before .before .before .before .before .is-name4 .ensures) ∙ c .before .before .before .before .before .before .before .before .before .if4 .left) (sym (c .before .before .before .before .before .before .before .is-name5 .ensures) ∙ c .before .before .before .before .before .before .if5 .left) (sym (c .before .before .before .before .is-name6 .ensures) ∙ c .before .before .before .if6 .left) (sym (c .before .is-name7 .ensures) ∙ c .if7 .taken)
+
+returns-8 : tie.Need-returns-8
+returns-8 c =
+    let a = c .before .before .before .before .before .before .before .before .before .before .before .before .before .before .before .before .before .before .before .before .before .before .args in
+    let s = now (a .s) in
+    let v : Span = record { from = a .from; to = a .to } in
+    key-other s v (sym (c .before .before .before .before .before .before .before .before .before .before .before .before .before .before .before .before .before .before .before .is-name .ensures) ∙ c .before .before .before .before .before .before .before .before .before .before .before .before .before .before .before .before .before .before .if1 .left) (sym (c .before .before .before .before .before .before .before .before .before .before .before .before .before .before .before .before .is-name2 .ensures) ∙ c .before .before .before .before .before .before .before .before .before .before .before .before .before .before .before .if2 .left) (sym (c .before .before .before .before .before .before .before .before .before .before .before .before .before .is-name3 .ensures) ∙ c .before .before .before .before .before .before .before .before .before .before .before .before .if3 .left) (sym (c .before .before .before .before .before .before .before .before .before .before .is-name4 .ensures) ∙ c .before .before .before .before .before .before .before .before .before .if4 .left) (sym (c .before .before .before .before .before .before .before .is-name5 .ensures) ∙ c .before .before .before .before .before .before .if5 .left) (sym (c .before .before .before .before .is-name6 .ensures) ∙ c .before .before .before .if6 .left) (sym (c .before .is-name7 .ensures) ∙ c .if7 .left)
 
 pub key-of-spec : {M : Type 1} → statement M
 key-of-spec =
@@ -79,4 +86,7 @@ key-of-spec =
     (λ c. search needs)
     (λ c κs. search needs)
     returns-6
-    returns-7)
+    (λ c. search needs)
+    (λ c κs. search needs)
+    returns-7
+    returns-8)

@@ -11,6 +11,7 @@ use Rattle.decimal.specs.Digits.{reads}
 use Rattle.json_tokens.proofs.Laws.{end-at, in-byte}
 use Rattle.json_tokens.proofs.Bounds.{bounds, blanks-in, separator-in, string-in}
 use mathlib.Core.Path.{_≡_, _∙_, ap, refl, sym, subst}
+use mathlib.Core.Bool.{Bool}
 use mathlib.Core.List.{List, []}
 use Rattle.json_tokens.specs.Tokens.{separator, string}
 use Rattle.json_tokens.specs.Ends.{endOf}
@@ -31,10 +32,10 @@ use Rattle.message_m.proofs.m_message.Statement.{statement}
 use Rattle.message_m.proofs.m_message.Tie as tie
 
 abbrev Inv-loop : tie.InvT-loop
-Inv-loop s at name first none i₀ met₀ buffer i met = MessageGoing name s at met i buffer
+Inv-loop s at linked name first none i₀ met₀ buffer i met = MessageGoing linked name s at met i buffer
 
 abbrev μ-loop : tie.MeasureT-loop
-μ-loop s at name first none i₀ met₀ buffer i met = length s - i
+μ-loop s at linked name first none i₀ met₀ buffer i met = length s - i
 
 -- where a member is to begin
 abbrev At : Type 0
@@ -45,6 +46,9 @@ start c = c .before .before .before .before .before .before .before .before .bef
 
 abbrev text : At → List ℕ
 text c = now (start c .args .s)
+
+abbrev isLinked : At → Bool
+isLinked c = start c .args .linked
 
 abbrev product : At → List ℕ
 product c = now (start c .args .name)
@@ -95,7 +99,7 @@ returns c =
     let a = c .before .before .before .before .before .before .args in
     let s = now (a .s) in
     let other : (byteAt s (a .at) ≡ 123 → ⊥) = λ h. c .before .before .if1 .taken (c .before .before .before .byte-at .ensures ∙ h) in
-    message-other (now (a .name)) s (a .at) (now (a .buffer)) (c .not-framed .result) (c .not-framed .ensures ∙ told-none (now (a .name)) s (a .at) other (c .before .value-end .ensures)) other
+    message-other (a .linked) (now (a .name)) s (a .at) (now (a .buffer)) (c .not-framed .result) (c .not-framed .ensures ∙ told-none (a .linked) (now (a .name)) s (a .at) other (c .before .value-end .ensures)) other
 
 add-object-close-end : tie.Need-add-object-close-end Inv-loop μ-loop
 add-object-close-end c =
@@ -119,8 +123,8 @@ returns-2 c =
     let o = sym (c .before .before .before .before .before .byte-at .ensures) ∙ c .before .before .before .before .if1 .left in
     let close = c .before .before .before .object-close-end in
     let some : (close .result ≡ 0 → ⊥) = λ z. let l = c .before .before .if2 .taken in omega arith in
-    message-read (now (a .name)) s (a .at) (now (a .buffer)) (c .scan .result)
-    (c .scan .ensures ∙ ap (scanIn s (close .result)) (c .before .no-members .ensures) ∙ told-empty (now (a .name)) s (a .at) o (close .result) (close .ensures) (c .before .before .if2 .taken))
+    message-read (a .linked) (now (a .name)) s (a .at) (now (a .buffer)) (c .scan .result)
+    (c .scan .ensures ∙ ap (scanIn (a .linked) s (close .result)) (c .before .no-members .ensures) ∙ told-empty (a .linked) (now (a .name)) s (a .at) o (close .result) (close .ensures) (c .before .before .if2 .taken))
     o
     (rw (sym (fold-empty (overHeld 15 s (bodyStep s)) (reads []) (a .at + 1) (close .result) (close .ensures) some)) (kept-none s (now (a .buffer)) (b .pre)))
 
@@ -142,7 +146,7 @@ loop-holds c =
     let skip = c .before .skip-blanks in
     rw (c .no-members2 .ensures)
     (record {
-      told = told-start (now (a .name)) s (a .at) o (close .result) (close .ensures) (omega arith) (skip .result) (skip .ensures);
+      told = told-start (a .linked) (now (a .name)) s (a .at) o (close .result) (close .ensures) (omega arith) (skip .result) (skip .ensures);
       marked = unmarked-placed s;
       few = omega arith;
       holding = record {
@@ -165,30 +169,30 @@ more-members-requires c κs =
     (omega arith, a .loop .inv .holding .kept .room)
 
 -- it is not JSON
-broken : (a : At) (after : List ℕ) (r : Scan) → r ≡ notFramed 0 → notFramed 0 ≡ scanAt (envelopeM (product a)) (text a) (start a .args .at)
-    → Scanned (envelopeM (product a)) (text a) (start a .args .at) after r
-broken a after r e told = message-broken (product a) (text a) (start a .args .at) after r (e ∙ told) e
+broken : (a : At) (after : List ℕ) (r : Scan) → r ≡ notFramed 0 → notFramed 0 ≡ scanAt (envelopeM (isLinked a) (product a)) (text a) (start a .args .at)
+    → Scanned (envelopeM (isLinked a) (product a)) (text a) (start a .args .at) after r
+broken a after r e told = message-broken (isLinked a) (product a) (text a) (start a .args .at) after r (e ∙ told) e
 
 returns-3 : tie.Need-returns-3 Inv-loop μ-loop
 returns-3 c =
     let a = c .before .before .before in
-    broken a _ (c .not-framed2 .result) (c .not-framed2 .ensures) (fold-wrong (messageLoop (product a) (text a)) (a .loop .met) (a .loop .inv .told) (no-name 15 (text a) (a .loop .i) (c .before .before .string-end .result) (c .before .before .string-end .ensures) (c .before .if3 .taken)))
+    broken a _ (c .not-framed2 .result) (c .not-framed2 .ensures) (fold-wrong (messageLoop (isLinked a) (product a) (text a)) (a .loop .met) (a .loop .inv .told) (no-name 15 (text a) (a .loop .i) (c .before .before .string-end .result) (c .before .before .string-end .ensures) (c .before .if3 .taken)))
 
 returns-4 : tie.Need-returns-4 Inv-loop μ-loop
 returns-4 c =
     let a = c .before .before .before .before .before in
-    broken a _ (c .not-framed3 .result) (c .not-framed3 .ensures) (fold-wrong (messageLoop (product a) (text a)) (a .loop .met) (a .loop .inv .told) (no-colon 15 (text a) (a .loop .i) (c .before .before .before .before .string-end .result) (c .before .before .before .before .string-end .ensures) (c .before .before .before .if3 .left) (c .before .before .colon-end .result) (c .before .before .colon-end .ensures) (c .before .if4 .taken)))
+    broken a _ (c .not-framed3 .result) (c .not-framed3 .ensures) (fold-wrong (messageLoop (isLinked a) (product a) (text a)) (a .loop .met) (a .loop .inv .told) (no-colon 15 (text a) (a .loop .i) (c .before .before .before .before .string-end .result) (c .before .before .before .before .string-end .ensures) (c .before .before .before .if3 .left) (c .before .before .colon-end .result) (c .before .before .colon-end .ensures) (c .before .if4 .taken)))
 
 returns-5 : tie.Need-returns-5 Inv-loop μ-loop
 returns-5 c =
     let m = c .before .before in
-    broken (at m) _ (c .not-framed4 .result) (c .not-framed4 .ensures) (fold-wrong (messageLoop (product (at m)) (text (at m))) (at m .loop .met) (at m .loop .inv .told) (none m (c .before .if5 .taken)))
+    broken (at m) _ (c .not-framed4 .result) (c .not-framed4 .ensures) (fold-wrong (messageLoop (isLinked (at m)) (product (at m)) (text (at m))) (at m .loop .met) (at m .loop .inv .told) (none m (c .before .if5 .taken)))
 
 returns-6 : tie.Need-returns-6 Inv-loop μ-loop
 returns-6 c =
     let m = c .before .before .before .before .before .before in
     broken (at m) _ (c .not-framed5 .result) (c .not-framed5 .ensures)
-    (fold-broken (messageLoop (product (at m)) (text (at m))) (at m .loop .met) (at m .loop .inv .told) (stands m (c .before .before .before .before .before .if5 .left)) (c .before .before .before .before .comma-end .result) (c .before .before .before .before .comma-end .ensures) (c .before .before .before .if6 .taken) (c .before .before .object-close-end2 .result) (c .before .before .object-close-end2 .ensures) (c .before .if7 .taken))
+    (fold-broken (messageLoop (isLinked (at m)) (product (at m)) (text (at m))) (at m .loop .met) (at m .loop .inv .told) (stands m (c .before .before .before .before .before .if5 .left)) (c .before .before .before .before .comma-end .result) (c .before .before .before .before .comma-end .ensures) (c .before .before .before .if6 .taken) (c .before .before .object-close-end2 .result) (c .before .before .object-close-end2 .ensures) (c .before .if7 .taken))
 
 scan-requires-2 : tie.Need-scan-requires-2 Inv-loop μ-loop
 scan-requires-2 c κs = places (c .before .before .before .before .before) (c .before .before .before .before .if5 .left)
@@ -200,15 +204,15 @@ returns-7 c =
     let some = c .before .before .before .before .before .if5 .left in
     let comma = c .before .before .before .before .comma-end in
     let close = c .before .before .object-close-end2 in
-    message-read (product a) (text a) (start a .args .at) _ (c .scan2 .result)
-    (c .scan2 .ensures ∙ fold-last (messageLoop (product a) (text a)) (a .loop .met) (a .loop .inv .told) (stands m some) (comma .result) (comma .ensures) (c .before .before .before .if6 .taken) (close .result) (close .ensures) (c .before .if7 .left) (steps m))
+    message-read (isLinked a) (product a) (text a) (start a .args .at) _ (c .scan2 .result)
+    (c .scan2 .ensures ∙ fold-last (messageLoop (isLinked a) (product a) (text a)) (a .loop .met) (a .loop .inv .told) (stands m some) (comma .result) (comma .ensures) (c .before .before .before .if6 .taken) (close .result) (close .ensures) (c .before .if7 .left) (steps m))
     (opens a)
     (holding-last 15 (text a) (bodyStep (text a)) (added m) some (stands m some) (a .loop .inv .holding) (comma .result) (comma .ensures) (c .before .before .before .if6 .taken) (close .result) (close .ensures) (c .before .if7 .left) .1)
 
 loop-less : tie.Need-loop-less Inv-loop μ-loop
 loop-less c =
     let m = c .before .before .before in
-    let f = fold-further (messageLoop (product (at m)) (text (at m))) (at m .loop .met) (at m .loop .inv .told) (stands m (c .before .before .if5 .left)) (c .before .comma-end .result) (c .before .comma-end .ensures) (c .if6 .left) in
+    let f = fold-further (messageLoop (isLinked (at m)) (product (at m)) (text (at m))) (at m .loop .met) (at m .loop .inv .told) (stands m (c .before .before .if5 .left)) (c .before .comma-end .result) (c .before .comma-end .ensures) (c .if6 .left) in
     omega arith
 
 loop-again : tie.Need-loop-again Inv-loop μ-loop
@@ -217,10 +221,10 @@ loop-again c =
     let a = at m in
     let some = c .before .before .if5 .left in
     let comma = c .before .comma-end in
-    let f = fold-further (messageLoop (product a) (text a)) (a .loop .met) (a .loop .inv .told) (stands m some) (comma .result) (comma .ensures) (c .if6 .left) in
+    let f = fold-further (messageLoop (isLinked a) (product a) (text a)) (a .loop .met) (a .loop .inv .told) (stands m some) (comma .result) (comma .ensures) (c .if6 .left) in
     let few = added m .few some in
     record {
-      told = fold-on (messageLoop (product a) (text a)) (a .loop .met) (a .loop .inv .told) (stands m some) (comma .result) (comma .ensures) (c .if6 .left) (steps m);
+      told = fold-on (messageLoop (isLinked a) (product a) (text a)) (a .loop .met) (a .loop .inv .told) (stands m some) (comma .result) (comma .ensures) (c .if6 .left) (steps m);
       marked = places m some;
       few = omega arith;
       holding = holding-on 15 (text a) (bodyStep (text a)) (added m) some (stands m some) (a .loop .inv .holding) (comma .result) (comma .ensures) (c .if6 .left);

@@ -16,19 +16,19 @@ more-body-requires c κs = let p = c .before .before .before .before .pre in (p 
 
 returns : tie.Need-returns
 returns c =
-    let a = c .before .before .before .before .before .before .before .before .before .before .before .before .before .before .args in
+    let a = c .before .before .before .before .before .before .before .before .before .before .before .before .before .before .before .args in
     let s = now (a .s) in
     let n : Span = record { from = a .first; to = a .past } in
     let v : Span = record { from = a .from; to = endOf (value 15 s (a .from)) } in
-    let k = c .before .before .before .before .before .before .before .before .before .before .before .key-of in
-    let b = c .before .before .before .before .before .before .before .before .before .more-body in
+    let k = c .before .before .before .before .before .before .before .before .before .before .before .before .key-of in
+    let b = c .before .before .before .before .before .before .before .before .before .before .more-body in
     record {
       told =
           members-made (now (a .name)) s (a .met) n (a .from) (endOf (value 15 s (a .from))) (k .result) (b .result) (k .ensures) (b .ensures .told)
-          (c .before .before .before .before .before .before .before .either .result) (c .before .before .before .before .before .either2 .result) (c .before .before .before .before .more-spans .result) (c .before .before .before .more-spans2 .result) (c .before .before .more-spans3 .result) (c .before .more-spans4 .result) (c .more-spans5 .result)
-          (c .before .before .before .before .before .before .before .either .ensures ∙ ap (λ (b : Bool). a .met .«is_book» || b) (c .before .before .before .before .before .before .before .before .is-book .ensures))
-          (c .before .before .before .before .before .either2 .ensures ∙ ap (λ (b : Bool). a .met .«is_product» || b) (c .before .before .before .before .before .before .is-product .ensures))
-          (c .before .before .before .before .more-spans .ensures) (c .before .before .before .more-spans2 .ensures) (c .before .before .more-spans3 .ensures) (c .before .more-spans4 .ensures) (c .more-spans5 .ensures);
+          (c .before .before .before .before .before .before .before .before .either .result) (c .before .before .before .before .before .before .either2 .result) (c .before .before .before .before .before .more-spans .result) (c .before .before .before .before .more-spans2 .result) (c .before .before .before .more-spans3 .result) (c .before .before .more-spans4 .result) (c .before .more-spans5 .result) (c .more-spans6 .result)
+          (c .before .before .before .before .before .before .before .before .either .ensures ∙ ap (λ (b : Bool). a .met .«is_book» || b) (c .before .before .before .before .before .before .before .before .before .is-book .ensures))
+          (c .before .before .before .before .before .before .either2 .ensures ∙ ap (λ (b : Bool). a .met .«is_product» || b) (c .before .before .before .before .before .before .before .is-product .ensures))
+          (c .before .before .before .before .before .more-spans .ensures) (c .before .before .before .before .more-spans2 .ensures) (c .before .before .before .more-spans3 .ensures) (c .before .before .more-spans4 .ensures) (c .before .more-spans5 .ensures) (c .more-spans6 .ensures);
       added = added-as (b .ensures .added) (λ x. ap (λ (h : Bool). bodyHeld s h x v) (data-key s n (k .result) (k .ensures)));
     }
 
@@ -37,4 +37,4 @@ more-members-spec =
     tie.close
     (tie.spec
     (λ c κs. search needs) more-body-requires (λ c κs. search needs) (λ c κs. search needs) (λ c κs. search needs) (λ c κs. search needs) (λ c κs. search needs) (λ c κs. search needs)
-    (λ c κs. search needs) (λ c κs. search needs) (λ c κs. search needs) returns)
+    (λ c κs. search needs) (λ c κs. search needs) (λ c κs. search needs) (λ c κs. search needs) returns)

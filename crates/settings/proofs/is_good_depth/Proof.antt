@@ -14,7 +14,7 @@ returns-2 : tie.Need-returns-2
 returns-2 c = sym (ap (λ (d : Dialect). goodDepth d (c .before .before .before .args .depth)) (c .before .enum-told .given .1) ∙ k-deep (c .before .before .before .args .depth) (c .if1 .left))
 
 returns-3 : tie.Need-returns-3
-returns-3 c = sym (ap (λ (d : Dialect). goodDepth d (c .before .before .args .depth)) (c .enum-told2 .given .1) ∙ m-depth (c .before .before .args .depth))
+returns-3 c = sym (ap (λ (d : Dialect). goodDepth d (c .before .before .args .depth)) (c .enum-told2 .given .1) ∙ m-depth _ (c .before .before .args .depth))
 
 returns-4 : tie.Need-returns-4
 returns-4 c = sym (ap (λ (d : Dialect). goodDepth d (c .before .before .args .depth)) (c .enum-told3 .given .1) ∙ no-depth (c .before .before .args .depth))

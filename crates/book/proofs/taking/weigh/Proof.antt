@@ -1,18 +1,23 @@
--- `weigh` meets its contract: check by check.
+-- `weigh` meets its contract: what is found before check 13, and then that.
 use mathlib.Core.Path.{_≡_, sym, ap, ap₂, _∙_}
-use mathlib.Core.Bool.{Bool, true, false, _&&_, _||_, not}
+use mathlib.Core.Bool.{Bool, _&&_, _||_, not}
 use lib.Dec.{ltb}
 use denote.Ref.{now}
 use Rattle.settings.specs.Rules.{rulesOf}
 use Rattle.settings.specs.declared.Rules.{Rules}
-use Rattle.layout.specs.Layout.{isSnapshot}
+use Rattle.answer.specs.Answers.{isTaken}
+use Rattle.answer.specs.declared.Answer.{Answer}
+use Rattle.level.specs.Words.{levelPrice}
+use Rattle.level.specs.Side.{crosses}
+use Rattle.level.specs.Kept.{held}
+use Rattle.lifecycle.specs.Lifecycle.{judgedSides}
 use Rattle.sides.specs.Worked.{SideAfter, sideAfter}
-use Rattle.book.proofs.Refusing.{weighed-twice, weighed-over, weighed-unprinted, weighed-right, weighed-wrong}
+use Rattle.book.proofs.Refusing.{before-sum, weighed-refused, weighed-sum}
 use borrow.Author.Needs.{needs}
 use Rattle.book.proofs.taking.weigh.Statement.{statement}
 use Rattle.book.proofs.taking.weigh.Tie as tie
 
--- ---- the sides, and what the first two checks find of them
+-- ---- the sides, and what each check finds of them
 
 abbrev bidsOf : tie.Start → SideAfter
 bidsOf s = sideAfter (now (s .args .bids)) (s .args .bid-side)
@@ -26,59 +31,53 @@ isMet s = bidsOf s .replaced || asksOf s .replaced
 abbrev isOver : tie.Start → Bool
 isOver s = ltb (rulesOf (s .args .dialect) .levels) (bidsOf s .count) || ltb (rulesOf (s .args .dialect) .levels) (asksOf s .count)
 
-abbrev startOf : tie.After-both → tie.Start
-startOf c = c .before .before .before .before
+abbrev rulesAt : tie.After-is-over → tie.After-rules-of
+rulesAt c = c .before .before .before .before .before .before .before .before
 
-abbrev bothOf : tie.After-is-over → tie.After-both
-bothOf c = c .before .before .before .before .before .before .before .before
+abbrev startOf : tie.After-is-over → tie.Start
+startOf c = rulesAt c .before .before
 
-tested-twice : (c : tie.After-both) → c .both .result ≡ (isSnapshot (startOf c .args .outline .kind) && isMet (startOf c))
-tested-twice c = c .both .ensures ∙ ap₂ (λ (x y : Bool). x && y) (c .before .before .is-snapshot .ensures) (c .before .either .ensures)
+abbrev foundOf : tie.Start → Answer
+foundOf s = before-sum (s .args .outline) (s .args .dialect) (bidsOf s .levels) (asksOf s .levels) (isMet s) (isOver s)
 
-tested-over : (c : tie.After-is-over) → c .is-over .result ≡ (not (rulesOf (startOf (bothOf c) .args .dialect) .cut) && isOver (startOf (bothOf c)))
-tested-over c =
-    let s = startOf (bothOf c) in
-    let u = c .before .before .before .before .before .before .rules-of in
-    c .is-over .ensures ∙ ap (λ (x : Bool). not (u .result .cut) && x) (c .before .either2 .ensures)
+met-is : (c : tie.After-is-over) → c .before .before .before .before .before .before .before .either .result ≡ isMet (startOf c)
+met-is c = c .before .before .before .before .before .before .before .either .ensures
+
+over-is : (c : tie.After-is-over) → c .is-over .result ≡ (not (rulesOf (startOf c .args .dialect) .cut) && isOver (startOf c))
+over-is c =
+    let s = startOf c in
+    let u = rulesAt c .rules-of in
+    c .is-over .ensures ∙ ap (λ (x : Bool). not (u .result .cut) && x) (c .before .before .either2 .ensures)
     ∙ ap (λ (x : Rules). not (x .cut) && (ltb (x .levels) (bidsOf s .count) || ltb (x .levels) (asksOf s .count))) (u .ensures)
 
--- neither of the first two
-not-twice : (c : tie.Else1) → (isSnapshot (startOf (c .before) .args .outline .kind) && isMet (startOf (c .before))) ≡ false
-not-twice c = sym (tested-twice (c .before)) ∙ c .if1 .left
+crossed-is : (c : tie.After-is-over) → c .before .is-crossed .result ≡ crosses levelPrice (held (bidsOf (startOf c) .levels)) (held (asksOf (startOf c) .levels))
+crossed-is c = c .before .is-crossed .ensures
 
-not-over : (c : tie.Else2) → let s = startOf (bothOf (c .before)) in (not (rulesOf (s .args .dialect) .cut) && isOver s) ≡ false
-not-over c = sym (tested-over (c .before)) ∙ c .if2 .left
+found-is : (c : tie.After-judge-sides) → c .judge-sides .result ≡ foundOf (startOf (c .before))
+found-is c =
+    let b = c .before in
+    let k = startOf b .args .outline .kind in
+    c .judge-sides .ensures
+    ∙ ap (λ (x : Bool). judgedSides k x (b .is-over .result) (b .before .is-crossed .result)) (met-is b)
+    ∙ ap₂ (judgedSides k (isMet (startOf b))) (over-is b) (crossed-is b)
 
 returns : tie.Need-returns
 returns c =
-    let s = startOf (c .before) in
-    weighed-twice (s .args .outline) (s .args .dialect) (isMet s) (isOver s) (bidsOf s .levels) (asksOf s .levels) (sym (tested-twice (c .before)) ∙ c .if1 .taken)
+    let f = c .before .before in
+    let j = f .before in
+    let s = startOf (j .before) in
+    c .judge-checksum .ensures
+    ∙ weighed-sum (s .args .outline) (s .args .dialect) (bidsOf s .levels) (asksOf s .levels) (isMet s) (isOver s)
+    (ap isTaken (sym (found-is j)) ∙ sym (f .is-taken .ensures) ∙ c .before .if1 .taken)
 
 returns-2 : tie.Need-returns-2
 returns-2 c =
-    let s = startOf (bothOf (c .before)) in
-    weighed-over (s .args .outline) (s .args .dialect) (isMet s) (isOver s) (bidsOf s .levels) (asksOf s .levels)
-    (not-twice (c .before .before .before .before .before .before .before .before)) (sym (tested-over (c .before)) ∙ c .if2 .taken)
-
-returns-3 : tie.Need-returns-3
-returns-3 c =
-    let e = c .before .before .before .before in
-    let s = startOf (bothOf (e .before)) in
-    weighed-wrong (s .args .outline) (s .args .dialect) (isMet s) (isOver s) (bidsOf s .levels) (asksOf s .levels)
-    (not-twice (e .before .before .before .before .before .before .before .before)) (not-over e) (c .before .before .before .if3 .taken) (λ q. c .if4 .taken (q ∙ sym (c .before .before .checksum-of .ensures)))
-
-returns-4 : tie.Need-returns-4
-returns-4 c =
-    let e = c .before .before .before .before in
-    let s = startOf (bothOf (e .before)) in
-    weighed-right (s .args .outline) (s .args .dialect) (isMet s) (isOver s) (bidsOf s .levels) (asksOf s .levels)
-    (not-twice (e .before .before .before .before .before .before .before .before)) (not-over e) (c .before .before .before .if3 .taken) (c .if4 .left ∙ c .before .before .checksum-of .ensures)
-
-returns-5 : tie.Need-returns-5
-returns-5 c =
-    let e = c .before in
-    let s = startOf (bothOf (e .before)) in
-    weighed-unprinted (s .args .outline) (s .args .dialect) (isMet s) (isOver s) (bidsOf s .levels) (asksOf s .levels) (not-twice (e .before .before .before .before .before .before .before .before)) (not-over e) (c .if3 .left)
+    let f = c .before in
+    let j = f .before in
+    let s = startOf (j .before) in
+    found-is j
+    ∙ weighed-refused (s .args .outline) (s .args .dialect) (bidsOf s .levels) (asksOf s .levels) (isMet s) (isOver s)
+    (ap isTaken (sym (found-is j)) ∙ sym (f .is-taken .ensures) ∙ c .if1 .left)
 
 pub weigh-spec : {M : Type 1} → statement M
 weigh-spec =
@@ -87,12 +86,10 @@ weigh-spec =
     (λ c κs. search needs)
     (λ c κs. search needs)
     (λ c κs. search needs)
+    (λ c κs. search needs)
+    (λ c κs. search needs)
+    (λ c κs. search needs)
+    (λ c κs. search needs)
+    (λ c κs. search needs)
     returns
-    (λ c κs. search needs)
-    (λ c κs. search needs)
-    (λ c κs. search needs)
-    returns-2
-    (λ c κs. search needs)
-    returns-3
-    returns-4
-    returns-5)
+    returns-2)

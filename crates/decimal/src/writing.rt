@@ -7,12 +7,15 @@ ghost use Rattle.decimal.specs.Decimal.{number, text, stripped};
 ghost use Rattle.decimal.specs.Limits.{Within};
 ghost use Rattle.decimal.specs.Buffer.{overlaid};
 ghost use Rattle.decimal.specs.Laying.{Laid};
-ghost use Rattle.decimal.specs.Tail.{remaining, Stepped};
+ghost use Rattle.decimal.specs.Tail.{remaining, beforePast, Stepped};
 use crate::Decimal;
+use crate::NEAR;
 use crate::Part;
 use crate::Step;
 use crate::Tail;
 use crate::Written;
+use crate::past;
+use crate::tidy;
 
 const POINT: u8 = 46;
 
@@ -50,13 +53,22 @@ pub fn whole_length(n: u64) -> usize
 pub fn text_tail(a: Decimal) -> Tail
     ensures { λ r. ⌜ remaining r ≡ text (number a) ⌝ }
 {
-    if a.decimals == 0 {
+    if a.code == 0 {
         return whole_tail(a.digits);
+    }
+    if a.code < 10 {
+        return Tail {
+            digits: a.digits,
+            decimals: a.code,
+            past: 0,
+            part: Part::Fraction,
+        };
     }
     Tail {
         digits: a.digits,
-        decimals: a.decimals,
-        part: Part::Fraction,
+        decimals: NEAR,
+        past: tidy(a.code),
+        part: Part::Past,
     }
 }
 
@@ -64,10 +76,17 @@ pub fn text_tail(a: Decimal) -> Tail
 pub fn stripped_tail(a: Decimal) -> Tail
     ensures { λ r. ⌜ remaining r ≡ stripped (number a) ⌝ }
 {
+    if a.code < 10 {
+        return digits_tail(a.digits);
+    }
+    if a.digits == 0 {
+        return digits_tail(past(a.code));
+    }
     Tail {
         digits: a.digits,
         decimals: 0,
-        part: Part::Higher,
+        past: tidy(a.code),
+        part: Part::Past,
     }
 }
 
@@ -78,7 +97,20 @@ pub fn whole_tail(n: u64) -> Tail
     Tail {
         digits: n,
         decimals: 0,
+        past: 0,
         part: Part::Units,
+    }
+}
+
+// The digits of a number without leading zeros: none of 0.
+fn digits_tail(n: u64) -> Tail
+    ensures { λ r. ⌜ remaining r ≡ significant n ⌝ }
+{
+    Tail {
+        digits: n,
+        decimals: 0,
+        past: 0,
+        part: Part::Higher,
     }
 }
 
@@ -89,6 +121,23 @@ impl Tail {
     {
         let part = self.part;
         match part {
+            Part::Past => {
+                if self.past < 100 {
+                    return Step::Byte(
+                        last_digit(self.past),
+                        before_past(self.digits, self.decimals),
+                    );
+                }
+                Step::Byte(
+                    last_digit(self.past),
+                    Tail {
+                        digits: self.digits,
+                        decimals: self.decimals,
+                        past: self.past / 10,
+                        part: Part::Past,
+                    },
+                )
+            }
             Part::Fraction => {
                 if self.decimals == 0 {
                     return Step::Byte(POINT, whole_tail(self.digits));
@@ -98,18 +147,34 @@ impl Tail {
                     Tail {
                         digits: self.digits / 10,
                         decimals: self.decimals - 1,
+                        past: 0,
                         part: Part::Fraction,
                     },
                 )
             }
-            Part::Units => Step::Byte(last_digit(self.digits), higher(self.digits)),
+            Part::Units => Step::Byte(last_digit(self.digits), digits_tail(self.digits / 10)),
             Part::Higher => {
                 if self.digits == 0 {
                     return Step::End;
                 }
-                Step::Byte(last_digit(self.digits), higher(self.digits))
+                Step::Byte(last_digit(self.digits), digits_tail(self.digits / 10))
             }
         }
+    }
+}
+
+// The text before the digits past the ninth decimal.
+fn before_past(digits: u64, decimals: u64) -> Tail
+    ensures { λ r. ⌜ remaining r ≡ beforePast digits decimals ⌝ }
+{
+    if decimals == 0 {
+        return digits_tail(digits);
+    }
+    Tail {
+        digits,
+        decimals,
+        past: 0,
+        part: Part::Fraction,
     }
 }
 
@@ -117,17 +182,6 @@ fn last_digit(n: u64) -> u8
     ensures { λ r. ⌜ r ≡ 48 + n % 10 ⌝ }
 {
     48 + (n % 10) as u8
-}
-
-// The digits of n before its last one, without leading zeros.
-fn higher(n: u64) -> Tail
-    ensures { λ r. ⌜ remaining r ≡ significant (n / 10) ⌝ }
-{
-    Tail {
-        digits: n / 10,
-        decimals: 0,
-        part: Part::Higher,
-    }
 }
 
 fn tail_length(t: Tail) -> usize

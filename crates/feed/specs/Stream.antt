@@ -73,8 +73,11 @@ unfoldable pub stateOf : Bool → Reference → State
 stateOf true p = bookOpen p
 stateOf false p = lineOneAwaited
 
+abbrev pub stateIn : Stream → State
+stateIn stream = stateOf (stream .opened) (shows (stream .book))
+
 abbrev pub transcriptOf : Stream → List ℕ → Transcript
-transcriptOf stream said = record { state = stateOf (stream .opened) (shows (stream .book)); replies = said }
+transcriptOf stream said = record { state = stateIn stream; replies = said }
 
 -- What is not answered yet lies in the input buffer.
 pub record Holds (stream : Stream) (input : List ℕ) : Type 0 where
@@ -84,6 +87,10 @@ pub record Holds (stream : Stream) (input : List ℕ) : Type 0 where
 
 abbrev pub pendingOf : Stream → List ℕ → List ℕ
 pendingOf stream input = take (stream .to - stream .from) (drop (stream .from) input)
+
+-- With `got` bytes more behind them.
+abbrev pub unanswered : Stream → List ℕ → ℕ → List ℕ
+unanswered stream input got = pendingOf stream input ++ take got (drop (stream .to) input)
 
 -- Nothing is read; the book is that of an empty line 1, which is shut.
 pub record Started (r : Stream) : Type 0 where
@@ -99,19 +106,19 @@ pub record AnsweredBlock (stream : Stream) (input : List ℕ) (got : ℕ) (befor
   pub holds : Holds (r .stream) input'
   pub room : r .written ≤ length buffer'
   pub same : record {
-    state = stateOf (r .stream .opened) (shows (r .stream .book));
+    state = stateIn (r .stream);
     buffer = buffer';
     past = r .written;
     left = complete (pendingOf (r .stream) input');
-  } ≡ answering (stateOf (stream .opened) (shows (stream .book))) (complete (pendingOf stream input ++ take got (drop (stream .to) input))) before
+  } ≡ answering (stateIn stream) (complete (unanswered stream input got)) before
   pub past : drop (r .written) buffer' ≡ drop (r .written) before
   pub awaited : r .stream .opened ≡ false → r .stream .book ≡ stream .book
   pub more : r .more ≡ ltb (length buffer') (r .written + maxReply)
   pub kept : r .more ≡ true → input' ≡ input
   pub end-kept : r .more ≡ true → r .stream .to ≡ stream .to + got
-  pub left-over : r .more ≡ true → unfinished (pendingOf (r .stream) input') ≡ unfinished (pendingOf stream input ++ take got (drop (stream .to) input))
+  pub left-over : r .more ≡ true → unfinished (pendingOf (r .stream) input') ≡ unfinished (unanswered stream input got)
   pub front : r .more ≡ false → r .stream .from ≡ 0
-  pub carried-over : r .more ≡ false → pendingOf (r .stream) input' ≡ take carried (unfinished (pendingOf stream input ++ take got (drop (stream .to) input)))
+  pub carried-over : r .more ≡ false → pendingOf (r .stream) input' ≡ take carried (unfinished (unanswered stream input got))
   pub behind : r .more ≡ false → drop (r .stream .to) input' ≡ drop (r .stream .to) input
   pub short : r .more ≡ false → r .stream .to ≤ carried
   pub none-left : r .more ≡ false → complete (pendingOf (r .stream) input') ≡ []
@@ -124,8 +131,8 @@ pub record AnsweredBlock (stream : Stream) (input : List ℕ) (got : ℕ) (befor
 pub record Finished (stream : Stream) (input before : List ℕ) (r : ℕ) (input' buffer' : List ℕ) : Type 0 where
   pub room : r ≤ length buffer'
   pub kept : input' ≡ input
-  pub written : r ≡ answering (stateOf (stream .opened) (shows (stream .book))) (lastLines (pendingOf stream input)) before .past
-  pub bytes : buffer' ≡ answering (stateOf (stream .opened) (shows (stream .book))) (lastLines (pendingOf stream input)) before .buffer
+  pub written : r ≡ answering (stateIn stream) (lastLines (pendingOf stream input)) before .past
+  pub bytes : buffer' ≡ answering (stateIn stream) (lastLines (pendingOf stream input)) before .buffer
   pub past : drop r buffer' ≡ drop r before
   pub all : complete (pendingOf stream input) ≡ [] → (text said : List ℕ) → SoFar text (transcriptOf stream said) (pendingOf stream input) →
       said ++ take r buffer' ≡ output text

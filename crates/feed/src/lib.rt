@@ -107,7 +107,8 @@ pub fn start() -> Stream
 }
 
 // Takes in `got` bytes that were read into the input buffer behind those that the feed has there, and lays replies to the lines
-// that end, as long as the buffer has room for the longest reply. Where no line is left, the unfinished one is moved to the front.
+// that end, as long as the buffer has room for the longest reply. If it still has, no line is left, and the unfinished one is moved to
+// the front.
 pub fn answer(
     stream: Stream,
     input: &mut [u8],

@@ -15,19 +15,19 @@ use Rattle.text.specs.Text.{isDigit}
 use Rattle.decimal.specs.Digits.{digit, valueFrom, fixed, significant, written}
 use Rattle.decimal.specs.Decimal.{Number, near, farOf, pastOf, decimalsOf, numberOf, point, text, afterPoint, withoutPoint, withoutZeros, stripped, maxWhole, maxDecimals}
 use Rattle.decimal.specs.Limits.{Within}
-use Rattle.decimal.specs.Tail.{remaining, remainingOf, beforePast, pastFirst, pastDigits}
+use Rattle.decimal.specs.Tail.{remaining, frontOf, pastFirst}
 use Rattle.decimal.specs.Words.{Tidied}
 use Rattle.decimal.specs.declared.Tail.{Tail}
 use Rattle.decimal.specs.declared.Part.{Part}
-use Rattle.decimal.specs.declared.Part.the-variants.{Past, Fraction, Units, Higher}
+use Rattle.decimal.specs.declared.Part.the-variants.{Fraction, Units, Higher}
 use Rattle.decimal.proofs.Digits.{Digits, none, one, digit-in, digits-append, fixed-digits, significant-digits, written-digits, div-tens, length-fixed, significant-zero, significant-step, significant-value, value-fixed, written-positive, first-significant, length-significant, length-written, tens}
 use Rattle.decimal.proofs.Words.{far-none, far-some, past-at, past-low, decimals-far, number-near}
 
 -- ---- the bytes that are still to come, less the last
 
-fraction-step : (n k p : ℕ) → remainingOf Fraction n (suc k) p ≡ remainingOf Fraction (n / 10) k 0 ++ (digit (n % 10) ∷ [])
-unfolding remainingOf fixed
-fraction-step n k p =
+fraction-step : (n k : ℕ) → frontOf Fraction n (suc k) ≡ frontOf Fraction (n / 10) k ++ (digit (n % 10) ∷ [])
+unfolding frontOf fixed
+fraction-step n k =
     ap (λ (q : ℕ). written q ++ (point ∷ (fixed k (n / 10) ++ (digit (n % 10) ∷ [])))) (sym (div-tens k n))
     ∙ sym (append-assoc (written (n / 10 / 10 ^ k)) (point ∷ fixed k (n / 10)) (digit (n % 10) ∷ []))
 
@@ -42,6 +42,9 @@ unfolding written
 past-none code h =
     let z : code / 10 ≡ 0 = omega arith in
     ap (λ (l : List ℕ). drop 1 (l ++ (digit (code % 10) ∷ []))) (ap significant z ∙ significant-zero)
+
+pub none-past : (l : List ℕ) (code : ℕ) → code ≤ 9 → l ++ pastFirst code ≡ l
+none-past l code h = ap (λ (w : List ℕ). l ++ w) (past-none code h) ∙ append-nil l
 
 past-step : (code : ℕ) → 9 < code → pastFirst code ≡ pastFirst (code / 10) ++ (digit (code % 10) ∷ [])
 past-step code h =
@@ -78,9 +81,9 @@ past-told code l h =
         ∙ past-digits (code / 10 ^ j) j (code % 10 ^ j) p q (mod-lt code (tens j))
         ∙ ap (fixed j) (sym (past-at code j e))
 
-pub past-tidied : (code tidy : ℕ) → Tidied code tidy → 10 ≤ code → pastDigits tidy ≡ fixed (farOf code) (pastOf code)
+pub past-tidied : (code tidy : ℕ) → Tidied code tidy → 10 ≤ code → pastFirst tidy ≡ fixed (farOf code) (pastOf code)
 past-tidied code tidy t l =
-    sym (past-step tidy (high (ltb tidy 10) refl)) ∙ past-told tidy (high (ltb tidy 10) refl) (t .low) ∙ ap₂ fixed (t .far) (t .past)
+    past-told tidy (high (ltb tidy 10) refl) (t .low) ∙ ap₂ fixed (t .far) (t .past)
   where
     high : (b : Bool) → ltb tidy 10 ≡ b → 10 ≤ tidy
     high true e =
@@ -90,63 +93,51 @@ past-tidied code tidy t l =
         omega arith
     high false e = ltb-false tidy 10 e
 
-pub before-none : (n k : ℕ) → k ≡ 0 → beforePast n k ≡ significant n
-unfolding beforePast
-before-none n zero z = refl
-before-none n (suc k) z = absurd (omega arith)
-
-pub before-some : (n k : ℕ) → (k ≡ 0 → ⊥) → beforePast n k ≡ remainingOf Fraction n k 0
-unfolding beforePast remainingOf
-before-some n zero h = absurd (h refl)
-before-some n (suc k) h = refl
-
 module _ (t : Tail) where
-  part-is : (p : Part) → t .part ≡ p → remaining t ≡ remainingOf p (t .digits) (t .decimals) (t .past)
+  pub tail-past : 9 < t .past →
+      remaining t ≡ (frontOf (t .part) (t .digits) (t .decimals) ++ pastFirst (t .past / 10)) ++ (digit (t .past % 10) ∷ [])
   unfolding remaining
-  part-is p e = ap (λ (q : Part). remainingOf q (t .digits) (t .decimals) (t .past)) e
+  tail-past h =
+      ap (λ (l : List ℕ). frontOf (t .part) (t .digits) (t .decimals) ++ l) (past-step (t .past) h)
+      ∙ sym (append-assoc (frontOf (t .part) (t .digits) (t .decimals)) (pastFirst (t .past / 10)) (digit (t .past % 10) ∷ []))
 
-  pub tail-past-last : t .part ≡ Past → t .past < 100 → remaining t ≡ beforePast (t .digits) (t .decimals) ++ (digit (t .past % 10) ∷ [])
-  unfolding remainingOf
-  tail-past-last e h =
-      part-is Past e
-      ∙ ap (λ (l : List ℕ). beforePast (t .digits) (t .decimals) ++ (l ++ (digit (t .past % 10) ∷ []))) (past-none (t .past / 10) (omega arith))
+  part-is : (p : Part) → t .part ≡ p → t .past ≤ 9 → remaining t ≡ frontOf p (t .digits) (t .decimals)
+  unfolding remaining
+  part-is p e h =
+      none-past (frontOf (t .part) (t .digits) (t .decimals)) (t .past) h ∙ ap (λ (q : Part). frontOf q (t .digits) (t .decimals)) e
 
-  pub tail-past : t .part ≡ Past → 100 ≤ t .past → remaining t ≡ remainingOf Past (t .digits) (t .decimals) (t .past / 10) ++ (digit (t .past % 10) ∷ [])
-  unfolding remainingOf
-  tail-past e h =
-      part-is Past e
-      ∙ ap (λ (l : List ℕ). beforePast (t .digits) (t .decimals) ++ (l ++ (digit (t .past % 10) ∷ []))) (past-step (t .past / 10) (omega arith))
-      ∙ sym (append-assoc (beforePast (t .digits) (t .decimals)) (pastDigits (t .past / 10)) (digit (t .past % 10) ∷ []))
-
-  pub tail-point : t .part ≡ Fraction → t .decimals ≡ 0 → remaining t ≡ written (t .digits) ++ (point ∷ [])
-  unfolding remainingOf fixed
-  tail-point e z =
-      part-is Fraction e
-      ∙ ap (λ (k : ℕ). remainingOf Fraction (t .digits) k (t .past)) z
+  pub tail-point : t .part ≡ Fraction → t .past ≤ 9 → t .decimals ≡ 0 → remaining t ≡ written (t .digits) ++ (point ∷ [])
+  unfolding frontOf fixed
+  tail-point e h z =
+      part-is Fraction e h
+      ∙ ap (λ (k : ℕ). frontOf Fraction (t .digits) k) z
       ∙ ap (λ (n : ℕ). written n ++ (point ∷ [])) (div-one (t .digits))
 
-  pub tail-fraction : t .part ≡ Fraction → (t .decimals ≡ 0 → ⊥) →
-      remaining t ≡ remainingOf Fraction (t .digits / 10) (t .decimals - 1) 0 ++ (digit (t .digits % 10) ∷ [])
-  tail-fraction e h = part-is Fraction e ∙ step (t .digits) (t .decimals) h
+  pub tail-fraction : t .part ≡ Fraction → t .past ≤ 9 → (t .decimals ≡ 0 → ⊥) →
+      remaining t ≡ (frontOf Fraction (t .digits / 10) (t .decimals - 1) ++ pastFirst 0) ++ (digit (t .digits % 10) ∷ [])
+  tail-fraction e h n =
+      part-is Fraction e h
+      ∙ step (t .digits) (t .decimals) n
+      ∙ ap (λ (l : List ℕ). l ++ (digit (t .digits % 10) ∷ [])) (sym (none-past (frontOf Fraction (t .digits / 10) (t .decimals - 1)) 0 zero-le))
     where
-      step : (n k : ℕ) → (k ≡ 0 → ⊥) → remainingOf Fraction n k (t .past) ≡ remainingOf Fraction (n / 10) (k - 1) 0 ++ (digit (n % 10) ∷ [])
+      step : (n k : ℕ) → (k ≡ 0 → ⊥) → frontOf Fraction n k ≡ frontOf Fraction (n / 10) (k - 1) ++ (digit (n % 10) ∷ [])
       step n zero h = absurd (h refl)
-      step n (suc k) h = fraction-step n k (t .past) ∙ ap (λ (j : ℕ). remainingOf Fraction (n / 10) j 0 ++ (digit (n % 10) ∷ [])) same
+      step n (suc k) h = fraction-step n k ∙ ap (λ (j : ℕ). frontOf Fraction (n / 10) j ++ (digit (n % 10) ∷ [])) same
         where
           same : k ≡ suc k - 1
           same = omega arith
 
-  pub tail-units : t .part ≡ Units → remaining t ≡ significant (t .digits / 10) ++ (digit (t .digits % 10) ∷ [])
-  unfolding remainingOf written
-  tail-units e = part-is Units e
+  pub tail-units : t .part ≡ Units → t .past ≤ 9 → remaining t ≡ significant (t .digits / 10) ++ (digit (t .digits % 10) ∷ [])
+  unfolding frontOf written
+  tail-units e h = part-is Units e h
 
-  pub tail-none : t .part ≡ Higher → t .digits ≡ 0 → remaining t ≡ []
-  unfolding remainingOf
-  tail-none e z = part-is Higher e ∙ ap significant z ∙ significant-zero
+  pub tail-none : t .part ≡ Higher → t .past ≤ 9 → t .digits ≡ 0 → remaining t ≡ []
+  unfolding frontOf
+  tail-none e h z = part-is Higher e h ∙ ap significant z ∙ significant-zero
 
-  pub tail-higher : t .part ≡ Higher → (t .digits ≡ 0 → ⊥) → remaining t ≡ significant (t .digits / 10) ++ (digit (t .digits % 10) ∷ [])
-  unfolding remainingOf
-  tail-higher e h = part-is Higher e ∙ significant-step (t .digits) (omega arith)
+  pub tail-higher : t .part ≡ Higher → t .past ≤ 9 → (t .digits ≡ 0 → ⊥) → remaining t ≡ significant (t .digits / 10) ++ (digit (t .digits % 10) ∷ [])
+  unfolding frontOf
+  tail-higher e h n = part-is Higher e h ∙ significant-step (t .digits) (omega arith)
 
 -- ---- the whole text
 
@@ -161,8 +152,8 @@ text-whole n z =
     ∙ append-nil (written (n .digits / 1))
     ∙ ap written (div-one (n .digits))
 
-pub text-fraction : (n : Number) → (n .decimals ≡ 0 → ⊥) → text n ≡ remainingOf Fraction (n .digits) (n .decimals) 0
-unfolding text remainingOf
+pub text-fraction : (n : Number) → (n .decimals ≡ 0 → ⊥) → text n ≡ frontOf Fraction (n .digits) (n .decimals)
+unfolding text frontOf
 text-fraction n h = ap (λ (l : List ℕ). written (n .digits / 10 ^ n .decimals) ++ l) (after (n .decimals) (n .digits) h)
   where
     after : (k m : ℕ) → (k ≡ 0 → ⊥) → afterPoint k m ≡ point ∷ fixed k m
@@ -187,8 +178,8 @@ fixed-split k d (suc j) p h =
     ∙ append-assoc (fixed k d) (fixed j (p / 10)) (digit (p % 10) ∷ [])
 
 -- past nine decimals
-pub text-far : (d code : ℕ) → 10 ≤ code → text (numberOf d code) ≡ beforePast d near ++ fixed (farOf code) (pastOf code)
-unfolding numberOf remainingOf beforePast
+pub text-far : (d code : ℕ) → 10 ≤ code → text (numberOf d code) ≡ frontOf Fraction d near ++ fixed (farOf code) (pastOf code)
+unfolding numberOf frontOf
 text-far d code l =
     text-fraction (numberOf d code) (λ z. let e : decimalsOf code ≡ near + farOf code = decimals-far code l in omega arith)
     ∙ ap (λ (k : ℕ). written (D / 10 ^ k) ++ (point ∷ fixed k D)) (decimals-far code l)

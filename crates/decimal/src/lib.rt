@@ -86,13 +86,12 @@ pub enum Written {
 // What comes next of a number's text, from its end: digits past the ninth decimal; digits after the point, then the point;
 // the last digit before the point; the digits before that one.
 enum Part {
-    Past,
     Fraction,
     Units,
     Higher,
 }
 
-// A text that is handed out from its end. `past` is used by the part of that name: its digits but for the first.
+// A text that is handed out from its end. The digits of `past` but for its first are the last of it.
 pub struct Tail {
     digits: u64,
     decimals: u64,

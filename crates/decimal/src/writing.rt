@@ -1,13 +1,14 @@
 // Numbers as text: laid into a lent buffer, or handed out from the last byte to the first.
 ghost use mathlib.Core.Path.{_≡_};
 ghost use Prim.Native.Nat.{_+_, _-_, _/_, _%_, _^_, _<_, _≤_};
+ghost use mathlib.Core.List.{_++_};
 ghost use lib.ListN.{length};
 ghost use Rattle.decimal.specs.Digits.{significant, written};
 ghost use Rattle.decimal.specs.Decimal.{number, text, stripped};
 ghost use Rattle.decimal.specs.Limits.{Within};
 ghost use Rattle.decimal.specs.Buffer.{overlaid};
 ghost use Rattle.decimal.specs.Laying.{Laid};
-ghost use Rattle.decimal.specs.Tail.{remaining, beforePast, Stepped};
+ghost use Rattle.decimal.specs.Tail.{remaining, frontOf, pastFirst, Stepped};
 use crate::Decimal;
 use crate::NEAR;
 use crate::Part;
@@ -68,7 +69,7 @@ pub fn text_tail(a: Decimal) -> Tail
         digits: a.digits,
         decimals: NEAR,
         past: tidy(a.code),
-        part: Part::Past,
+        part: Part::Fraction,
     }
 }
 
@@ -86,7 +87,7 @@ pub fn stripped_tail(a: Decimal) -> Tail
         digits: a.digits,
         decimals: 0,
         past: tidy(a.code),
-        part: Part::Past,
+        part: Part::Higher,
     }
 }
 
@@ -119,25 +120,11 @@ impl Tail {
     pub fn step(self) -> Step
         ensures { λ r. ⌜ Stepped self r ⌝ }
     {
+        if 9 < self.past {
+            return Step::Byte(last_digit(self.past), before_past(self));
+        }
         let part = self.part;
         match part {
-            Part::Past => {
-                if self.past < 100 {
-                    return Step::Byte(
-                        last_digit(self.past),
-                        before_past(self.digits, self.decimals),
-                    );
-                }
-                Step::Byte(
-                    last_digit(self.past),
-                    Tail {
-                        digits: self.digits,
-                        decimals: self.decimals,
-                        past: self.past / 10,
-                        part: Part::Past,
-                    },
-                )
-            }
             Part::Fraction => {
                 if self.decimals == 0 {
                     return Step::Byte(POINT, whole_tail(self.digits));
@@ -163,18 +150,16 @@ impl Tail {
     }
 }
 
-// The text before the digits past the ninth decimal.
-fn before_past(digits: u64, decimals: u64) -> Tail
-    ensures { λ r. ⌜ remaining r ≡ beforePast digits decimals ⌝ }
+// The text before the last of the digits past the ninth decimal.
+fn before_past(t: Tail) -> Tail
+    ensures { λ r. ⌜ remaining r ≡ frontOf (t .part) (t .digits) (t .decimals) ++ pastFirst (t .past / 10) ⌝ }
 {
-    if decimals == 0 {
-        return digits_tail(digits);
-    }
+    let part = t.part;
     Tail {
-        digits,
-        decimals,
-        past: 0,
-        part: Part::Fraction,
+        digits: t.digits,
+        decimals: t.decimals,
+        past: t.past / 10,
+        part,
     }
 }
 

@@ -4,7 +4,7 @@ use mathlib.Core.Path.{sym, ap, _∙_}
 use mathlib.Core.List.{List, _++_}
 use Rattle.decimal.specs.Digits.{significant}
 use Rattle.decimal.specs.Decimal.{number}
-use Rattle.decimal.specs.Tail.{remaining, remainingOf, beforePast}
+use Rattle.decimal.specs.Tail.{remaining, frontOf}
 use Rattle.decimal.proofs.Text.{past-tidied, stripped-near, stripped-zeros, stripped-far}
 use borrow.Author.Needs.{needs}
 use Rattle.decimal.proofs.writing.stripped_tail.Statement.{statement}
@@ -21,7 +21,7 @@ returns-2 c =
     c .digits-tail2 .ensures ∙ ap significant (c .before .past .ensures) ∙ sym (stripped-zeros (a .digits) (a .code) (c .before .before .if2 .taken))
 
 returns-3 : tie.Need-returns-3
-unfolding number remaining remainingOf beforePast
+unfolding number remaining frontOf
 returns-3 c =
     let a = c .before .before .before .before .before .args .a in
     ap (λ (l : List ℕ). significant (a .digits) ++ l) (past-tidied (a .code) (c .tidy .result) (c .tidy .ensures) (c .before .before .before .if1 .left))

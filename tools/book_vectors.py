@@ -19,6 +19,11 @@ import message_vectors as message
 MAX_LEVELS, MAX_UPDATES, ROOM, SUMMED = 100, 4294967295, 20000, 25
 
 
+def fixed(value):
+    """The text with twelve decimals."""
+    return format(value, ".12f")
+
+
 def stripped(text):
     return text.replace(b".", b"").lstrip(b"0")
 
@@ -354,6 +359,56 @@ def linked(files):
             files.take(theirs, 0 if max(bids, asks) <= SUMMED else 13)
 
 
+def twelve(files):
+    files.heading("twelve decimals: prices that only the last digits tell apart, and that differ by 2^64 of them")
+    one, wrap = Decimal("0.000000000001"), Decimal(2 ** 64).scaleb(-12)
+    for settings in (K10, M100, M2):
+        for low in (Decimal("1.000000000000"), Decimal("9999999999.999999999900"), Decimal("0.000000000001"), Decimal("18446744.073709551610")):
+            files.open(*settings)
+            prices = [fixed(low + i * one) for i in range(12)]
+            files.take(files.message(True, [(price, "0.000000000001") for price in prices[5::-1]], [(price, "9999999999.999999999999") for price in prices[6:]], 7), 0)
+            files.ask_all(6)
+            files.take(files.message(False, [(prices[3], "0.000000000000"), (prices[5], "0.0000000000")], [(prices[6], "0"), (prices[7], "0.0000000001")], 8), 0)
+            files.ask_all(5)
+            files.write(len(files.book.text()))
+            files.back()
+            files.ask_all(1)
+            files.take(files.message(False, [(prices[7], "1")], [], 9), 16)
+            files.take(files.message(True, [(prices[7], "1")], [(prices[7], "1")], 9), 16)
+            files.take(files.message(True, [(prices[7], "1")], [(prices[8], "1")], 9), 0)
+        files.open(*settings)
+        apart = [fixed(Decimal("0.5") + i * wrap) for i in range(4)]
+        files.take(files.message(True, [(price, "1") for price in apart[:2]], [(price, "1") for price in apart[2:]], 7), 0)
+        files.ask_all(2)
+        files.take(files.message(False, [(apart[0], "0")], [(apart[3], "2.000000000000")], 8), 0)
+        files.ask_all(2)
+        files.take(files.message(False, [("0.0000000000001", "1")], [], 9, 5), 8)
+        files.take(files.message(True, [("1", "1.0000000000000")], [], 9, 5), 8)
+    files.heading("one price with nine decimals and with more")
+    for settings in (K10, M100):
+        files.open(*settings)
+        files.take(files.message(True, [("0.5", "1")], [], 7), 0)
+        for number, (price, size) in enumerate([("0.5000000000", "2"), ("0.50000000000", "0.1000000000"), ("0.500000000000", "3"), ("0.5", "4.000000000000"),
+                                                ("0.500000000", "0.000000000000")], 8):
+            files.take(files.message(False, [(price, size)], [], number), 0)
+            files.ask_all(1)
+        files.take(files.message(True, [("0.5", "1"), ("0.500000000000", "1")], [], 7, 5), 9)
+    files.heading("the longest snapshot that a book can write, and its text back")
+    for settings in ((b"K", 100, b"0123456789abcdef"), (b"M", 100, b"0123456789abcdef"), (b"M2", 100, b"0123456789abcdef")):
+        files.open(*settings)
+        high = Decimal("9999999999.999999999999")
+        rows = [(fixed(high - i * one), fixed(high - (7 * i % 11) * one)) for i in range(200)]
+        files.take(files.message(True, rows[100:], rows[:100], 9999999999999999999), 0)
+        text = files.book.text()
+        assert all(len(price) == len(size) == 23 for price, size in rows) and len(text) <= message.MAX_MESSAGE
+        files.write(len(text) - 1)
+        files.write(len(text))
+        files.back()
+        files.ask_all(0)
+        for letter in "ba":
+            files.ask(letter, 99)
+
+
 def crossed(files):
     files.heading("crossed: the best bid is not below the best ask, by value, after the whole message and the cut")
     for settings in (K10, K11, M100, M2):
@@ -446,6 +501,7 @@ def main():
     cuts(files)
     crossed(files)
     linked(files)
+    twelve(files)
     written(files, random.Random(6))
     for name, lines in (("stdin", files.cases), ("stdout", files.answers)):
         with open("crates/book_vectors/" + name, "wb") as out:

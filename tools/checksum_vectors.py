@@ -33,8 +33,14 @@ def message(side, *entries):
     out.append(f"{count} {met}")
 
 
+def twelve(units):
+    return f"{units // 10**12}.{units % 10**12:012}"
+
+
 def shown(text):
-    return f"{int(text.replace(chr(46), str()))}/{len(text.partition(chr(46))[2])}"
+    """The digits up to the ninth decimal, and what tells the rest: how many decimals there are, up to 9, else a 1 and the digits past the ninth."""
+    whole, _, part = text.partition(".")
+    return f"{int(whole + part[:9])}/{int('1' + part[9:]) if len(part) > 9 else len(part)}"
 
 
 def show():
@@ -99,6 +105,16 @@ for dialect in ("M2", "M1"):
     message("b", ("100.5", "7"))
     show()
     assert (out[-1] == before) == (dialect == "M2")
+# texts of 23 bytes, and prices that the last digits alone tell apart, or 2^64 of them
+for dialect, depth in (("K", 10), ("K", 100), ("M", 100), ("M2", 100)):
+    new(dialect, depth)
+    for side, low in (("b", 9999999999_999999999900), ("a", 2**64 - 3), ("a", 1)):
+        message(side, *((twelve(low + i), twelve(9999999999_999999999999 - i)) for i in range(0, 20, 3)))
+        message(side, *((twelve(low + i), twelve(i)) for i in range(19, 0, -2)))
+        show()
+    message("b", (twelve(9999999999_999999999903), "0.000000000000"), ("0.0000000001", "0.00000000010"), ("0.000000000100", "0.0000000001"))
+    message("a", (twelve(1), "1"), (twelve(1 + 2**64), "2"), (twelve(2**64 - 3), "0"))
+    show()
 # two hundred updates of a few entries, near the top and anywhere
 for dialect, depth in (("K", 10), ("K", 25), ("K", 100), ("M", 100), ("M2", 100)):
     new(dialect, depth)
@@ -108,8 +124,8 @@ for dialect, depth in (("K", 10), ("K", 25), ("K", 100), ("M", 100), ("M2", 100)
             for _ in range(random.choice((0, 1, 1, 2, 2, 3, 5))):
                 price = f"{random.randint(1, 40)}"
                 if random.random() < 0.7:
-                    price += "." + random.choice(("5", "50", "25", "0", "000000001", "123456789"))
-                size = random.choice(("0", "0.0", "1", "2.50", "0.00000500", "9999999999.999999999", "123.456"))
+                    price += "." + random.choice(("5", "50", "25", "0", "000000001", "123456789", "0000000010", "000000000001", "123456789012"))
+                size = random.choice(("0", "0.0", "1", "2.50", "0.00000500", "9999999999.999999999", "123.456", "0.0000000000", "0.000000000001"))
                 entries.append((price, size))
             message(side, *entries)
         if turn % 5 == 4:

@@ -5,7 +5,7 @@ import json
 import random
 import re
 
-DECIMAL = re.compile(r"(0|[1-9][0-9]{0,9})(\.[0-9]{1,9})?\Z")
+DECIMAL = re.compile(r"(0|[1-9][0-9]{0,9})(\.[0-9]{1,12})?\Z")
 BLANKS = " \t\r\n"
 ENTRIES_DEPTH = 14
 ENTRY_DEPTH = 13
@@ -70,18 +70,23 @@ def entry(line, dialect):
 
 
 def number(text):
-    """The digits and the decimals of a text between quotes; both are 0 where it is no decimal."""
+    """Of a text between quotes, the digits up to the ninth decimal, and what tells the rest: how many decimals there are, up to 9, else a 1
+    and the digits past the ninth; both are 0 where it is no decimal."""
     if not DECIMAL.match(text[1:-1]):
         return (0, 0)
     whole, _, fraction = text[1:-1].partition(".")
-    return (int(whole + fraction), len(fraction))
+    return (int(whole + fraction[:9]), int("1" + fraction[9:]) if len(fraction) > 9 else len(fraction))
+
+
+def is_zero(text):
+    return not text.strip('"0.')
 
 
 def is_bad(texts, snapshot):
     price, size = texts
-    if not DECIMAL.match(price[1:-1]) or number(price)[0] == 0:
+    if not DECIMAL.match(price[1:-1]) or is_zero(price):
         return True
-    return not DECIMAL.match(size[1:-1]) or (snapshot and number(size)[0] == 0)
+    return not DECIMAL.match(size[1:-1]) or (snapshot and is_zero(size))
 
 
 def entries(line, dialect):
@@ -113,7 +118,7 @@ ENTRIES = [
     '{"a":["1","2"]}', "null", "", "x", "[", "]", '["1\\x","2","3"]', '["1","2","3",' + "[" * 12 + "]" * 12 + "]", '["1","2","3",' + "[" * 13 + "]" * 13 + "]",
     '[["1","2"],"3"]', '["1","2",["3"]]', '["1","2",null]',
 ]
-NUMBERS = ["1", "0", "0.0", "0.000000000", "10.5", "01", "1.", ".5", "", "-1", "1e5", "12345678901", "1234567890.123456789", "1.1234567890", "0.00", "x", "1 ", "\\u0031", "9"]
+NUMBERS = ["1", "0", "0.0", "0.000000000", "10.5", "01", "1.", ".5", "", "-1", "1e5", "12345678901", "1234567890.123456789", "1.1234567890", "0.00", "x", "1 ", "\\u0031", "9", "9999999999.999999999999", "0.000000000001", "0.000000000000", "1.1234567890123", "0.0000000000000"]
 
 
 def arrays(dialect):

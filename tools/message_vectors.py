@@ -131,7 +131,7 @@ def good_settings(dialect, depth, name):
 
 
 WHOLE = re.compile(rb"(?:0|[1-9][0-9]{0,18})\Z")
-DECIMAL = re.compile(rb"(?:0|[1-9][0-9]{0,9})(?:\.[0-9]{1,9})?\Z")
+DECIMAL = re.compile(rb"(?:0|[1-9][0-9]{0,9})(?:\.[0-9]{1,12})?\Z")
 
 
 def whole(text):
@@ -241,8 +241,10 @@ def check(dialect, depth, name, text):
 
 
 def digits(text):
-    """The digits as one whole number, and how many of them are decimals."""
-    return b"%d/%d" % (int(text.replace(b".", b"")), len(text.partition(b".")[2]))
+    """The digits up to the ninth decimal as one whole number, and what tells the rest: how many decimals there are, up to 9, else a 1 and the
+    digits past the ninth."""
+    before, _, after = text.partition(b".")
+    return b"%d/%d" % (int(before + after[:9]), int(b"1" + after[9:]) if len(after) > 9 else len(after))
 
 
 def entry_texts(rows):
@@ -329,10 +331,11 @@ NOT_CHECKSUM_TEXT = ["", " 5", "5 ", "05", "00", "-0", "-1", "+5", "1.0", "1e0",
                      "\\u0035", "5\\n"]
 NOT_ENTRIES = ["{}", "null", "5", '"x"', "[5]", '["1"]', "[null]", "[{}]", "[[]]", '[["1"]]', '[["1",2]]', '[[1,"2"]]', '[["1",null]]',
                '[["1",["2"]]]', '[{"1":"2"}]']
-NOT_DECIMAL = ["", "05", "00", "5.", ".5", "-1", "+1", "1e5", "1,5", "1.2.3", " 1", "1 ", "10000000000", "0.0000000001", "\\u0035", "5\\n", "x",
+NOT_DECIMAL = ["", "05", "00", "5.", ".5", "-1", "+1", "1e5", "1,5", "1.2.3", " 1", "1 ", "10000000000", "0.0000000000001", "9999999999.0000000000000", "\\u0035", "5\\n", "x",
                "1.-5", "00.5", "0x1", "\x80"]
-DECIMALS = ["1", "9999999999", "0.000000001", "9999999999.999999999", "0.05120", "10.0"]
-ZEROS = ["0", "0.0", "0.000000000"]
+DECIMALS = ["1", "9999999999", "0.000000001", "9999999999.999999999", "0.05120", "10.0", "0.000000000001", "9999999999.999999999999", "1.0000000000",
+            "0.00000000010"]
+ZEROS = ["0", "0.0", "0.000000000", "0.0000000000", "0.000000000000"]
 
 
 def hexed(text, upper=False):

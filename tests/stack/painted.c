@@ -20,7 +20,7 @@ static void call(int asked, size_t buffer, const char *message, size_t length) {
     word(asked), word(0), word(0), word(0), word(buffer), word(length);
     memcpy(script + script_length, message, length);
     script_length += length;
-    out_length += 40 + buffer;
+    out_length += 56 + buffer;
 }
 
 static void run(void) {

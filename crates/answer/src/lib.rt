@@ -25,7 +25,7 @@ pub enum Answer {
     PriceTwice,
     // There is no snapshot that could be spoken of.
     NoSnapshot,
-    // The sequence number of an update is not greater than the book's.
+    // The sequence number of an update is not greater than the book's, or it does not name the book's as the one before.
     OldNumber,
     // Too many levels on a side after the message.
     TooManyLevels,

@@ -29,27 +29,62 @@ use Rattle.level.specs.declared.Level.{Level}
 use Rattle.text.specs.Text.{joined, colon}
 use Rattle.checksum.specs.Text.{kLevel, kChecksumText, mLevel, interleaved, colonJoined, mChecksumText}
 use Rattle.checksum.specs.Carried.{pieceOf, levelFor, Carries, summed}
+use Rattle.checksum.proofs.Bytes.{piece-sum}
+
+-- ---- the length of a piece
+
+k-short : (price size : Number) → Within price → Within size → length (kPiece price size) ≤ maxLength
+unfolding kPiece
+k-short price size p s =
+    let a = length-stripped price p in
+    let b = length-stripped size s in
+    let e : length (stripped price ++ stripped size) ≡ length (stripped price) + length (stripped size) = length-append (stripped price) (stripped size) in
+    omega arith
+
+m-short : (price size : Number) → Within price → Within size → length (mPiece price size) ≤ maxLength
+unfolding mPiece
+m-short price size p s =
+    let a = length-text price p in
+    let b = length-text size s in
+    let e : length (text price ++ (colon ∷ text size)) ≡ length (text price) + suc (length (text size)) = length-append (text price) (colon ∷ text size) in
+    omega arith
+
+pub piece-short : (sumText : SumText) (price size : Number) → Within price → Within size → length (pieceOf sumText price size) ≤ maxLength
+piece-short Stripped = k-short
+piece-short Interleaved = m-short
 
 -- ---- a level that was made carries its piece
 
-module _ (sumText : SumText) (price size : Number) where
+module _ (sumText : SumText) (price size : Number) (p : Within price) (s : Within size) where
+  abbrev sum : ℕ
+  sum = run 0 (pieceOf sumText price size)
+
+  abbrev long : ℕ
+  long = length (pieceOf sumText price size)
+
+  fits : run 0 (pieceOf sumText price size) < 2 ^ 32
+  fits = piece-sum sumText price size
+
+  short : length (pieceOf sumText price size) ≤ maxLength
+  short = piece-short sumText price size p s
+
   pub level-price : levelPrice (levelFor sumText price size) ≡ price
   unfolding levelFor
-  level-price = made-price price size _ _
+  level-price = made-price price size sum long p s fits short
 
   pub level-size : levelSize (levelFor sumText price size) ≡ size
   unfolding levelFor
-  level-size = made-size price size _ _
+  level-size = made-size price size sum long p s fits short
 
   pub level-shown : shown (levelFor sumText price size) ≡ record { price = price; size = size }
   unfolding levelFor
-  level-shown = made-shown price size _ _
+  level-shown = made-shown price size sum long p s fits short
 
   pub level-carries : Carries (pieceOf sumText) (levelFor sumText price size)
   unfolding levelFor
   level-carries =
       let same : pieceOf sumText price size ≡ pieceOf sumText (levelPrice (levelFor sumText price size)) (levelSize (levelFor sumText price size)) = sym (ap₂ (pieceOf sumText) level-price level-size) in
-      record { sum = made-sum price size _ _ ∙ ap (run 0) same; long = made-length price size _ _ ∙ ap length same }
+      record { sum = made-sum price size sum long p s fits short ∙ ap (run 0) same; long = made-length price size sum long p s fits short ∙ ap length same }
 
 -- ---- the state after the pieces of levels
 
@@ -205,28 +240,6 @@ some-right zero xs ys p h = absurd (not-suc-le-zero p)
 some-right (suc n) xs [] p h = absurd (not-suc-le-zero h)
 some-right (suc n) [] (y ∷ ys) p h = zero-lt-suc (length (interleaved n [] ys))
 some-right (suc n) (x ∷ xs) (y ∷ ys) p h = zero-lt-suc (suc (length (interleaved n xs ys)))
-
--- ---- the length of a piece
-
-k-short : (price size : Number) → Within price → Within size → length (kPiece price size) ≤ maxLength
-unfolding kPiece
-k-short price size p s =
-    let a = length-stripped price p in
-    let b = length-stripped size s in
-    let e : length (stripped price ++ stripped size) ≡ length (stripped price) + length (stripped size) = length-append (stripped price) (stripped size) in
-    omega arith
-
-m-short : (price size : Number) → Within price → Within size → length (mPiece price size) ≤ maxLength
-unfolding mPiece
-m-short price size p s =
-    let a = length-text price p in
-    let b = length-text size s in
-    let e : length (text price ++ (colon ∷ text size)) ≡ length (text price) + suc (length (text size)) = length-append (text price) (colon ∷ text size) in
-    omega arith
-
-pub piece-short : (sumText : SumText) (price size : Number) → Within price → Within size → length (pieceOf sumText price size) ≤ maxLength
-piece-short Stripped = k-short
-piece-short Interleaved = m-short
 
 -- ---- a list mapped, and what holds of each of its elements
 

@@ -1,4 +1,4 @@
--- Document 01's cases under "Checked by hand" that are to be proved, as one table under one statement. Assumes nothing.
+-- Document 01's cases under "Checked by hand" that are to be proved, with document 02's of twelve decimals, as one table under one statement. Assumes nothing.
 use Prim.Native.Nat.{ℕ}
 use Prim.Native.String.{String}
 use mathlib.Core.Path.{_≡_, refl}
@@ -48,8 +48,9 @@ table =
     ∷ refuses ".5"
     ∷ passes "9999999999"
     ∷ refuses "10000000000"
-    ∷ passes "0.000000001"
-    ∷ refuses "0.0000000001"
+    ∷ passes "0.000000000001"
+    ∷ refuses "0.0000000000001"
+    ∷ passes "9999999999.999999999999"
     ∷ one-price "0.5" "0.50"
     ∷ k-text (level "0.05000" "0.00000304") "5000304"
     ∷ m-text (level "9" "2" ∷ level "8" "3" ∷ []) (level "10" "1" ∷ []) "9:2:10:1:8:3"
@@ -60,4 +61,4 @@ table =
 pub checked-by-hand : All Holds table
 unfolding table All decimal level read prefix isWhole pointed fractional leading isDigit valueFrom text afterPoint fixed written significant significantIn
     withoutPoint withoutZeros stripped value orderOf order joined kLevel kChecksumText interleaved colonJoined mLevel mChecksumText bit bits step run crc
-checked-by-hand = (refl, (refl, (refl, (refl, (refl, (refl, (refl, (refl, ((refl, refl, refl), (refl, (refl, (refl, (refl, tt)))))))))))))
+checked-by-hand = (refl, (refl, (refl, (refl, (refl, (refl, (refl, (refl, (refl, ((refl, refl, refl), (refl, (refl, (refl, (refl, tt))))))))))))))

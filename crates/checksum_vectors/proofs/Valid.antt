@@ -30,12 +30,12 @@ none-carried text levels e = subst (All (Carries (pieceOf text))) (sym e) tt
 
 -- a side that entries were applied to is as fine as it was
 pub applied-fine : (text : SumText) (side : Side) (depth : ℕ) (es : List Numbers) (levels : Levels) {words : List ℕ} {applied : Applied} →
-    ValidSide text side levels → AfterEntries side depth (changesFor text side es) levels words applied → ValidSide text side (keptIn words (applied .left))
-applied-fine text side depth es levels f a = record {
+    ValidSide text side levels → All EntryWithin es → AfterEntries side depth (changesFor text side es) levels words applied → ValidSide text side (keptIn words (applied .left))
+applied-fine text side depth es levels f w a = record {
   good = a .good;
   carried =
       subst (All (Carries (pieceOf text))) (sym (a .levels))
-      (all-afterMessage levelPrice (Carries (pieceOf text)) side depth (changesFor text side es) (held levels) (changes-carried text side es) (f .carried));
+      (all-afterMessage levelPrice (Carries (pieceOf text)) side depth (changesFor text side es) (held levels) (changes-carried text side es w) (f .carried));
 }
 
 -- ---- entries in a buffer

@@ -304,7 +304,7 @@ fn show_levels(levels: Levels)
     }
 }
 
-// Digits and decimals of the price, digits and decimals of the size.
+// Digits and code of the price, digits and code of the size.
 fn show_level(level: Level) {
     say(b" ");
     show_decimal(level::price_of(level));
@@ -313,9 +313,10 @@ fn show_level(level: Level) {
 }
 
 fn show_decimal(d: Decimal) {
-    say_number(decimal::digits_of(d));
+    let parts = decimal::parts_of(d);
+    say_number(parts.digits);
     say(b"/");
-    say_number(decimal::decimals_of(d));
+    say_number(parts.code);
 }
 
 fn say(text: &[u8]) {

@@ -1,15 +1,15 @@
 -- Laws of the value and of the order by value. Assumes nothing.
-use mathlib.Core.Path.{_≡_, refl, sym, ap, ap₂, _∙_, subst}
+use mathlib.Core.Path.{_≡_, refl, sym, ap, _∙_, subst}
 use mathlib.Core.Bool.{Bool, true, false}
 use Prim.Native.Nat.{ℕ, zero, suc, _+_, _-_, _*_, _^_, _≤_, _<_, zero-le}
 use mathlib.Core.Logic.{_↔_}
-use native.Mathlib.Nat.{zero-mul, mul-assoc, mul-comm, mul-one, mul-left-comm, mul-right-comm, mul-lt-mul-of-pos-right, mul-le-mul-right, mul-le-mul-left, eq-of-mul-eq-mul-right, lt-of-lt-of-le, le-trans, lt-trans}
+use native.Mathlib.Nat.{zero-mul, mul-assoc, mul-comm, mul-left-comm, mul-right-comm, mul-lt-mul-of-pos-right, mul-le-mul-right, mul-le-mul-left, eq-of-mul-eq-mul-right, lt-of-lt-of-le, le-trans, lt-trans}
 use native.Mathlib.Omega.{arith}
 use borrow.Author.Tests.{lt-ltb, le-ltb, eq-eqb, ne-eqb, ltb-true, ltb-false, eqb-true, eqb-false}
 use lib.Dec.{ltb, eqb, lit<, lit≤}
 use lib.Pow.{pow-add}
 use lib.Arith.{lt-of-le-ne}
-use Rattle.decimal.specs.Decimal.{Number, value, isZero, maxDecimals, maxWhole}
+use Rattle.decimal.specs.Decimal.{Number, value, isZero, near, maxDecimals, maxWhole}
 use Rattle.decimal.specs.Limits.{orderOf, order, Within}
 use Rattle.decimal.specs.declared.Order.{Order}
 use Rattle.decimal.specs.declared.Order.the-variants.{Less, Equal, Greater}
@@ -45,42 +45,14 @@ scaled x y p h = at (ltb x y) (eqb x y) refl refl
         let g : y < x = omega arith in
         greater (x * p) (y * p) (mul-lt-mul-of-pos-right g h) ∙ sym (greater x y g)
 
--- ---- two decimals are ordered as their digits are, once both are written with as many decimals
-
-raised : (d k j : ℕ) → k ≤ j → j ≤ maxDecimals → d * 10 ^ (maxDecimals - k) ≡ d * 10 ^ (j - k) * 10 ^ (maxDecimals - j)
-raised d k j l m =
-    let q : maxDecimals - k ≡ (j - k) + (maxDecimals - j) = omega arith in
-    ap (λ (n : ℕ). d * 10 ^ n) q ∙ ap (λ (n : ℕ). d * n) (pow-add 10 (j - k) (maxDecimals - j)) ∙ sym (mul-assoc d (10 ^ (j - k)) (10 ^ (maxDecimals - j)))
-
-pub order-raised-left : (a b : Number) → a .decimals ≤ b .decimals → b .decimals ≤ maxDecimals →
-    order a b ≡ orderOf (a .digits * 10 ^ (b .decimals - a .decimals)) (b .digits)
-unfolding order value
-order-raised-left a b l m =
-    ap (λ (n : ℕ). orderOf n (b .digits * 10 ^ (maxDecimals - b .decimals))) (raised (a .digits) (a .decimals) (b .decimals) l m)
-    ∙ scaled (a .digits * 10 ^ (b .decimals - a .decimals)) (b .digits) (10 ^ (maxDecimals - b .decimals)) (tens (maxDecimals - b .decimals))
-
-pub order-raised-right : (a b : Number) → b .decimals ≤ a .decimals → a .decimals ≤ maxDecimals →
-    order a b ≡ orderOf (a .digits) (b .digits * 10 ^ (a .decimals - b .decimals))
-unfolding order value
-order-raised-right a b l m =
-    ap (λ (n : ℕ). orderOf (a .digits * 10 ^ (maxDecimals - a .decimals)) n) (raised (b .digits) (b .decimals) (a .decimals) l m)
-    ∙ scaled (a .digits) (b .digits * 10 ^ (a .decimals - b .decimals)) (10 ^ (maxDecimals - a .decimals)) (tens (maxDecimals - a .decimals))
-
-pub order-same : (a b : Number) → a .decimals ≡ b .decimals → b .decimals ≤ maxDecimals → order a b ≡ orderOf (a .digits) (b .digits)
-order-same a b e m =
-    let z : b .decimals - a .decimals ≡ 0 = omega arith in
-    order-raised-left a b (omega arith) m
-    ∙ ap (λ (n : ℕ). orderOf (a .digits * 10 ^ n) (b .digits)) z
-    ∙ ap (λ (n : ℕ). orderOf n (b .digits)) (mul-one (a .digits))
-
--- the digits of a decimal within the limits fit 64 bits with as many decimals as there may be
-pub raised-fits : (n : Number) (j : ℕ) → Within n → n .decimals ≤ j → j ≤ maxDecimals → n .digits * 10 ^ (j - n .decimals) < 2 ^ 64
+-- the digits of a decimal within the limits fit 64 bits with nine decimals
+pub raised-fits : (n : Number) (j : ℕ) → Within n → n .decimals ≤ j → j ≤ near → n .digits * 10 ^ (j - n .decimals) < 2 ^ 64
 raised-fits n j w l m =
     let q : maxWhole + n .decimals + (j - n .decimals) ≡ maxWhole + j = omega arith in
     let h : n .digits * 10 ^ (j - n .decimals) < 10 ^ (maxWhole + j) =
     subst (λ (x : ℕ). n .digits * 10 ^ (j - n .decimals) < x) (sym (pow-add 10 (maxWhole + n .decimals) (j - n .decimals)) ∙ ap (λ (x : ℕ). 10 ^ x) q)
     (mul-lt-mul-of-pos-right (w .low) (tens (j - n .decimals))) in
-    let k : 10 ^ (maxWhole + j) ≤ 10 ^ (maxWhole + maxDecimals) = tens-mono (maxWhole + j) (maxWhole + maxDecimals) (omega arith) in
+    let k : 10 ^ (maxWhole + j) ≤ 10 ^ (maxWhole + near) = tens-mono (maxWhole + j) (maxWhole + near) (omega arith) in
     lt-of-lt-of-le h (le-trans k (lit≤ tt))
 
 -- ---- equal value is an equivalence, and the order is total and decides it

@@ -3,19 +3,20 @@ use mathlib.Core.Path.{_≡_, refl, sym, ap, ap₂, _∙_, subst}
 use mathlib.Core.Bool.{Bool, true, false, _&&_}
 use mathlib.Core.List.{List, [], _∷_, _++_}
 use Prim.Native.Nat.{ℕ, zero, suc, _+_, _-_, _*_, _^_, _≤_, _<_, min}
-use native.Mathlib.Nat.{add-zero, add-assoc, lt-of-lt-of-le, not-suc-le-zero}
+use native.Mathlib.Nat.{add-zero, add-assoc, one-mul, le-of-lt, lt-of-lt-of-le, not-suc-le-zero}
 use native.Mathlib.Omega.{arith}
 use borrow.Author.Tests.{ltb-true, ltb-false, eq-eqb, ne-eqb, lt-ltb}
-use lib.Dec.{leb, ltb, eqb, lit≤}
-use lib.ListN.{length, getD, take, drop, length-take, length-drop, List·getD-eq-default}
+use lib.Dec.{leb, ltb, eqb, lit<, lit≤}
+use lib.ListN.{length, getD, take, drop, take-append-drop, length-take, length-drop, List·getD-eq-default}
 use lib.Seq.{getD-drop, drop-drop, take-all, length-take-le}
 use Rattle.text.specs.Text.{isDigit}
 use Rattle.decimal.specs.Digits.{Reading, reads, refused, leading, valueFrom, valueOf}
-use Rattle.decimal.specs.Decimal.{isWhole, Number, Prefix, prefixed, fractional, pointed, prefix, maxWhole, maxDecimals}
+use Rattle.decimal.specs.Decimal.{isWhole, Number, Prefix, prefixed, fractional, pointed, prefix, numberOf, near, maxWhole, maxDecimals}
 use Rattle.decimal.specs.Reads.{Ran}
 use Rattle.decimal.specs.declared.reading.Run.{Run}
-use Rattle.decimal.proofs.Digits.{Digits, leading-digits, value-append, value-low, value-below, tens-mono}
-use Rattle.decimal.proofs.Scan.{past-digits, leading-here, leading-none, digit-within, length-leading, whole-empty, whole-long, whole-zero, whole-good, prefix-refused, prefix-pointed, pointed-plain, pointed-fraction, fraction-none, fraction-long, fraction-good}
+use Rattle.decimal.proofs.Digits.{Digits, leading-digits, value-append, value-base, value-low, value-below, tens-mono}
+use Rattle.decimal.proofs.Words.{number-near, number-far}
+use Rattle.decimal.proofs.Scan.{past-digits, leading-drop, leading-here, leading-none, digit-within, length-leading, whole-empty, whole-long, whole-zero, whole-good, prefix-refused, prefix-pointed, pointed-plain, pointed-fraction, fraction-none, fraction-long, fraction-good}
 
 -- ---- a run of digits, `most` at the most
 
@@ -106,8 +107,22 @@ module _ {s : List ℕ} {at most : ℕ} {r : Run} (ran : Ran s at 0 most r) (n :
 
 -- ---- the decimal
 
-abbrev found : ℕ → ℕ → ℕ → Reading Prefix
-found digits decimals size = reads (record { number = record { digits = digits; decimals = decimals }; size = size })
+abbrev pair : ℕ → ℕ → Number
+pair digits decimals = record { digits = digits; decimals = decimals }
+
+abbrev found : Number → ℕ → Reading Prefix
+found n size = reads (record { number = n; size = size })
+
+-- the digits past the ninth decimal, read after a 1, are the code that tells them
+past-number : {s : List ℕ} {at : ℕ} {r : Run} → Ran s at 1 (maxDecimals - near) r → (digits : ℕ) → isDigit (getD s at 0) ≡ true → isDigit (getD s (r .end) 0) ≡ false →
+    numberOf digits (r .value) ≡ pair (valueFrom digits (leading (drop at s))) (near + length (leading (drop at s)))
+past-number {s} {at} {r} ran digits one h =
+    let few : length (leading (drop at s)) ≤ maxDecimals - near = run-few ran h in
+    let some : length (leading (drop at s)) ≡ suc (length (leading (drop (at + 1) s))) = ap length (leading-here s at one) in
+    let b : valueFrom 0 (leading (drop at s)) < 10 ^ length (leading (drop at s)) = value-below (leading-digits (drop at s)) in
+    ap (numberOf digits) (run-value ran h ∙ value-base 1 (leading (drop at s)) ∙ ap (λ (n : ℕ). n + valueFrom 0 (leading (drop at s))) (one-mul (10 ^ length (leading (drop at s)))))
+    ∙ number-far (length (leading (drop at s))) (valueFrom 0 (leading (drop at s))) (omega arith) few b digits
+    ∙ ap (λ (n : ℕ). pair n (near + length (leading (drop at s)))) (sym (value-base digits (leading (drop at s))))
 
 module _ {s : List ℕ} {at : ℕ} {r : Run} where
   pub front-empty : Ran s at 0 maxWhole r → r .end ≡ at → prefix (drop at s) ≡ refused
@@ -123,10 +138,11 @@ module _ {s : List ℕ} {at : ℕ} {r : Run} (w : WholePart s at maxWhole r) whe
       getD-drop (length (leading (drop at s))) (drop at s) 0 0 ∙ getD-drop at s (length (leading (drop at s)) + 0) 0 ∙ ap (λ (n : ℕ). getD s n 0) q
 
   pub front-plain : (getD s (r .end) 0 ≡ 46 → ⊥) →
-      found (r .value) 0 (r .end - at) ≡ prefix (drop at s)
+      found (numberOf (r .value) 0) (r .end - at) ≡ prefix (drop at s)
   front-plain h =
       let q : r .end - at ≡ length (leading (drop at s)) = let e = w .end in omega arith in
-      ap₂ (λ (v n : ℕ). found v 0 n) (w .value) q
+      ap (λ (n : Number). found n (r .end - at)) (number-near (r .value) 0 (lit< tt))
+      ∙ ap₂ (λ (v n : ℕ). found (pair v 0) n) (w .value) q
       ∙ sym (prefix-pointed (drop at s) (w .good) ∙ pointed-plain (leading (drop at s)) (drop (length (leading (drop at s))) (drop at s)) (λ e. h (sym next-byte ∙ e)))
 
   -- with a point after the whole part: the digits after it are those from `start` on
@@ -142,27 +158,76 @@ module _ {s : List ℕ} {at : ℕ} {r : Run} (w : WholePart s at maxWhole r) whe
         ∙ pointed-fraction (leading (drop at s)) (drop (length (leading (drop at s))) (drop at s)) (next-byte ∙ p)
         ∙ ap (λ (t : List ℕ). fractional (leading (drop at s)) (leading t)) after-point
 
-    module _ {f : Run} (ran : Ran s (r .end + 1) (r .value) maxDecimals f) where
+    module _ {f : Run} (ran : Ran s (r .end + 1) (r .value) near f) where
       pub fraction-empty : f .end ≡ r .end + 1 → prefix (drop at s) ≡ refused
       fraction-empty e = with-fraction ∙ fraction-none (leading (drop at s)) (leading (drop (r .end + 1) s)) (run-none ran e (omega arith))
 
-      pub fraction-more : isDigit (getD s (f .end) 0) ≡ true → prefix (drop at s) ≡ refused
-      fraction-more h = with-fraction ∙ fraction-long (leading (drop at s)) (leading (drop (r .end + 1) s)) (run-more ran h)
+      whole-value : valueFrom (r .value) (leading (drop (r .end + 1) s)) ≡ valueOf (leading (drop at s) ++ leading (drop (r .end + 1) s))
+      whole-value =
+          ap (λ (x : ℕ). valueFrom x (leading (drop (r .end + 1) s))) (w .value)
+          ∙ sym (value-append 0 (leading (drop at s)) (leading (drop (r .end + 1) s)))
 
       pub front-fraction : (f .end ≡ r .end + 1 → ⊥) → isDigit (getD s (f .end) 0) ≡ false →
-          found (f .value) (f .end - (r .end + 1)) (f .end - at) ≡ prefix (drop at s)
+          found (numberOf (f .value) (f .end - (r .end + 1))) (f .end - at) ≡ prefix (drop at s)
       front-fraction n h =
           let e : f .end ≡ r .end + 1 + length (leading (drop (r .end + 1) s)) = run-end ran h in
+          let few : length (leading (drop (r .end + 1) s)) ≤ near = run-few ran h in
           let d : f .end - (r .end + 1) ≡ length (leading (drop (r .end + 1) s)) = omega arith in
           let m : 0 < length (leading (drop (r .end + 1) s)) = omega arith in
           let k : r .end ≡ at + length (leading (drop at s)) = w .end in
           let z : f .end - at ≡ length (leading (drop at s)) + 1 + length (leading (drop (r .end + 1) s)) = omega arith in
-          let v : f .value ≡ valueOf (leading (drop at s) ++ leading (drop (r .end + 1) s)) =
-          run-value ran h ∙ ap (λ (x : ℕ). valueFrom x (leading (drop (r .end + 1) s))) (w .value)
-          ∙ sym (value-append 0 (leading (drop at s)) (leading (drop (r .end + 1) s))) in
-          ap₂ (λ (x y : ℕ). found x y (f .end - at)) v d
-          ∙ ap (found (valueOf (leading (drop at s) ++ leading (drop (r .end + 1) s))) (length (leading (drop (r .end + 1) s)))) z
-          ∙ sym (with-fraction ∙ fraction-good (leading (drop at s)) (leading (drop (r .end + 1) s)) m (run-few ran h))
+          let v : f .value ≡ valueOf (leading (drop at s) ++ leading (drop (r .end + 1) s)) = run-value ran h ∙ whole-value in
+          ap (λ (x : Number). found x (f .end - at)) (number-near (f .value) (f .end - (r .end + 1)) (omega arith))
+          ∙ ap₂ (λ (x y : ℕ). found (pair x y) (f .end - at)) v d
+          ∙ ap (found (pair (valueOf (leading (drop at s) ++ leading (drop (r .end + 1) s))) (length (leading (drop (r .end + 1) s))))) z
+          ∙ sym (with-fraction ∙ fraction-good (leading (drop at s)) (leading (drop (r .end + 1) s)) m (omega arith))
+
+      -- a tenth decimal follows: those past the ninth are the digits from there on
+      module _ (h : isDigit (getD s (f .end) 0) ≡ true) where
+        near-end : f .end ≡ r .end + 1 + near
+        near-end =
+            let m : near < length (leading (drop (r .end + 1) s)) = run-more ran h in
+            let q : length (take near (leading (drop (r .end + 1) s))) ≡ min near (length (leading (drop (r .end + 1) s))) = length-take near (leading (drop (r .end + 1) s)) in
+            let e : f .end ≡ r .end + 1 + length (take near (leading (drop (r .end + 1) s))) = ran .end in
+            omega arith
+
+        others : leading (drop (f .end) s) ≡ drop near (leading (drop (r .end + 1) s))
+        others =
+            ap (λ (n : ℕ). leading (drop n s)) near-end
+            ∙ ap leading (sym (drop-drop near (r .end + 1) s))
+            ∙ leading-drop near (drop (r .end + 1) s) (le-of-lt (run-more ran h))
+
+        all-value : valueFrom (f .value) (leading (drop (f .end) s)) ≡ valueOf (leading (drop at s) ++ leading (drop (r .end + 1) s))
+        all-value =
+            ap₂ valueFrom (ran .value) others
+            ∙ sym (value-append (r .value) (take near (leading (drop (r .end + 1) s))) (drop near (leading (drop (r .end + 1) s))))
+            ∙ ap (valueFrom (r .value)) (take-append-drop near (leading (drop (r .end + 1) s)))
+            ∙ whole-value
+
+        all-length : near + length (leading (drop (f .end) s)) ≡ length (leading (drop (r .end + 1) s))
+        all-length =
+            let m : near < length (leading (drop (r .end + 1) s)) = run-more ran h in
+            let d : length (drop near (leading (drop (r .end + 1) s))) ≡ length (leading (drop (r .end + 1) s)) - near = length-drop near (leading (drop (r .end + 1) s)) in
+            let e : length (leading (drop (f .end) s)) ≡ length (drop near (leading (drop (r .end + 1) s))) = ap length others in
+            omega arith
+
+        module _ {m : Run} (past : Ran s (f .end) 1 (maxDecimals - near) m) where
+          pub fraction-more : isDigit (getD s (m .end) 0) ≡ true → prefix (drop at s) ≡ refused
+          fraction-more g =
+              let a : near + length (leading (drop (f .end) s)) ≡ length (leading (drop (r .end + 1) s)) = all-length in
+              let l : maxDecimals - near < length (leading (drop (f .end) s)) = run-more past g in
+              with-fraction ∙ fraction-long (leading (drop at s)) (leading (drop (r .end + 1) s)) (omega arith)
+
+          pub front-more : isDigit (getD s (m .end) 0) ≡ false → found (numberOf (f .value) (m .value)) (m .end - at) ≡ prefix (drop at s)
+          front-more g =
+              let a : near + length (leading (drop (f .end) s)) ≡ length (leading (drop (r .end + 1) s)) = all-length in
+              let k : r .end ≡ at + length (leading (drop at s)) = w .end in
+              let n : f .end ≡ r .end + 1 + near = near-end in
+              let e : m .end ≡ f .end + length (leading (drop (f .end) s)) = run-end past g in
+              let few : length (leading (drop (f .end) s)) ≤ maxDecimals - near = run-few past g in
+              let z : m .end - at ≡ length (leading (drop at s)) + 1 + length (leading (drop (r .end + 1) s)) = omega arith in
+              ap₂ found (past-number past (f .value) h g ∙ ap₂ pair all-value a) z
+              ∙ sym (with-fraction ∙ fraction-good (leading (drop at s)) (leading (drop (r .end + 1) s)) (omega arith) (omega arith))
 
     -- the byte of the point is within the text, and the whole part leaves room for the digits after it
     pub point-within : r .end < length s
@@ -174,7 +239,7 @@ module _ {s : List ℕ} {at : ℕ} {r : Run} (w : WholePart s at maxWhole r) whe
             let z : getD s (r .end) 0 ≡ 0 = List·getD-eq-default s 0 (ltb-false (r .end) (length s) e) in
             omega arith
 
-  pub whole-room : (r .value + 1) * 10 ^ maxDecimals ≤ 2 ^ 64
+  pub whole-room : (r .value + 1) * 10 ^ near ≤ 2 ^ 64
   whole-room =
       let l : length (leading (drop at s)) ≤ maxWhole = w .few in
       let b : valueOf (leading (drop at s)) < 10 ^ length (leading (drop at s)) = value-below (leading-digits (drop at s)) in

@@ -138,6 +138,22 @@ past-digits m (c ∷ t) = at (isDigit c) refl m (λ n. past-digits n t)
         ∙ e
         ∙ sym (ap (λ (l : List ℕ). ltb m (length l)) (leading-stop c t e) ∙ le-ltb m 0 zero-le)
 
+-- the digits past some of them
+pub leading-drop : (n : ℕ) (t : List ℕ) → n ≤ length (leading t) → leading (drop n t) ≡ drop n (leading t)
+unfolding leading
+leading-drop zero t h = refl
+leading-drop (suc n) [] h = refl
+leading-drop (suc n) (c ∷ t) h = at (isDigit c) refl (λ l. leading-drop n t l)
+  where
+    at : (b : Bool) → isDigit c ≡ b → (n ≤ length (leading t) → leading (drop n t) ≡ drop n (leading t)) → leading (drop n t) ≡ drop (suc n) (leading (c ∷ t))
+    at true e ih =
+        let q : length (leading (c ∷ t)) ≡ suc (length (leading t)) = ap length (leading-more c t e) in
+        ih (omega arith) ∙ ap (drop (suc n)) (sym (leading-more c t e))
+    at false e ih = absurd none
+      where
+        none : ⊥
+        none = let q : length (leading (c ∷ t)) ≡ 0 = ap length (leading-stop c t e) in let l = h in omega arith
+
 pub leading-whole : (s : List ℕ) → length (leading s) ≡ length s → leading s ≡ s
 unfolding leading
 leading-whole [] h = refl

@@ -1,6 +1,6 @@
--- Decimals, as document 01 has them under "Decimals": 1 to 10 digits, then optionally a point and 1 to 9 digits; no sign, no exponent;
+-- Decimals, as document 01 has them under "Decimals": 1 to 10 digits, then optionally a point and 1 to 12 digits; no sign, no exponent;
 -- no leading zero before the point unless it is the single digit 0. Assumes nothing: these are definitions.
-use Prim.Native.Nat.{ℕ, zero, suc, _+_, _-_, _*_, _/_, _^_, _≤_, _<_}
+use Prim.Native.Nat.{ℕ, zero, suc, _+_, _-_, _*_, _/_, _%_, _^_, _≤_, _<_}
 use mathlib.Core.Bool.{Bool, true, false, _&&_, not, cond}
 use mathlib.Core.List.{List, [], _∷_, _++_}
 use lib.Dec.{leb, ltb, eqb}
@@ -14,7 +14,7 @@ abbrev pub maxWhole : ℕ
 maxWhole = 10
 
 abbrev pub maxDecimals : ℕ
-maxDecimals = 9
+maxDecimals = 12
 
 abbrev pub point : ℕ
 point = 46
@@ -25,9 +25,29 @@ pub record Number : Type 0 where
   pub digits : ℕ
   pub decimals : ℕ
 
+-- ---- how the code keeps that pair in two words, since 22 digits do not fit one: `digits` has those up to the ninth decimal, and `code` tells the
+-- others. It is the number of decimals up to 9, and past that a digit before the digits past the ninth decimal: 17 tells a tenth decimal 7, and 1070
+-- three more decimals, 070. Every number is a code: from 1000 on its last three digits count alone.
+
+abbrev pub near : ℕ
+near = 9
+
+-- how many digits past the ninth decimal a code tells, which these are, and how many decimals there are in all
+unfoldable pub farOf : ℕ → ℕ
+farOf code = elim (ltb code 10) [ true ↦ 0 | false ↦ elim (ltb code 100) [ true ↦ 1 | false ↦ elim (ltb code 1000) [ true ↦ 2 | false ↦ 3 ] ] ]
+
+unfoldable pub pastOf : ℕ → ℕ
+pastOf code = code % 10 ^ farOf code
+
+unfoldable pub decimalsOf : ℕ → ℕ
+decimalsOf code = elim (ltb code 10) [ true ↦ code | false ↦ near + farOf code ]
+
+unfoldable pub numberOf : ℕ → ℕ → Number
+numberOf digits code = record { digits = digits * 10 ^ farOf code + pastOf code; decimals = decimalsOf code }
+
 -- The pair that the code's struct holds: what is above this crate knows a decimal by this alone.
 unfoldable pub number : Decimal → Number
-number d = record { digits = d .digits; decimals = d .decimals }
+number d = numberOf (d .digits) (d .code)
 
 -- One digit or more, `most` at the most, and no 0 in front of another digit.
 unfoldable pub isWhole : ℕ → List ℕ → Bool

@@ -16,10 +16,12 @@ use text::byte_at;
 use text::is_digit;
 use text::wide;
 
-// Digits before the point, after it, and of a whole number; the largest checksum.
+// Digits before the point, after it up to the ninth decimal and past that, and of a whole number; the largest checksum.
 const MAX_WHOLE: usize = 10;
 
-const MAX_DECIMALS: usize = 9;
+const NEAR_DECIMALS: usize = 9;
+
+const FAR_DECIMALS: usize = 3;
 
 const MAX_WHOLE_NUMBER: usize = 19;
 
@@ -69,24 +71,36 @@ pub fn parse_at(s: &[u8], at: usize) -> ParsedFront
         return ParsedFront::Number(
             Decimal {
                 digits: whole.value,
-                decimals: 0,
+                code: 0,
             },
             end,
         );
     }
     let start = end + 1;
-    let fraction = digits_at(s, start, whole.value, MAX_DECIMALS);
+    let fraction = digits_at(s, start, whole.value, NEAR_DECIMALS);
     let stop = fraction.end;
     if stop == start {
         return ParsedFront::Refused;
     }
     if is_digit(byte_at(s, stop)) {
-        return ParsedFront::Refused;
+        // a 1, then the digits past the ninth decimal: the code that tells them
+        let past = digits_at(s, stop, 1, FAR_DECIMALS);
+        let last = past.end;
+        if is_digit(byte_at(s, last)) {
+            return ParsedFront::Refused;
+        }
+        return ParsedFront::Number(
+            Decimal {
+                digits: fraction.value,
+                code: past.value,
+            },
+            last,
+        );
     }
     ParsedFront::Number(
         Decimal {
             digits: fraction.value,
-            decimals: (stop - start) as u64,
+            code: (stop - start) as u64,
         },
         stop,
     )

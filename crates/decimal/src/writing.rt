@@ -1,18 +1,22 @@
 // Numbers as text: laid into a lent buffer, or handed out from the last byte to the first.
 ghost use mathlib.Core.Path.{_≡_};
 ghost use Prim.Native.Nat.{_+_, _-_, _/_, _%_, _^_, _<_, _≤_};
+ghost use mathlib.Core.List.{_++_};
 ghost use lib.ListN.{length};
 ghost use Rattle.decimal.specs.Digits.{significant, written};
 ghost use Rattle.decimal.specs.Decimal.{number, text, stripped};
 ghost use Rattle.decimal.specs.Limits.{Within};
 ghost use Rattle.decimal.specs.Buffer.{overlaid};
 ghost use Rattle.decimal.specs.Laying.{Laid};
-ghost use Rattle.decimal.specs.Tail.{remaining, Stepped};
+ghost use Rattle.decimal.specs.Tail.{remaining, frontOf, pastFirst, Stepped};
 use crate::Decimal;
+use crate::NEAR;
 use crate::Part;
 use crate::Step;
 use crate::Tail;
 use crate::Written;
+use crate::past;
+use crate::tidy;
 
 const POINT: u8 = 46;
 
@@ -50,12 +54,21 @@ pub fn whole_length(n: u64) -> usize
 pub fn text_tail(a: Decimal) -> Tail
     ensures { λ r. ⌜ remaining r ≡ text (number a) ⌝ }
 {
-    if a.decimals == 0 {
+    if a.code == 0 {
         return whole_tail(a.digits);
+    }
+    if a.code < 10 {
+        return Tail {
+            digits: a.digits,
+            decimals: a.code,
+            past: 0,
+            part: Part::Fraction,
+        };
     }
     Tail {
         digits: a.digits,
-        decimals: a.decimals,
+        decimals: NEAR,
+        past: tidy(a.code),
         part: Part::Fraction,
     }
 }
@@ -64,9 +77,16 @@ pub fn text_tail(a: Decimal) -> Tail
 pub fn stripped_tail(a: Decimal) -> Tail
     ensures { λ r. ⌜ remaining r ≡ stripped (number a) ⌝ }
 {
+    if a.code < 10 {
+        return digits_tail(a.digits);
+    }
+    if a.digits == 0 {
+        return digits_tail(past(a.code));
+    }
     Tail {
         digits: a.digits,
         decimals: 0,
+        past: tidy(a.code),
         part: Part::Higher,
     }
 }
@@ -78,7 +98,20 @@ pub fn whole_tail(n: u64) -> Tail
     Tail {
         digits: n,
         decimals: 0,
+        past: 0,
         part: Part::Units,
+    }
+}
+
+// The digits of a number without leading zeros: none of 0.
+fn digits_tail(n: u64) -> Tail
+    ensures { λ r. ⌜ remaining r ≡ significant n ⌝ }
+{
+    Tail {
+        digits: n,
+        decimals: 0,
+        past: 0,
+        part: Part::Higher,
     }
 }
 
@@ -87,6 +120,9 @@ impl Tail {
     pub fn step(self) -> Step
         ensures { λ r. ⌜ Stepped self r ⌝ }
     {
+        if 9 < self.past {
+            return Step::Byte(last_digit(self.past), before_past(self));
+        }
         let part = self.part;
         match part {
             Part::Fraction => {
@@ -98,18 +134,32 @@ impl Tail {
                     Tail {
                         digits: self.digits / 10,
                         decimals: self.decimals - 1,
+                        past: 0,
                         part: Part::Fraction,
                     },
                 )
             }
-            Part::Units => Step::Byte(last_digit(self.digits), higher(self.digits)),
+            Part::Units => Step::Byte(last_digit(self.digits), digits_tail(self.digits / 10)),
             Part::Higher => {
                 if self.digits == 0 {
                     return Step::End;
                 }
-                Step::Byte(last_digit(self.digits), higher(self.digits))
+                Step::Byte(last_digit(self.digits), digits_tail(self.digits / 10))
             }
         }
+    }
+}
+
+// The text before the last of the digits past the ninth decimal.
+fn before_past(t: Tail) -> Tail
+    ensures { λ r. ⌜ remaining r ≡ frontOf (t .part) (t .digits) (t .decimals) ++ pastFirst (t .past / 10) ⌝ }
+{
+    let part = t.part;
+    Tail {
+        digits: t.digits,
+        decimals: t.decimals,
+        past: t.past / 10,
+        part,
     }
 }
 
@@ -117,17 +167,6 @@ fn last_digit(n: u64) -> u8
     ensures { λ r. ⌜ r ≡ 48 + n % 10 ⌝ }
 {
     48 + (n % 10) as u8
-}
-
-// The digits of n before its last one, without leading zeros.
-fn higher(n: u64) -> Tail
-    ensures { λ r. ⌜ remaining r ≡ significant (n / 10) ⌝ }
-{
-    Tail {
-        digits: n / 10,
-        decimals: 0,
-        part: Part::Higher,
-    }
 }
 
 fn tail_length(t: Tail) -> usize

@@ -1,5 +1,5 @@
 // Runs the texts of standard input, a case to a line, and prints what the crate `decimal` makes of each:
-//     d TEXT        a decimal: its digits, its decimals, its text laid into buffers with room and without, its digits without
+//     d TEXT        a decimal: its digits and its code, its text laid into buffers with room and without, its digits without
 //                   point and leading zeros, from the last to the first
 //     w TEXT        a whole number, written back
 //     c TEXT        a checksum
@@ -76,9 +76,10 @@ fn run_decimal(s: &[u8]) {
 fn say_decimal(d: Decimal)
     requires { ⌜ Within (number d) ⌝ }
 {
-    say_number(decimal::digits_of(d));
+    let parts = decimal::parts_of(d);
+    say_number(parts.digits);
     say(b" ");
-    say_number(decimal::decimals_of(d));
+    say_number(parts.code);
     say(b" ");
     say_text(d, 2);
     say(b" ");
@@ -91,11 +92,11 @@ fn say_decimal(d: Decimal)
     say(b"\n");
 }
 
-// Where the text ends in a buffer of 24 bytes, or that it has no room there; then the whole buffer.
+// Where the text ends in a buffer of 28 bytes, or that it has no room there; then the whole buffer.
 fn say_text(d: Decimal, at: usize)
     requires { ⌜ Within (number d) ⌝ }
 {
-    let mut buffer = [42u8; 24];
+    let mut buffer = [42u8; 28];
     let part: &mut [u8] = &mut buffer;
     match decimal::write(d, part, at) {
         Written::To(end) => say_number(end as u64),
@@ -108,7 +109,7 @@ fn say_text(d: Decimal, at: usize)
 // A text, from its last byte to its first.
 fn say_tail(t: Tail) {
     let mut rest = t;
-    for _ in 0..24usize {
+    for _ in 0..28usize {
         match rest.step() {
             Step::Byte(b, shorter) => {
                 say_byte(b);
@@ -133,9 +134,9 @@ fn run_whole(s: &[u8]) {
     }
 }
 
-// Where the digits end in a buffer of 24 bytes; then the whole buffer.
+// Where the digits end in a buffer of 28 bytes; then the whole buffer.
 fn say_whole(n: u64) {
-    let mut buffer = [42u8; 24];
+    let mut buffer = [42u8; 28];
     let part: &mut [u8] = &mut buffer;
     match decimal::write_whole(n, part, 2) {
         Written::To(end) => say_number(end as u64),

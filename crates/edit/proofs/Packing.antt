@@ -6,6 +6,8 @@ use native.Mathlib.Omega.{arith}
 use lib.Dec.{lit<}
 use Rattle.decimal.specs.Decimal.{Number}
 use Rattle.decimal.specs.Limits.{Within}
+use Rattle.decimal.specs.Words.{digitsNear, codeOf}
+use Rattle.decimal.proofs.Words.{words-number, code-low}
 use Rattle.edit.specs.declared.Side.{Side}
 use Rattle.edit.specs.declared.Side.the-variants.{Bids, Asks}
 use Rattle.edit.specs.Edit.{Numbers}
@@ -30,35 +32,35 @@ side-few Asks = omega arith
 
 module _ (e : Numbers) (price : Within (e .price)) (size : Within (e .size)) where
   abbrev both : ℕ
-  both = e .price .decimals + 2 ^ 16 * e .size .decimals
+  both = codeOf (e .price) + 2 ^ 16 * codeOf (e .size)
 
   abbrev pub packed : ℕ
   packed = both + 2 ^ 32 * sideNumber (e .side)
 
-  few-price : e .price .decimals < 2 ^ 16
-  few-price = let h = price .few in omega arith
+  few-price : codeOf (e .price) < 2 ^ 16
+  few-price = let h = code-low (e .price) (price .few) in omega arith
 
-  few-size : e .size .decimals < 2 ^ 16
-  few-size = let h = size .few in omega arith
+  few-size : codeOf (e .size) < 2 ^ 16
+  few-size = let h = code-low (e .size) (size .few) in omega arith
 
   few-both : both < 2 ^ 32
-  few-both = let h = price .few in let k = size .few in omega arith
+  few-both = let h = code-low (e .price) (price .few) in let k = code-low (e .size) (size .few) in omega arith
 
-  regrouped : packed ≡ e .price .decimals + 2 ^ 16 * (e .size .decimals + 2 ^ 16 * sideNumber (e .side))
+  regrouped : packed ≡ codeOf (e .price) + 2 ^ 16 * (codeOf (e .size) + 2 ^ 16 * sideNumber (e .side))
   regrouped = omega arith
 
   side-part : packed / 2 ^ 32 ≡ sideNumber (e .side)
   side-part = high (2 ^ 32) both (sideNumber (e .side)) (lit< tt) few-both
 
-  price-part : packed % 2 ^ 16 ≡ e .price .decimals
-  price-part = ap (λ (n : ℕ). n % 2 ^ 16) regrouped ∙ low (2 ^ 16) (e .price .decimals) (e .size .decimals + 2 ^ 16 * sideNumber (e .side)) few-price
+  price-part : packed % 2 ^ 16 ≡ codeOf (e .price)
+  price-part = ap (λ (n : ℕ). n % 2 ^ 16) regrouped ∙ low (2 ^ 16) (codeOf (e .price)) (codeOf (e .size) + 2 ^ 16 * sideNumber (e .side)) few-price
 
-  size-part : packed / 2 ^ 16 % 2 ^ 16 ≡ e .size .decimals
+  size-part : packed / 2 ^ 16 % 2 ^ 16 ≡ codeOf (e .size)
   size-part =
       ap (λ (n : ℕ). n / 2 ^ 16 % 2 ^ 16) regrouped
-      ∙ ap (λ (n : ℕ). n % 2 ^ 16) (high (2 ^ 16) (e .price .decimals) (e .size .decimals + 2 ^ 16 * sideNumber (e .side)) (lit< tt) few-price)
-      ∙ low (2 ^ 16) (e .size .decimals) (sideNumber (e .side)) few-size
+      ∙ ap (λ (n : ℕ). n % 2 ^ 16) (high (2 ^ 16) (codeOf (e .price)) (codeOf (e .size) + 2 ^ 16 * sideNumber (e .side)) (lit< tt) few-price)
+      ∙ low (2 ^ 16) (codeOf (e .size)) (sideNumber (e .side)) few-size
 
-  pub entry-packed : entryOf (e .price .digits) (e .size .digits) packed ≡ e
+  pub entry-packed : entryOf (digitsNear (e .price)) (digitsNear (e .size)) packed ≡ e
   unfolding entryOf
-  entry-packed = rw (side-part, price-part, size-part, side-out (e .side))
+  entry-packed = rw (side-part, price-part, size-part, side-out (e .side), words-number (e .price) (price .few), words-number (e .size) (size .few))

@@ -1,9 +1,9 @@
--- Entries in a buffer, a word each for the price's digits, the size's digits and the rest. Assumes nothing: these are definitions.
+-- Entries in a buffer, a word each for the digits of the price and of the size up to the ninth decimal, and one for the rest. Assumes nothing: these are definitions.
 use Prim.Native.Nat.{ℕ, zero, suc, _+_, _*_, _/_, _%_, _^_}
 use mathlib.Core.Path.{_≡_}
 use mathlib.Core.List.{List, [], _∷_}
 use lib.ListN.{length, set}
-use Rattle.decimal.specs.Decimal.{number}
+use Rattle.decimal.specs.Decimal.{number, numberOf}
 use Rattle.edit.specs.Edit.{Numbers}
 use Rattle.edit.specs.declared.Side.{Side}
 use Rattle.edit.specs.declared.Side.the-variants.{Bids, Asks}
@@ -38,8 +38,8 @@ sideIn (suc n) = Asks
 unfoldable pub entryOf : ℕ → ℕ → ℕ → Numbers
 entryOf price size rest = record {
   side = sideIn (rest / 2 ^ 32);
-  price = record { digits = price; decimals = rest % 2 ^ 16 };
-  size = record { digits = size; decimals = rest / 2 ^ 16 % 2 ^ 16 };
+  price = numberOf price (rest % 2 ^ 16);
+  size = numberOf size (rest / 2 ^ 16 % 2 ^ 16);
 }
 
 -- The entries that a buffer holds.

@@ -20,13 +20,13 @@ pub enum Side {
 // How many entries a buffer holds: 100 for each side.
 pub const MAX_BUFFERED: usize = 200;
 
-// How many words an entry takes: the price's digits, the size's digits, and one for how many of them are decimals and for the side.
+// How many words an entry takes: the digits of the price and of the size up to the ninth decimal, and one for their codes (see `decimal`) and for the side.
 const ENTRY_WORDS: usize = 3;
 
 pub const BUFFER_WORDS: usize = ENTRY_WORDS * MAX_BUFFERED;
 
-// Where the size's decimals and the side begin in the third word; the price's decimals begin at 1.
-const SIZE_DECIMALS: u64 = 65_536;
+// Where the size's code and the side begin in the third word; the price's code begins at 1.
+const SIZE_CODE: u64 = 65_536;
 
 const SIDE: u64 = 4_294_967_296;
 
@@ -43,10 +43,12 @@ pub fn put(buffer: &mut [u64; BUFFER_WORDS], k: usize, side: Side, price: Decima
     ensures { λ r. ⌜ Put (now (buffer .entry)) k (record { side = side; price = number price; size = number size }) (now (buffer .exit)) ⌝ }
 {
     if k < MAX_BUFFERED {
-        let decimals = decimal::decimals_of(price) + SIZE_DECIMALS * decimal::decimals_of(size);
-        let rest = decimals + SIDE * side_number(side);
-        buffer[ENTRY_WORDS * k] = decimal::digits_of(price);
-        buffer[ENTRY_WORDS * k + 1] = decimal::digits_of(size);
+        let p = decimal::parts_of(price);
+        let s = decimal::parts_of(size);
+        let codes = p.code + SIZE_CODE * s.code;
+        let rest = codes + SIDE * side_number(side);
+        buffer[ENTRY_WORDS * k] = p.digits;
+        buffer[ENTRY_WORDS * k + 1] = s.digits;
         buffer[ENTRY_WORDS * k + 2] = rest;
     }
 }
@@ -57,11 +59,8 @@ pub fn entry_in(buffer: &[u64; BUFFER_WORDS], k: usize) -> Buffered
     ensures { λ r. ⌜ numbersOf r ≡ getD (entriesIn (now (buffer .entry))) k noNumbers ⌝ }
 {
     let rest = buffer[ENTRY_WORDS * k + 2];
-    let price = decimal::of_digits(buffer[ENTRY_WORDS * k], rest % SIZE_DECIMALS);
-    let size = decimal::of_digits(
-        buffer[ENTRY_WORDS * k + 1],
-        rest / SIZE_DECIMALS % SIZE_DECIMALS,
-    );
+    let price = decimal::of_parts(buffer[ENTRY_WORDS * k], rest % SIZE_CODE);
+    let size = decimal::of_parts(buffer[ENTRY_WORDS * k + 1], rest / SIZE_CODE % SIZE_CODE);
     Buffered {
         price,
         size,

@@ -3,7 +3,7 @@
 //     K TEXT    an entry of dialect K: its end, and the texts of its price and its size
 //     M TEXT    an entry of dialect M
 //     k TEXT    an array of entries of dialect K, read as bids: its end, how many there are, where the first bad one begins, outside a snapshot
-//               and in one, and the digits and the decimals of each price and size that the buffer has
+//               and in one, and the digits and the code of each price and size that the buffer has
 //     m TEXT    an array of entries of dialect M
 //
 // Other lines are headings. What is to come was worked out apart from the crate, by tools/entries_vectors.py.
@@ -129,9 +129,10 @@ fn numbers(buffer: &[u64; BUFFER_WORDS], n: usize)
 }
 
 fn decimal(a: Decimal) {
-    number(decimal::digits_of(a));
+    let parts = decimal::parts_of(a);
+    number(parts.digits);
     write(b"/");
-    number(decimal::decimals_of(a));
+    number(parts.code);
 }
 
 fn number(n: u64) {

@@ -19,7 +19,7 @@ use Rattle.book.specs.Shown.{Good, shows}
 use Rattle.book.specs.declared.Book.{Book}
 use Rattle.feed.specs.declared.Processed.{Processed}
 use Rattle.feed.specs.Feed.{replyTo, maxReply, Progress, processing, ProcessedLines}
-use Rattle.feed.specs.Stream.{bookOpen, Transcript, extend, after, stateOf, AnsweredLines}
+use Rattle.feed.specs.Stream.{bookOpen, Transcript, extend, after, stateOf, ofBook, answering, AnsweredLines}
 
 module _ (p : Reference) (buffer : List ℕ) (at : ℕ) where
   stopped : List (List ℕ) → Progress
@@ -237,10 +237,10 @@ module _ {s : List ℕ} {p : Reference} {before : List ℕ} {r : Processed} {fil
   processed-one : length (complete s) ≤ 1 → maxReply ≤ length before → complete (drop (r .next) s) ≡ []
   processed-one few room = ap (λ (x : Progress). x .left) (h .same) ∙ processing-one (complete s) p before few room
 
-  pub processed-from : (whole : List ℕ) (from : ℕ) → s ≡ drop from whole → from ≤ length whole → length filled ≡ length before →
-      AnsweredLines whole from (bookOpen p) before (record { book = r .book; next = from + r .next; written = r .written; opened = true }) filled
-  unfolding stateOf
-  processed-from whole from e within same =
+  pub processed-from : (whole : List ℕ) (from : ℕ) → s ≡ drop from whole → from ≤ length whole → length filled ≡ length before → (book : Book) →
+      AnsweredLines whole from (bookOpen p) book before (record { book = r .book; next = from + r .next; written = r .written; opened = true }) filled
+  unfolding stateOf answering
+  processed-from whole from e within same book =
       let w = h .within in
       let l : length s ≡ length whole - from = ap length e ∙ length-drop from whole in
       let room = h .room in
@@ -249,8 +249,11 @@ module _ {s : List ℕ} {p : Reference} {before : List ℕ} {r : Processed} {fil
         good = h .good;
         within = omega arith;
         room = omega arith;
+        same = ap (λ (x : List ℕ). record { state = bookOpen (shows (r .book)); buffer = filled; past = r .written; left = complete x }) (sym d)
+            ∙ ap ofBook (h .same) ∙ ap (λ (x : List ℕ). ofBook (processing (complete x) p before 0)) e;
         lines = λ said. ap (λ (x : List ℕ). after (record { state = bookOpen p; replies = said }) (complete x)) (sym e) ∙ processed-lines said
             ∙ ap (λ (x : List ℕ). after (record { state = bookOpen (shows (r .book)); replies = said ++ take (r .written) filled }) (complete x)) d;
+        awaited = λ e. absurd (let z : _≡_ {A = ℕ} 0 1 = cc in omega arith);
         past = processed-past;
         rest = ap unfinished (sym d) ∙ h .rest ∙ ap unfinished e;
         all = λ k. ap complete (sym d) ∙ processed-all k;

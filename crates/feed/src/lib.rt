@@ -107,7 +107,8 @@ pub fn start() -> Stream
 }
 
 // Takes in `got` bytes that were read into the input buffer behind those that the feed has there, and lays replies to the lines
-// that end, as long as the buffer has room for the longest reply. Where no line is left, the unfinished one is moved to the front.
+// that end, as long as the buffer has room for the longest reply. If it still has, no line is left, and the unfinished one is moved to
+// the front.
 pub fn answer(
     stream: Stream,
     input: &mut [u8],
@@ -151,19 +152,22 @@ pub fn answer(
 }
 
 // At the end of the input: lays the reply to the last line, if it has no line end and isn't empty, and answers how many bytes it has.
+// A line end stands behind that line while it is answered.
 pub fn finish(stream: Stream, input: &mut [u8], table: &[u32], buffer: &mut [u8]) -> usize
     requires { ⌜ Holds stream (now input) × (stream .to < length (now input)) × (maxReply ≤ length (now buffer)) × ShiftTable (now table) ⌝ }
-    ensures { λ r. ⌜ Finished stream (now (input .entry)) (now (buffer .entry)) r (now (buffer .exit)) ⌝ }
+    ensures { λ r. ⌜ Finished stream (now (input .entry)) (now (buffer .entry)) r (now (input .exit)) (now (buffer .exit)) ⌝ }
 {
     let from = stream.from;
     let to = stream.to;
     if to == from {
         return 0;
     }
+    let behind = input[to];
     input[to] = LINE_END;
     let end = to + 1;
     let book = stream.book;
     let answered = answer_lines(book, stream.opened, &input[from..end], table, buffer);
+    input[to] = behind;
     answered.written
 }
 
@@ -178,7 +182,7 @@ struct Answered {
 // Line 1, if it was not read yet, and the messages after it.
 fn answer_lines(book: Book, opened: bool, s: &[u8], table: &[u32], buffer: &mut [u8]) -> Answered
     requires { ⌜ Good book × ShiftTable (now table) ⌝ }
-    ensures { λ r. ⌜ AnsweredLines (now (s .entry)) 0 (stateOf opened (shows book)) (now (buffer .entry)) r (now (buffer .exit)) ⌝ }
+    ensures { λ r. ⌜ AnsweredLines (now (s .entry)) 0 (stateOf opened (shows book)) book (now (buffer .entry)) r (now (buffer .exit)) ⌝ }
 {
     if opened {
         return answer_from(book, s, 0, table, buffer);
@@ -198,7 +202,7 @@ fn answer_lines(book: Book, opened: bool, s: &[u8], table: &[u32], buffer: &mut 
 // The messages from a position on.
 fn answer_from(book: Book, s: &[u8], from: usize, table: &[u32], buffer: &mut [u8]) -> Answered
     requires { ⌜ Good book × (from ≤ length (now s)) × ShiftTable (now table) ⌝ }
-    ensures { λ r. ⌜ AnsweredLines (now (s .entry)) from (bookOpen (shows book)) (now (buffer .entry)) r (now (buffer .exit)) ⌝ }
+    ensures { λ r. ⌜ AnsweredLines (now (s .entry)) from (bookOpen (shows book)) book (now (buffer .entry)) r (now (buffer .exit)) ⌝ }
 {
     let processed = process_lines(book, &s[from..], table, buffer);
     let after = processed.book;

@@ -192,6 +192,16 @@ same-end (d ∷ name) (suc k) h = same-end name k (omega arith) ∙ by-one (eqb 
     by-one true p = p ∙ sym (eq-eqb (suc k) (suc (length name)) (ap suc (eqb-true k (length name) p)))
     by-one false p = p ∙ sym (ne-eqb (suc k) (suc (length name)) (λ e. true≢false (sym (eq-eqb k (length name) (omega arith)) ∙ p)))
 
+-- the byte at k is none of the name's
+pub same-stop : (t name : List ℕ) (k : ℕ) → k < length t → k < length name → (byteAt t k ≡ 92 → ⊥) → (byteAt t k ≡ getD name k 0 → ⊥)
+    → same (meaning 0 (drop k t)) (drop k name) ≡ false
+same-stop t name k l h n d = ap₂ same (meaning-plain t k l n) (name-left name k h) ∙ same-off (byteAt t k) (getD name k 0) (meaning 0 (drop (k + 1) t)) (drop (k + 1) name) d
+
+-- .. or it is, and what is left is compared
+pub same-step : (t name : List ℕ) (k : ℕ) → k < length t → k < length name → (byteAt t k ≡ 92 → ⊥) → byteAt t k ≡ getD name k 0
+    → same (meaning 0 (drop k t)) (drop k name) ≡ same (meaning 0 (drop (k + 1) t)) (drop (k + 1) name)
+same-step t name k l h n e = ap₂ same (meaning-plain t k l n) (name-left name k h) ∙ same-on (byteAt t k) (getD name k 0) (meaning 0 (drop (k + 1) t)) (drop (k + 1) name) e
+
 pub same-over : (t name : List ℕ) (i k : ℕ) → i < length t → length name ≤ k → same (meaning 0 (drop i t)) (drop k name) ≡ false
 same-over t name i k l h = rw (drop-of-length-le name h) (at (eqb (byteAt t i) 92) refl)
   where

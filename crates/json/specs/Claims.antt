@@ -1,4 +1,4 @@
--- The laws of the definitions, as statements; `proofs/Claims` proves each under its own name.
+-- The laws of the definitions, as statements; `proofs/Claims` and `proofs/Names` prove each under its own name.
 use Prim.Native.Nat.{ℕ, _≤_, _<_}
 use mathlib.Core.Path.{_≡_}
 use mathlib.Core.List.{List, [], _∷_}

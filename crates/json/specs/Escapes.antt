@@ -1,9 +1,10 @@
 -- Where a character of a string ends, in terms of the code. Assumes nothing: these are definitions.
-use Prim.Native.Nat.{ℕ, _+_, _<_}
+use Prim.Native.Nat.{ℕ, _+_, _≤_, _<_}
 use mathlib.Core.Path.{_≡_}
 use mathlib.Core.Bool.{false}
 use mathlib.Core.List.{List, _∷_}
-use lib.ListN.{drop}
+use lib.ListN.{length, drop}
+use Rattle.text.specs.Text.{byteAt}
 use Rattle.json.specs.Names.{escapeLength, meaning, same}
 
 -- From r on stands what follows the escape whose backslash stands at i.
@@ -16,3 +17,9 @@ pub record Spelled (t : List ℕ) (i b r : ℕ) : Type 0 where
   pub other : r ≡ 0 → (m : List ℕ) → same (meaning 0 (drop i t)) (b ∷ m) ≡ false
   pub later : (r ≡ 0 → ⊥) → i < r
   pub rest : (r ≡ 0 → ⊥) → (m : List ℕ) → same (meaning 0 (drop i t)) (b ∷ m) ≡ same (meaning 0 (drop r t)) m
+
+-- The first k bytes stand for themselves and are the name's, and no more do.
+pub record PlainEnd (t name : List ℕ) (k : ℕ) : Type 0 where
+  pub inside : k ≤ length name
+  pub left : same (meaning 0 (drop k t)) (drop k name) ≡ same (meaning 0 t) name
+  pub stops : k < length t → (byteAt t k ≡ 92 → ⊥) → same (meaning 0 (drop k t)) (drop k name) ≡ false

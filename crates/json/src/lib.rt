@@ -34,13 +34,13 @@ use text::wide;
 ghost use mathlib.Core.Path.{_≡_};
 ghost use mathlib.Core.Bool.{cond};
 ghost use lib.Dec.{eqb};
-ghost use Prim.Native.Nat.{_<_};
-ghost use lib.ListN.{length};
+ghost use Prim.Native.Nat.{_≤_, _<_};
+ghost use lib.ListN.{length, drop};
 ghost use Rattle.json_tokens.specs.Ends.{endOf};
 ghost use Rattle.json.specs.Json.{itemsEnd, elements, members, value};
 ghost use Rattle.json.specs.Ends.{memberEnd};
 ghost use Rattle.json.specs.Names.{shortMeaning, hexValue, escapeMeaning, meaning, same, means};
-ghost use Rattle.json.specs.Escapes.{PastEscape, Spelled};
+ghost use Rattle.json.specs.Escapes.{PastEscape, Spelled, PlainEnd};
 
 // How deep arrays and objects may nest in a text, the outermost counting as one.
 pub const MAX_DEPTH: usize = 16;
@@ -149,12 +149,47 @@ pub fn is_name(s: &[u8], from: usize, to: usize, name: &[u8]) -> bool
     spells(&s[first..last], name)
 }
 
-// Whether the bytes between two quotes mean the name.
+// Whether the bytes between two quotes mean the name. Most strings have no escape, and are compared byte by byte.
 fn spells(t: &[u8], name: &[u8]) -> bool
     ensures { λ r. ⌜ r ≡ same (meaning 0 (now (t .entry))) (now (name .entry)) ⌝ }
 {
-    let mut i = 0;
+    let k = plain_end(t, name);
+    if t.len() <= k {
+        return k == name.len();
+    }
+    if t[k] == BACKSLASH {
+        return spells_from(t, k, name);
+    }
+    false
+}
+
+// How many bytes stand for themselves and are the name's, from the first on.
+fn plain_end(t: &[u8], name: &[u8]) -> usize
+    ensures { λ r. ⌜ PlainEnd (now (t .entry)) (now (name .entry)) r ⌝ }
+{
     let mut k = 0;
+    while k < name.len() {
+        if t.len() <= k {
+            return k;
+        }
+        if t[k] != name[k] {
+            return k;
+        }
+        if t[k] == BACKSLASH {
+            return k;
+        }
+        k += 1;
+    }
+    k
+}
+
+// Whether the bytes from a place on mean what is left of the name from that place on.
+fn spells_from(t: &[u8], at: usize, name: &[u8]) -> bool
+    requires { ⌜ at ≤ length (now name) ⌝ }
+    ensures { λ r. ⌜ r ≡ same (meaning 0 (drop at (now (t .entry)))) (drop at (now (name .entry))) ⌝ }
+{
+    let mut i = at;
+    let mut k = at;
     while i < t.len() {
         if name.len() <= k {
             return false;

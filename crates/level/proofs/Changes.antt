@@ -1,36 +1,42 @@
 -- Laws of a level that was made, and of what an entry does: a size of zero removes, in whatever way levels are made. Assumes nothing.
-use Prim.Native.Nat.{ℕ}
-use mathlib.Core.Path.{_≡_, refl, ap}
+use Prim.Native.Nat.{ℕ, _^_, _≤_, _<_}
+use mathlib.Core.Path.{_≡_, refl, ap, ap₂, _∙_}
 use mathlib.Core.Bool.{Bool, true, false, cond}
-use Rattle.decimal.specs.Decimal.{Number, isZero}
+use Rattle.decimal.specs.Decimal.{Number, numberOf, isZero}
+use Rattle.decimal.specs.Limits.{Within}
+use Rattle.decimal.specs.Words.{digitsNear, codeOf}
+use Rattle.decimal.proofs.Words.{words-number, code-low}
 use Rattle.edit.specs.Edit.{Edit, sets, removes, Numbers, editOf}
 use Rattle.level.specs.declared.Level.{Level}
 use Rattle.level.specs.Ranked.{mapEdit, IfSet}
 use Rattle.edit.specs.Edit.{named}
-use Rattle.level.specs.Words.{levelMade, levelPrice, levelSize, levelSum, levelLength, shown, changeOf}
+use Rattle.level.specs.Words.{maxLength, levelMade, levelPrice, levelSize, levelSum, levelLength, shown, changeOf}
+use Rattle.level.proofs.Packing.{sum-out, length-out, price-out, size-out}
 
 -- ---- a level that was made
 
-module _ (price size : Number) (sum length : ℕ) where
+module _ (price size : Number) (sum length : ℕ) (p : Within price) (s : Within size) (few : sum < 2 ^ 32) (short : length ≤ maxLength) where
   pub made-price : levelPrice (levelMade price size sum length) ≡ price
   unfolding levelPrice levelMade
-  made-price = refl
+  made-price =
+      ap (numberOf (digitsNear price)) (price-out sum length (codeOf price) (codeOf size) few short (code-low price (p .few))) ∙ words-number price (p .few)
 
   pub made-size : levelSize (levelMade price size sum length) ≡ size
   unfolding levelSize levelMade
-  made-size = refl
+  made-size =
+      ap (numberOf (digitsNear size)) (size-out sum length (codeOf price) (codeOf size) few short (code-low price (p .few))) ∙ words-number size (s .few)
 
   pub made-sum : levelSum (levelMade price size sum length) ≡ sum
   unfolding levelSum levelMade
-  made-sum = refl
+  made-sum = sum-out sum length (codeOf price) (codeOf size) few
 
   pub made-length : levelLength (levelMade price size sum length) ≡ length
   unfolding levelLength levelMade
-  made-length = refl
+  made-length = length-out sum length (codeOf price) (codeOf size) few short
 
   pub made-shown : shown (levelMade price size sum length) ≡ record { price = price; size = size }
-  unfolding shown levelPrice levelSize levelMade
-  made-shown = refl
+  unfolding shown
+  made-shown = ap₂ (λ (x y : Number). record { price = x; size = y }) made-price made-size
 
 -- ---- what an entry does
 

@@ -1,47 +1,49 @@
--- A level that was packed comes back out of its three words. Assumes nothing.
-use Prim.Native.Nat.{ℕ, _+_, _*_, _/_, _%_, _^_}
+-- What was packed comes back out of the third word. Assumes nothing.
+use Prim.Native.Nat.{ℕ, _+_, _*_, _/_, _%_, _^_, _≤_, _<_}
 use mathlib.Core.Path.{_≡_, sym, ap, _∙_}
-use native.Mathlib.Nat.{mod-eq-of-lt, div-div-eq-div-mul}
+use native.Mathlib.Nat.{div-div-eq-div-mul}
+use native.Mathlib.Omega.{arith}
 use lib.Dec.{lit<}
 use Rattle.edit.proofs.Packing.{low, high}
-use Rattle.level.specs.declared.Level.{Level}
-use Rattle.level.specs.Words.{Fits, packed, levelOf}
+use Rattle.level.specs.Words.{maxLength, packed, priceCode, sizeCode}
 
-module _ (level : Level) (fits : Fits level) where
-  abbrev decimals : ℕ
-  decimals = level .«price_decimals» + 2 ^ 8 * level .«size_decimals»
+module _ (sum length price size : ℕ) (few-sum : sum < 2 ^ 32) where
+  abbrev codes : ℕ
+  codes = price + 2 ^ 12 * size
 
   abbrev above : ℕ
-  above = level .length + 2 ^ 16 * decimals
+  above = length + 2 ^ 8 * codes
 
-  sum-out : packed level % 2 ^ 32 ≡ level .sum
+  pub sum-out : packed sum length price size % 2 ^ 32 ≡ sum
   unfolding packed
-  sum-out = low (2 ^ 32) (level .sum) above (fits .sum)
+  sum-out = low (2 ^ 32) sum above few-sum
 
-  above-out : packed level / 2 ^ 32 ≡ above
+  above-out : packed sum length price size / 2 ^ 32 ≡ above
   unfolding packed
-  above-out = high (2 ^ 32) (level .sum) above (lit< tt) (fits .sum)
+  above-out = high (2 ^ 32) sum above (lit< tt) few-sum
 
-  length-out : packed level / 2 ^ 32 % 2 ^ 16 ≡ level .length
-  length-out = ap (λ (n : ℕ). n % 2 ^ 16) above-out ∙ low (2 ^ 16) (level .length) decimals (fits .length)
+  module _ (few-length : length ≤ maxLength) where
+    few : length < 2 ^ 8
+    few = omega arith
 
-  decimals-out : packed level / 2 ^ 48 ≡ decimals
-  decimals-out =
-      sym (div-div-eq-div-mul (packed level) (2 ^ 32) (2 ^ 16))
-      ∙ ap (λ (n : ℕ). n / 2 ^ 16) above-out ∙ high (2 ^ 16) (level .length) decimals (lit< tt) (fits .length)
+    pub length-out : packed sum length price size / 2 ^ 32 % 2 ^ 8 ≡ length
+    length-out = ap (λ (n : ℕ). n % 2 ^ 8) above-out ∙ low (2 ^ 8) length codes few
 
-  pub price-decimals-out : packed level / 2 ^ 48 % 2 ^ 8 ≡ level .«price_decimals»
-  price-decimals-out =
-      ap (λ (n : ℕ). n % 2 ^ 8) decimals-out ∙ low (2 ^ 8) (level .«price_decimals») (level .«size_decimals») (fits .price-decimals)
+    codes-out : packed sum length price size / 2 ^ 40 ≡ codes
+    codes-out =
+        sym (div-div-eq-div-mul (packed sum length price size) (2 ^ 32) (2 ^ 8))
+        ∙ ap (λ (n : ℕ). n / 2 ^ 8) above-out ∙ high (2 ^ 8) length codes (lit< tt) few
 
-  size-decimals-out : packed level / 2 ^ 56 % 2 ^ 8 ≡ level .«size_decimals»
-  size-decimals-out =
-      ap (λ (n : ℕ). n % 2 ^ 8)
-      (sym (div-div-eq-div-mul (packed level) (2 ^ 48) (2 ^ 8))
-      ∙ ap (λ (n : ℕ). n / 2 ^ 8) decimals-out ∙ high (2 ^ 8) (level .«price_decimals») (level .«size_decimals») (lit< tt) (fits .price-decimals))
-      ∙ mod-eq-of-lt (fits .size-decimals)
+    module _ (few-price : price < 2000) where
+      short : price < 2 ^ 12
+      short = omega arith
 
-  -- unpacking gives the level back
-  pub level-packed : levelOf (level .price) (level .size) (packed level) ≡ level
-  unfolding levelOf
-  level-packed = rw (sum-out, length-out, price-decimals-out, size-decimals-out)
+      pub price-out : priceCode (packed sum length price size) ≡ price
+      unfolding priceCode
+      price-out = ap (λ (n : ℕ). n % 2 ^ 12) codes-out ∙ low (2 ^ 12) price size short
+
+      pub size-out : sizeCode (packed sum length price size) ≡ size
+      unfolding sizeCode
+      size-out =
+          sym (div-div-eq-div-mul (packed sum length price size) (2 ^ 40) (2 ^ 12))
+          ∙ ap (λ (n : ℕ). n / 2 ^ 12) codes-out ∙ high (2 ^ 12) price size (lit< tt) short

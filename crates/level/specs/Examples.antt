@@ -3,12 +3,15 @@ use mathlib.Core.Path.{_≡_, refl}
 use mathlib.Core.Bool.{Bool, true, false}
 use mathlib.Core.List.{List, [], _∷_}
 use Prim.Native.Nat.{ℕ}
-use Rattle.decimal.specs.Decimal.{Number, value}
+use Rattle.decimal.specs.Decimal.{Number, value, numberOf, farOf, pastOf, decimalsOf}
+use Rattle.decimal.specs.Words.{digitsNear, digitsPast, codeOf}
 use Rattle.edit.specs.declared.Side.the-variants.{Bids, Asks}
 use Rattle.edit.specs.Edit.{PriceLevel, shownPrice}
 use Rattle.edit.specs.Edit.{Edit, sets, removes}
 use Rattle.level.specs.Side.{names, namesTwice, without, apply, applyAll, place, ranked, crosses}
 use Rattle.level.specs.Ranked.{standing, afterMessage, replaces, replaced}
+use Rattle.level.specs.declared.Level.{Level}
+use Rattle.level.specs.Words.{packed, priceCode, sizeCode, levelPrice, levelSize, levelSum, levelLength, levelMade}
 
 unfoldable decimal : ℕ → ℕ → Number
 decimal digits decimals = record { digits = digits; decimals = decimals }
@@ -69,3 +72,27 @@ below-not-crossed = refl
 alone-not-crossed : crosses shownPrice (level 4 ∷ []) [] ≡ false
 unfolding level decimal crosses
 alone-not-crossed = refl
+
+-- 12.50 and 0.000000000007 with a sum of 5 and a length of 6, in words and back out of them
+unfoldable words : Level
+words = record { price = 1250; size = 0; rest = packed 5 6 2 1007 }
+
+words-made : levelMade (decimal 1250 2) (decimal 7 12) 5 6 ≡ words
+unfolding words decimal levelMade packed digitsNear digitsPast codeOf
+words-made = refl
+
+words-price : levelPrice words ≡ decimal 1250 2
+unfolding words decimal levelPrice packed priceCode numberOf farOf pastOf decimalsOf
+words-price = refl
+
+words-size : levelSize words ≡ decimal 7 12
+unfolding words decimal levelSize packed sizeCode numberOf farOf pastOf decimalsOf
+words-size = refl
+
+words-sum : levelSum words ≡ 5
+unfolding words levelSum packed
+words-sum = refl
+
+words-length : levelLength words ≡ 6
+unfolding words levelLength packed
+words-length = refl

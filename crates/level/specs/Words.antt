@@ -1,11 +1,12 @@
--- A level of the code, the words that it is kept in (one each for the price's digits, the size's digits and the rest), and an entry of the code. What is
+-- A level of the code, the words that it is kept in (the digits of the price and of the size up to the ninth decimal, and the rest), and an entry of the code. What is
 -- above this crate knows a level by its price, size, sum and length alone. Assumes nothing: these are definitions.
-use Prim.Native.Nat.{ℕ, _+_, _*_, _/_, _%_, _^_, _<_}
+use Prim.Native.Nat.{ℕ, _+_, _*_, _/_, _%_, _^_}
 use mathlib.Core.Path.{_≡_}
 use mathlib.Core.Bool.{cond}
 use mathlib.Core.List.{List}
 use lib.ListN.{drop}
-use Rattle.decimal.specs.Decimal.{Number, number, isZero}
+use Rattle.decimal.specs.Decimal.{Number, number, numberOf, isZero}
+use Rattle.decimal.specs.Words.{digitsNear, codeOf}
 use Rattle.edit.specs.Buffer.{byThrees}
 use Rattle.level.specs.declared.Level.{Level}
 use Rattle.level.specs.declared.Change.{Change}
@@ -13,34 +14,39 @@ use Rattle.level.specs.declared.Change.the-variants.{Set, Remove}
 use Rattle.level.specs.declared.Entry.{Entry}
 use Rattle.edit.specs.Edit.{PriceLevel, Edit, sets, removes, Numbers}
 
--- The price and the size that a level of the code has.
-unfoldable pub levelPrice : Level → Number
-levelPrice level = record { digits = level .price; decimals = level .«price_decimals» }
-
-unfoldable pub levelSize : Level → Number
-levelSize level = record { digits = level .size; decimals = level .«size_decimals» }
-
--- The sum and the length of its piece of checksum text.
-unfoldable pub levelSum : Level → ℕ
-levelSum level = level .sum
-
-unfoldable pub levelLength : Level → ℕ
-levelLength level = level .length
+-- ---- the third word: the sum and the length of the level's piece of checksum text, the code of the price, the code of the size
 
 -- The longest piece of checksum text that a level carries the length of.
 abbrev pub maxLength : ℕ
 maxLength = 255
 
+unfoldable pub packed : ℕ → ℕ → ℕ → ℕ → ℕ
+packed sum length price size = sum + 2 ^ 32 * (length + 2 ^ 8 * (price + 2 ^ 12 * size))
+
+unfoldable pub priceCode : ℕ → ℕ
+priceCode rest = rest / 2 ^ 40 % 2 ^ 12
+
+unfoldable pub sizeCode : ℕ → ℕ
+sizeCode rest = rest / 2 ^ 52
+
+-- ---- the price and the size that a level of the code has, and the sum and the length of its piece
+
+unfoldable pub levelPrice : Level → Number
+levelPrice level = numberOf (level .price) (priceCode (level .rest))
+
+unfoldable pub levelSize : Level → Number
+levelSize level = numberOf (level .size) (sizeCode (level .rest))
+
+unfoldable pub levelSum : Level → ℕ
+levelSum level = level .rest % 2 ^ 32
+
+unfoldable pub levelLength : Level → ℕ
+levelLength level = level .rest / 2 ^ 32 % 2 ^ 8
+
 -- The level of a price and a size, and of the sum and the length of its piece.
 unfoldable pub levelMade : Number → Number → ℕ → ℕ → Level
-levelMade price size sum length = record {
-  price = price .digits;
-  size = size .digits;
-  sum = sum;
-  length = length;
-  «price_decimals» = price .decimals;
-  «size_decimals» = size .decimals;
-}
+levelMade price size sum length =
+    record { price = digitsNear price; size = digitsNear size; rest = packed sum length (codeOf price) (codeOf size) }
 
 -- The level without a sum.
 abbrev pub levelPlain : Number → Number → Level
@@ -50,32 +56,9 @@ levelPlain price size = levelMade price size 0 0
 unfoldable pub shown : Level → PriceLevel
 shown level = record { price = levelPrice level; size = levelSize level }
 
--- What a field of a level can hold.
-pub record Fits (level : Level) : Type 0 where
-  pub sum : level .sum < 2 ^ 32
-  pub length : level .length < 2 ^ 16
-  pub price-decimals : level .«price_decimals» < 2 ^ 8
-  pub size-decimals : level .«size_decimals» < 2 ^ 8
-
--- The rest of a level, in one word.
-unfoldable pub packed : Level → ℕ
-packed level = level .sum + 2 ^ 32 * (level .length + 2 ^ 16 * (level .«price_decimals» + 2 ^ 8 * level .«size_decimals»))
-
--- What `pack` makes of a level.
-pub record Packed (level : Level) (rest : ℕ) : Type 0 where
-  pub word : rest ≡ packed level
-  pub fits : Fits level
-
 -- The level that three words hold.
-unfoldable pub levelOf : ℕ → ℕ → ℕ → Level
-levelOf price size rest = record {
-  price = price;
-  size = size;
-  sum = rest % 2 ^ 32;
-  length = rest / 2 ^ 32 % 2 ^ 16;
-  «price_decimals» = rest / 2 ^ 48 % 2 ^ 8;
-  «size_decimals» = rest / 2 ^ 56 % 2 ^ 8;
-}
+abbrev pub levelOf : ℕ → ℕ → ℕ → Level
+levelOf price size rest = record { price = price; size = size; rest = rest }
 
 -- How many words a level takes.
 abbrev pub levelWords : ℕ
@@ -91,7 +74,7 @@ wordsPast n words = drop (levelWords * n) words
 
 -- What stands past the last level of a list, where a definition has to say something.
 abbrev pub noLevel : Level
-noLevel = record { price = 0; size = 0; sum = 0; length = 0; «price_decimals» = 0; «size_decimals» = 0 }
+noLevel = record { price = 0; size = 0; rest = 0 }
 
 -- What a change of the code says of its side.
 unfoldable pub edit : Change → Edit Level

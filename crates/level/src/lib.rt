@@ -30,15 +30,13 @@ const LEVEL_WORDS: usize = 3;
 // The words of a side that is kept.
 pub const MAX_WORDS: usize = LEVEL_WORDS * MAX_LEVELS;
 
-// A price and a size as they were sent: the digits as one whole number, and how many of them stand after the point.
-// `sum` and `length` are the CRC of the level's own piece of checksum text and its length, made by whoever makes the level.
+// A price and a size as they were sent, and the CRC of the level's own piece of checksum text with its length, made by
+// whoever makes the level. `price` and `size` have the digits up to the ninth decimal; `rest` has the sum in bits 0 to 31, the
+// length in bits 32 to 39, and in 12 bits each the code of the price and that of the size (see `decimal`).
 pub struct Level {
     price: u64,
     size: u64,
-    sum: u32,
-    length: u16,
-    price_decimals: u8,
-    size_decimals: u8,
+    rest: u64,
 }
 
 pub enum Change {
@@ -68,10 +66,7 @@ pub enum MaybeLevel {
 pub const EMPTY: Level = Level {
     price: 0,
     size: 0,
-    sum: 0,
-    length: 0,
-    price_decimals: 0,
-    size_decimals: 0,
+    rest: 0,
 };
 
 // A side with no level.
@@ -100,38 +95,37 @@ pub fn make(price: Decimal, size: Decimal, sum: u32, length: u64) -> Level
     requires { ⌜ Within (number price) × Within (number size) × (length ≤ maxLength) ⌝ }
     ensures { λ r. ⌜ r ≡ levelMade (number price) (number size) sum length ⌝ }
 {
+    let p = decimal::parts_of(price);
+    let s = decimal::parts_of(size);
     Level {
-        price: decimal::digits_of(price),
-        size: decimal::digits_of(size),
-        sum,
-        length: length as u16,
-        price_decimals: decimal::decimals_of(price) as u8,
-        size_decimals: decimal::decimals_of(size) as u8,
+        price: p.digits,
+        size: s.digits,
+        rest: words::pack(sum, length, p.code, s.code),
     }
 }
 
 pub fn price_of(level: Level) -> Decimal
     ensures { λ r. ⌜ number r ≡ levelPrice level ⌝ }
 {
-    decimal::of_digits(level.price, level.price_decimals as u64)
+    decimal::of_parts(level.price, words::price_code(level.rest))
 }
 
 pub fn size_of(level: Level) -> Decimal
     ensures { λ r. ⌜ number r ≡ levelSize level ⌝ }
 {
-    decimal::of_digits(level.size, level.size_decimals as u64)
+    decimal::of_parts(level.size, words::size_code(level.rest))
 }
 
 pub fn sum_of(level: Level) -> u32
     ensures { λ r. ⌜ r ≡ levelSum level ⌝ }
 {
-    level.sum
+    (level.rest % words::LENGTH) as u32
 }
 
 pub fn length_of(level: Level) -> u16
     ensures { λ r. ⌜ r ≡ levelLength level ⌝ }
 {
-    level.length
+    (level.rest / words::LENGTH % 256) as u16
 }
 
 // The entry of a side, a price and a size: a size of zero removes the price. A level that it sets has no sum yet.

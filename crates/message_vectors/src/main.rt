@@ -5,7 +5,7 @@
 //     + LENGTH MESSAGE        a message with blanks at its end up to a length
 //
 // Of a message it writes the number of the first of checks 1 to 8 that fails, or 0, how many entries there are for each side, the checksum,
-// the sequence number, in M2 the one before it, and the entries in message order: the side's letter, then digits and decimals of the price and of the size. Then
+// the sequence number, in M2 the one before it, and the entries in message order: the side's letter, then digits and code of the price and of the size. Then
 // where the first bad decimal lies, and its text. Other lines are written as they are. What is to come was worked out apart from the
 // crate, by tools/message_vectors.py.
 use answer::number_of;
@@ -231,9 +231,10 @@ fn write_letter(side: Side) {
 
 fn write_decimal(a: Decimal) {
     write(b" ");
-    write_number(decimal::digits_of(a));
+    let parts = decimal::parts_of(a);
+    write_number(parts.digits);
     write(b"/");
-    write_number(decimal::decimals_of(a));
+    write_number(parts.code);
 }
 
 // Where the first bad decimal lies, and its text.

@@ -144,7 +144,7 @@ asked-back (question write) c a b d e f = rw a
 
 -- a script that begins with a call, and `out` for it
 abbrev zeroWords : List ℕ
-zeroWords = wordsOf (0 ∷ 0 ∷ 0 ∷ 0 ∷ 0 ∷ [])
+zeroWords = wordsOf (0 ∷ 0 ∷ 0 ∷ 0 ∷ 0 ∷ 0 ∷ 0 ∷ [])
 
 abbrev text : Call → List ℕ → List ℕ
 text c s = wordsOf (headerWords c) ++ (messageIn (c .ask) ++ s)
@@ -157,7 +157,7 @@ module _ (c : Call) (h : Holds c) (s out : List ℕ) where
   unfolding callLength
   first-length = rw (w40 c h (messageIn (c .ask) ++ s))
 
-  first-reply : replyLength (text c s) ≡ 40 + length (c .buffer)
+  first-reply : replyLength (text c s) ≡ 56 + length (c .buffer)
   unfolding replyLength
   first-reply = rw (w32 c h (messageIn (c .ask) ++ s))
 
@@ -168,11 +168,11 @@ module _ (c : Call) (h : Holds c) (s out : List ℕ) where
       let lh = header-length c h r in
       let lr = length-append (messageIn (c .ask)) s in
       let lo = length-append zeroWords (c .buffer ++ out) in
-      let lw = length-words (0 ∷ 0 ∷ 0 ∷ 0 ∷ 0 ∷ []) in
+      let lw = length-words (0 ∷ 0 ∷ 0 ∷ 0 ∷ 0 ∷ 0 ∷ 0 ∷ []) in
       let lb = length-append (c .buffer) out in
       sym (whole-by (text c s) (length (room c out)) (omega arith) (sym (w0 c h r)) (opcode-small (c .ask)) (sym (w40 c h r)) (omega arith) (omega arith)
       (sym (w32 c h r)))
-      ∙ le-leb (length (c .buffer)) (length (room c out) - 40) (omega arith)
+      ∙ le-leb (length (c .buffer)) (length (room c out) - 56) (omega arith)
 
   part-length : length (wordsOf (headerWords c) ++ messageIn (c .ask)) ≡ callLength (text c s)
   part-length =
@@ -198,16 +198,16 @@ module _ (c : Call) (h : Holds c) (s out : List ℕ) where
 
   room-length : length (zeroWords ++ c .buffer) ≡ replyLength (text c s)
   room-length =
-      length-append zeroWords (c .buffer) ∙ ap (λ (n : ℕ). n + length (c .buffer)) (length-words (0 ∷ 0 ∷ 0 ∷ 0 ∷ 0 ∷ [])) ∙ sym first-reply
+      length-append zeroWords (c .buffer) ∙ ap (λ (n : ℕ). n + length (c .buffer)) (length-words (0 ∷ 0 ∷ 0 ∷ 0 ∷ 0 ∷ 0 ∷ 0 ∷ [])) ∙ sym first-reply
 
   room-grouped : room c out ≡ (zeroWords ++ c .buffer) ++ out
   room-grouped = sym (append-assoc zeroWords (c .buffer) out)
 
-  first-buffer : drop 40 (take (replyLength (text c s)) (room c out)) ≡ c .buffer
+  first-buffer : drop 56 (take (replyLength (text c s)) (room c out)) ≡ c .buffer
   first-buffer =
-      ap (drop 40)
+      ap (drop 56)
       (ap (take (replyLength (text c s))) room-grouped ∙ take-at (zeroWords ++ c .buffer) out (replyLength (text c s)) room-length)
-      ∙ drop-at zeroWords (c .buffer) 40 (length-words (0 ∷ 0 ∷ 0 ∷ 0 ∷ 0 ∷ []))
+      ∙ drop-at zeroWords (c .buffer) 56 (length-words (0 ∷ 0 ∷ 0 ∷ 0 ∷ 0 ∷ 0 ∷ 0 ∷ []))
 
   out-rest : drop (replyLength (text c s)) (room c out) ≡ out
   out-rest = ap (drop (replyLength (text c s))) room-grouped ∙ drop-at (zeroWords ++ c .buffer) out (replyLength (text c s)) room-length
@@ -279,5 +279,5 @@ every-script (c ∷ cs) h =
     let r = every-script cs (h .1) in (
       bytes-append (wordsOf (headerWords c)) (messageIn (c .ask) ++ scriptOf cs) (bytes-words (headerWords c))
           (bytes-append (messageIn (c .ask)) (scriptOf cs) (h .0 .message) (r .0)),
-      bytes-append zeroWords (c .buffer ++ outOf cs) (bytes-words (0 ∷ 0 ∷ 0 ∷ 0 ∷ 0 ∷ [])) (bytes-append (c .buffer) (outOf cs) (h .0 .buffer) (r .1)),
+      bytes-append zeroWords (c .buffer ++ outOf cs) (bytes-words (0 ∷ 0 ∷ 0 ∷ 0 ∷ 0 ∷ 0 ∷ 0 ∷ [])) (bytes-append (c .buffer) (outOf cs) (h .0 .buffer) (r .1)),
     )

@@ -32,8 +32,8 @@ both false b e = absurd (true≢false (sym e))
 pub record Fits (s : List ℕ) (room : ℕ) : Type 0 where
   pub header : 48 ≤ length s
   pub message : messageLength s ≤ length s - 48
-  pub words : 40 ≤ room
-  pub buffer : bufferLength s ≤ room - 40
+  pub words : 56 ≤ room
+  pub buffer : bufferLength s ≤ room - 56
 
 pub whole-fits : (s : List ℕ) (room : ℕ) → isWhole s room ≡ true → Fits s room
 unfolding isWhole
@@ -41,7 +41,7 @@ whole-fits s room e =
     let a = both (leb 48 (length s)) _ e in
     let b = both (leb (opcode s) 5) _ (a .1) in
     let c = both (leb (messageLength s) (length s - 48)) _ (b .1) in
-    let d = both (leb 40 room) _ (c .1) in
+    let d = both (leb 56 room) _ (c .1) in
     record {
       header = leb-true _ _ (a .0);
       message = leb-true _ _ (c .0);
@@ -66,10 +66,10 @@ module _ (s : List ℕ) (room : ℕ) where
       not-message l = rw (le-leb 48 (length s) h, ← e, le-leb op 5 k, ← f, lt-leb m (length s - 48) l)
 
       module _ (l : m ≤ length s - 48) where
-        pub not-words : room < 40 → false ≡ isWhole s room
+        pub not-words : room < 56 → false ≡ isWhole s room
         unfolding isWhole
-        not-words n = rw (le-leb 48 (length s) h, ← e, le-leb op 5 k, ← f, le-leb m (length s - 48) l, lt-leb 40 room n)
+        not-words n = rw (le-leb 48 (length s) h, ← e, le-leb op 5 k, ← f, le-leb m (length s - 48) l, lt-leb 56 room n)
 
-        pub whole-by : 40 ≤ room → {n : ℕ} → n ≡ bufferLength s → leb n (room - 40) ≡ isWhole s room
+        pub whole-by : 56 ≤ room → {n : ℕ} → n ≡ bufferLength s → leb n (room - 56) ≡ isWhole s room
         unfolding isWhole
-        whole-by n g = rw (le-leb 48 (length s) h, ← e, le-leb op 5 k, ← f, le-leb m (length s - 48) l, le-leb 40 room n, ← g)
+        whole-by n g = rw (le-leb 48 (length s) h, ← e, le-leb op 5 k, ← f, le-leb m (length s - 48) l, le-leb 56 room n, ← g)

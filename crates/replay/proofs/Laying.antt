@@ -26,7 +26,7 @@ length-words (n ∷ ns) =
 
 -- ---- word after word
 
-pub words-owed : (part : List ℕ) (r : Replied) → 40 ≤ length part → Whole part 0 (wordsOf (wordsIn r)) part 0 (wordsOf (wordsIn r))
+pub words-owed : (part : List ℕ) (r : Replied) → 56 ≤ length part → Whole part 0 (wordsOf (wordsIn r)) part 0 (wordsOf (wordsIn r))
 words-owed part r h = let l = length-words (wordsIn r) in owed-all (omega arith)
 
 module _ {final : List ℕ} {past : ℕ} {b : List ℕ} {at : ℕ} (n : ℕ) (ns : List ℕ) (owed : Owed final past b at (wordsOf (n ∷ ns))) where
@@ -47,26 +47,26 @@ words-laid owed = put-none owed
 pub rest-is : (s : List ℕ) (at : ℕ) → take (length s - at) (drop at s) ≡ drop at s
 rest-is s at = take-all (length s - at) (drop at s) (let l = length-drop at s in omega arith)
 
-module _ (part : List ℕ) (h : 40 ≤ length part) where
-  behind : (buffer : List ℕ) → drop 40 (take 40 part ++ (buffer ++ drop (length part - 40) (drop 40 part))) ≡ buffer
+module _ (part : List ℕ) (h : 56 ≤ length part) where
+  behind : (buffer : List ℕ) → drop 56 (take 56 part ++ (buffer ++ drop (length part - 56) (drop 56 part))) ≡ buffer
   behind buffer =
-      drop-at (take 40 part) _ 40 (length-take-le 40 part h)
-      ∙ ap (λ (l : List ℕ). buffer ++ l) (drop-of-length-le (drop 40 part) {i = length part - 40} (let l = length-drop 40 part in omega arith))
+      drop-at (take 56 part) _ 56 (length-take-le 56 part h)
+      ∙ ap (λ (l : List ℕ). buffer ++ l) (drop-of-length-le (drop 56 part) {i = length part - 56} (let l = length-drop 56 part in omega arith))
       ∙ append-nil buffer
 
   pub reply-laid : {p : Reference} {ask : Ask} (buffer after : List ℕ) (e : ℕ) (r : Replied) →
-      Answered p ask (take (length part - 40) (drop 40 part)) buffer r →
-      Put (take 40 part ++ (buffer ++ drop (length part - 40) (drop 40 part))) 0 (wordsOf (wordsIn r)) after e →
+      Answered p ask (take (length part - 56) (drop 56 part)) buffer r →
+      Put (take 56 part ++ (buffer ++ drop (length part - 56) (drop 56 part))) 0 (wordsOf (wordsIn r)) after e →
       Called p ask part after (r .book)
   unfolding overlaid replyBytes
   reply-laid {p} {ask} buffer after e r a put =
-      let a' = rw (rest-is part 40) at a in
-      let l : 0 + length (wordsOf (wordsIn r)) ≡ 40 = (let w = length-words (wordsIn r) in omega arith) in
+      let a' = rw (rest-is part 56) at a in
+      let l : 0 + length (wordsOf (wordsIn r)) ≡ 56 = (let w = length-words (wordsIn r) in omega arith) in
       record {
         good = a' .good;
         same = a' .same;
         out =
             put .bytes
-            ∙ ap (λ (n : ℕ). wordsOf (wordsIn r) ++ drop n (take 40 part ++ (buffer ++ drop (length part - 40) (drop 40 part)))) l
+            ∙ ap (λ (n : ℕ). wordsOf (wordsIn r) ++ drop n (take 56 part ++ (buffer ++ drop (length part - 56) (drop 56 part)))) l
             ∙ ap₂ (λ (x y : List ℕ). x ++ y) (ap wordsOf (a' .words)) (behind buffer ∙ a' .buffer);
       }

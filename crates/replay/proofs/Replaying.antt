@@ -83,12 +83,12 @@ module _ {p : Reference} {s before out : List ℕ} {b : Book} {at done calls : �
     unfolding callLength
     call-within = let f = fits in let l = length-drop at s in let h = g .within in (omega arith, omega arith)
 
-    pub reply-within : (40 ≤ m) × (done + m ≤ length out)
+    pub reply-within : (56 ≤ m) × (done + m ≤ length out)
     unfolding replyLength
     reply-within = let f = fits in let h = g .room in (omega arith, omega arith)
 
     -- what the call asks of its parts
-    pub call-ready : (Good b) × (48 ≤ length (take (at + n - at) (drop at s))) × (40 ≤ length (take (done + m - done) (drop done out)))
+    pub call-ready : (Good b) × (48 ≤ length (take (at + n - at) (drop at s))) × (56 ≤ length (take (done + m - done) (drop done out)))
     call-ready =
         let hn = call-within in
         let hm = reply-within in

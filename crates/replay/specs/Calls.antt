@@ -4,6 +4,7 @@ use mathlib.Core.Path.{_≡_}
 use mathlib.Core.List.{List, [], _∷_}
 use lib.ListN.{length, drop}
 use Rattle.decimal.specs.Decimal.{number}
+use Rattle.decimal.specs.Words.{digitsNear, digitsPast}
 use Rattle.settings.specs.Settings.{Config}
 use Rattle.answer.specs.Answers.{answerNumber}
 use Rattle.reference.specs.Reference.{Reference, Ask, opened, does, repliesTo}
@@ -19,27 +20,29 @@ use Rattle.replay.specs.declared.asking.Replied.{Replied}
 -- ---- an answer of the book as a reply's words
 
 unfoldable pub stepReplied : Step → Replied
-stepReplied s = record { book = s .book; answer = answerNumber (s .answer); first = 0; second = 0; third = 0; fourth = 0 }
+stepReplied s = record { book = s .book; answer = answerNumber (s .answer); first = 0; second = 0; third = 0; fourth = 0; fifth = 0; sixth = 0 }
 
 unfoldable pub countsReplied : CountsReply → Replied
-countsReplied s = record { book = s .book; answer = answerNumber (s .answer); first = s .bids; second = s .asks; third = 0; fourth = 0 }
+countsReplied s = record { book = s .book; answer = answerNumber (s .answer); first = s .bids; second = s .asks; third = 0; fourth = 0; fifth = 0; sixth = 0 }
 
 unfoldable pub levelReplied : LevelReply → Replied
 levelReplied s =
     record {
       book = s .book;
       answer = answerNumber (s .answer);
-      first = number (s .price) .digits;
-      second = number (s .price) .decimals;
-      third = number (s .size) .digits;
-      fourth = number (s .size) .decimals;
+      first = digitsNear (number (s .price));
+      second = digitsPast (number (s .price));
+      third = number (s .price) .decimals;
+      fourth = digitsNear (number (s .size));
+      fifth = digitsPast (number (s .size));
+      sixth = number (s .size) .decimals;
     }
 
 unfoldable pub numberReplied : NumberReply → Replied
-numberReplied s = record { book = s .book; answer = answerNumber (s .answer); first = s .value; second = 0; third = 0; fourth = 0 }
+numberReplied s = record { book = s .book; answer = answerNumber (s .answer); first = s .value; second = 0; third = 0; fourth = 0; fifth = 0; sixth = 0 }
 
 abbrev pub wordsIn : Replied → List ℕ
-wordsIn r = r .answer ∷ r .first ∷ r .second ∷ r .third ∷ r .fourth ∷ []
+wordsIn r = r .answer ∷ r .first ∷ r .second ∷ r .third ∷ r .fourth ∷ r .fifth ∷ r .sixth ∷ []
 
 -- ---- one call
 

@@ -78,7 +78,7 @@ scriptOf (c ∷ cs) = wordsOf (headerWords c) ++ (messageIn (c .ask) ++ scriptOf
 -- `out` for that script: zeros where the words of a reply go, and the buffers as they are lent.
 unfoldable pub outOf : List Call → List ℕ
 outOf [] = []
-outOf (c ∷ cs) = wordsOf (0 ∷ 0 ∷ 0 ∷ 0 ∷ 0 ∷ []) ++ (c .buffer ++ outOf cs)
+outOf (c ∷ cs) = wordsOf (0 ∷ 0 ∷ 0 ∷ 0 ∷ 0 ∷ 0 ∷ 0 ∷ []) ++ (c .buffer ++ outOf cs)
 
 -- What a word holds: no message, buffer or index that the code can be given is larger.
 pub record Holds (c : Call) : Type 0 where

@@ -5,6 +5,7 @@ use mathlib.Core.List.{List, [], _∷_, _++_}
 use lib.Dec.{leb, eqb}
 use lib.ListN.{length, take, drop}
 use Rattle.text.specs.Words.{wordAt}
+use Rattle.decimal.specs.Words.{digitsNear, digitsPast}
 use Rattle.edit.specs.Edit.{PriceLevel}
 use Rattle.edit.specs.declared.Side.{Side}
 use Rattle.edit.specs.declared.Side.the-variants.{Bids, Asks}
@@ -56,23 +57,26 @@ askOf c =
     (cond (eqb (opcode c) 3) (question (whichNumber (scopeOf (wordAt c 8))))
     (cond (eqb (opcode c) 4) (question (howManyUpdates (scopeOf (wordAt c 8)))) (question write)))))
 
--- ---- a reply: five words, then the lent buffer as it is afterwards
+-- ---- a reply: seven words, then the lent buffer as it is afterwards
 
 abbrev pub wordsLength : ℕ
-wordsLength = 40
+wordsLength = 56
 
 -- How many bytes the reply to the first call of a script takes.
 unfoldable pub replyLength : List ℕ → ℕ
 replyLength s = wordsLength + bufferLength s
 
+-- A price or a size: the digits up to the ninth decimal, those past it, and how many decimals there are.
 unfoldable pub levelWords : PriceLevel → List ℕ
-levelWords l = l .price .digits ∷ l .price .decimals ∷ l .size .digits ∷ l .size .decimals ∷ []
+levelWords l =
+    digitsNear (l .price) ∷ digitsPast (l .price) ∷ l .price .decimals
+    ∷ digitsNear (l .size) ∷ digitsPast (l .size) ∷ l .size .decimals ∷ []
 
 unfoldable pub valueWords : Value → List ℕ
-valueWords nothing = 0 ∷ 0 ∷ 0 ∷ 0 ∷ []
-valueWords (counts bids asks) = bids ∷ asks ∷ 0 ∷ 0 ∷ []
+valueWords nothing = 0 ∷ 0 ∷ 0 ∷ 0 ∷ 0 ∷ 0 ∷ []
+valueWords (counts bids asks) = bids ∷ asks ∷ 0 ∷ 0 ∷ 0 ∷ 0 ∷ []
 valueWords (level l) = levelWords l
-valueWords (amount n) = n ∷ 0 ∷ 0 ∷ 0 ∷ []
+valueWords (amount n) = n ∷ 0 ∷ 0 ∷ 0 ∷ 0 ∷ 0 ∷ []
 
 unfoldable pub replyWords : Reply → List ℕ
 replyWords r = answerNumber (r .answer) ∷ valueWords (r .value)

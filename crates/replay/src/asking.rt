@@ -30,6 +30,8 @@ pub struct Replied {
     pub second: u64,
     pub third: u64,
     pub fourth: u64,
+    pub fifth: u64,
+    pub sixth: u64,
 }
 
 // Makes the call that a header asks for.
@@ -68,7 +70,9 @@ pub fn lay_reply(reply: Replied, part: &mut [u8]) -> usize
     end = lay_word(reply.first, part, end);
     end = lay_word(reply.second, part, end);
     end = lay_word(reply.third, part, end);
-    lay_word(reply.fourth, part, end)
+    end = lay_word(reply.fourth, part, end);
+    end = lay_word(reply.fifth, part, end);
+    lay_word(reply.sixth, part, end)
 }
 
 fn scope_of(n: u64) -> Scope
@@ -101,6 +105,8 @@ fn step_replied(step: Step) -> Replied
         second: 0,
         third: 0,
         fourth: 0,
+        fifth: 0,
+        sixth: 0,
     }
 }
 
@@ -116,6 +122,8 @@ fn counts_replied(counts: CountsReply) -> Replied
         second: counts.asks as u64,
         third: 0,
         fourth: 0,
+        fifth: 0,
+        sixth: 0,
     }
 }
 
@@ -124,15 +132,17 @@ fn level_replied(level: LevelReply) -> Replied
 {
     let book = level.book;
     let answer = level.answer;
-    let price = level.price;
-    let size = level.size;
+    let price = decimal::split_of(level.price);
+    let size = decimal::split_of(level.size);
     Replied {
         book,
         answer: number_of(answer),
-        first: decimal::digits_of(price),
-        second: decimal::decimals_of(price),
-        third: decimal::digits_of(size),
-        fourth: decimal::decimals_of(size),
+        first: price.digits,
+        second: price.past,
+        third: price.decimals,
+        fourth: size.digits,
+        fifth: size.past,
+        sixth: size.decimals,
     }
 }
 
@@ -148,5 +158,7 @@ fn number_replied(amount: NumberReply) -> Replied
         second: 0,
         third: 0,
         fourth: 0,
+        fifth: 0,
+        sixth: 0,
     }
 }

@@ -1,8 +1,8 @@
 // A script of calls run on one book: messages, questions and writings-out as bytes, and a reply to each.
 //
-//     let calls = replay::replay(Dialect::M, 100, name, script, out);
+//     let calls = replay::replay(Dialect::M(Edition::M1), 100, name, script, out);
 //
-// A call of a script is a header of six words and a message; its reply in `out` is five words and the call's lent
+// A call of a script is a header of six words and a message; its reply in `out` is seven words and the call's lent
 // buffer. A word has eight bytes, the lowest first. docs/REPLAY.md has the table of both.
 mod asking;
 mod words;

@@ -24,8 +24,8 @@ const MESSAGE_LENGTH: usize = 40;
 
 const LAST_OPCODE: u64 = 5;
 
-// A reply begins with five words.
-pub const REPLY_WORDS: usize = 40;
+// A reply begins with seven words.
+pub const REPLY_WORDS: usize = 56;
 
 // Lays a word at a position, and answers the position past it.
 pub fn lay_word(n: u64, part: &mut [u8], at: usize) -> usize

@@ -18,20 +18,22 @@ abbrev Sized : Level → Type 0
 Sized level = Within (levelSize level)
 
 module _ (text : SumText) where
-  shown-list : (es : List Numbers) → map (mapEdit shown) (map (changeOf (levelFor text)) es) ≡ map editOf es
-  shown-list [] = refl
-  shown-list (e ∷ es) = rw (change-shown (levelFor text) e (level-shown text (e .price) (e .size)), shown-list es)
-
-  carried-list : (es : List Numbers) → All (IfSet (Carries (pieceOf text))) (map (changeOf (levelFor text)) es)
+  shown-list : (es : List Numbers) → All EntryWithin es → map (mapEdit shown) (map (changeOf (levelFor text)) es) ≡ map editOf es
   unfolding All
-  carried-list [] = tt
-  carried-list (e ∷ es) = (change-holds (levelFor text) e (Carries (pieceOf text)) (level-carries text (e .price) (e .size)), carried-list es)
+  shown-list [] w = refl
+  shown-list (e ∷ es) w = rw (change-shown (levelFor text) e (level-shown text (e .price) (e .size) (w .0 .0) (w .0 .1)), shown-list es (w .1))
+
+  carried-list : (es : List Numbers) → All EntryWithin es → All (IfSet (Carries (pieceOf text))) (map (changeOf (levelFor text)) es)
+  unfolding All
+  carried-list [] w = tt
+  carried-list (e ∷ es) w =
+      (change-holds (levelFor text) e (Carries (pieceOf text)) (level-carries text (e .price) (e .size) (w .0 .0) (w .0 .1)), carried-list es (w .1))
 
   sized-list : (es : List Numbers) → All EntryWithin es → All (IfSet Sized) (map (changeOf (levelFor text)) es)
   unfolding All
   sized-list [] w = tt
   sized-list (e ∷ es) w =
-      (change-holds (levelFor text) e Sized (subst Within (sym (level-size text (e .price) (e .size))) (w .0 .1)), sized-list es (w .1))
+      (change-holds (levelFor text) e Sized (subst Within (sym (level-size text (e .price) (e .size) (w .0 .0) (w .0 .1))) (w .0 .1)), sized-list es (w .1))
 
 -- what holds of each entry holds of those for one side
 all-own : (P : Numbers → Type 0) (side : Side) (es : List Numbers) → All P es → All P (forSide sideOf side es)
@@ -41,15 +43,18 @@ all-own P side (e ∷ es) w =
     let rest = all-own P side es (w .1) in
     all-cond P (isSame (e .side) side) (e ∷ forSide sideOf side es) (forSide sideOf side es) (w .0, rest) rest
 
-module _ (text : SumText) (side : Side) (es : List Numbers) where
+module _ (text : SumText) (side : Side) (es : List Numbers) (w : All EntryWithin es) where
+  own : All EntryWithin (forSide sideOf side es)
+  own = all-own EntryWithin side es w
+
   pub changes-shown : map (mapEdit shown) (changesFor text side es) ≡ map editOf (forSide sideOf side es)
   unfolding changesFor
-  changes-shown = shown-list text (forSide sideOf side es)
+  changes-shown = shown-list text (forSide sideOf side es) own
 
   pub changes-carried : All (IfSet (Carries (pieceOf text))) (changesFor text side es)
   unfolding changesFor
-  changes-carried = carried-list text (forSide sideOf side es)
+  changes-carried = carried-list text (forSide sideOf side es) own
 
-  pub changes-sized : All EntryWithin es → All (IfSet Sized) (changesFor text side es)
+  pub changes-sized : All (IfSet Sized) (changesFor text side es)
   unfolding changesFor
-  changes-sized w = sized-list text (forSide sideOf side es) (all-own EntryWithin side es w)
+  changes-sized = sized-list text (forSide sideOf side es) own

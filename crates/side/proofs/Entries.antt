@@ -7,7 +7,7 @@ use mathlib.Core.List.{List, [], _∷_, _++_}
 use native.Mathlib.Numerals.{add-one}
 use native.Mathlib.Omega.{arith}
 use borrow.Author.Tests.{eqb-true, eqb-false}
-use lib.Dec.{eqb}
+use lib.Dec.{eqb, lit<, lit≤}
 use lib.ListN.{length, getD, set, take, drop, drop-of-length-le, length-map}
 use lib.Seq.{drop-cons, take-suc, take-suc-set, take-take, take-all, length-take-le, getD-take}
 use Rattle.decimal.specs.Decimal.{number, value}
@@ -16,7 +16,7 @@ use Rattle.decimal.specs.declared.Decimal.{Decimal}
 use Rattle.decimal.specs.declared.Order.{Order}
 use Rattle.edit.specs.declared.Side.{Side}
 use Rattle.level.specs.declared.Level.{Level}
-use Rattle.level.specs.Words.{levelPrice}
+use Rattle.level.specs.Words.{levelPrice, levelSize}
 use Rattle.edit.specs.Edit.{Edit, sets, removes, Numbers, isSame, forSide, sideOf}
 use Rattle.edit.specs.Buffer.{entryOf, entriesIn, noNumbers}
 use Rattle.settings.specs.declared.SumText.{SumText}
@@ -61,19 +61,24 @@ given-length {side} {buffer} {count} g = length-take-le count (entriesIn buffer)
 abbrev pub does : SumText → Numbers → Edit Level
 does text e = changeOf (levelFor text) e
 
-pub does-named : (text : SumText) (e : Numbers) → named levelPrice (does text e) ≡ e .price
-does-named text e = change-named (levelFor text) e levelPrice (level-price text (e .price) (e .size))
+pub does-named : (text : SumText) (e : Numbers) → EntryWithin e → named levelPrice (does text e) ≡ e .price
+does-named text e w = change-named (levelFor text) e levelPrice (level-price text (e .price) (e .size) (w .0) (w .1))
+
+-- the level without a sum has the entry's price and size
+plain-price : (e : Numbers) → EntryWithin e → levelPrice (levelPlain (e .price) (e .size)) ≡ e .price
+plain-price e w = made-price (e .price) (e .size) 0 0 (w .0) (w .1) (lit< tt) (lit≤ tt)
+
+plain-size : (e : Numbers) → EntryWithin e → levelSize (levelPlain (e .price) (e .size)) ≡ e .size
+plain-size e w = made-size (e .price) (e .size) 0 0 (w .0) (w .1) (lit< tt) (lit≤ tt)
 
 -- the code's entry does so, once its level has its sum
-pub summed-does : (text : SumText) (e : Numbers) → mapEdit (withSum text) (changeOf levelPlain e) ≡ does text e
-summed-does text e =
-    change-map levelPlain (withSum text) (levelFor text) e
-    (ap₂ (levelFor text) (made-price (e .price) (e .size) 0 0) (made-size (e .price) (e .size) 0 0))
+pub summed-does : (text : SumText) (e : Numbers) → EntryWithin e → mapEdit (withSum text) (changeOf levelPlain e) ≡ does text e
+summed-does text e w = change-map levelPlain (withSum text) (levelFor text) e (ap₂ (levelFor text) (plain-price e w) (plain-size e w))
 
 pub plain-within : (e : Numbers) → EntryWithin e → IfSet LevelWithin (changeOf levelPlain e)
 plain-within e w =
     change-holds levelPlain e LevelWithin
-    (subst Within (sym (made-price (e .price) (e .size) 0 0)) (w .0), subst Within (sym (made-size (e .price) (e .size) 0 0)) (w .1))
+    (subst Within (sym (plain-price e w)) (w .0), subst Within (sym (plain-size e w)) (w .1))
 
 module _ (text : SumText) (side : Side) where
   changes-none : changesFor text side [] ≡ []
@@ -149,7 +154,7 @@ module _ (text : SumText) (side : Side) (es : List Numbers) (s : List Level) (n�
       pub turn-room : n < 200
       turn-room = let l = rw next-own at (t .few) in omega (arith, length-changes text side es)
 
-      pub turn-step : Within (entry .price) → (c : List Level) (m : ℕ) (now : Bool) → length c ≡ 200 → m ≤ n + 1
+      pub turn-step : EntryWithin entry → (c : List Level) (m : ℕ) (now : Bool) → length c ≡ 200 → m ≤ n + 1
           → take m c ≡ applyRanked levelPrice side (does text entry) (take n a)
           → now ≡ (seen || replaces levelPrice (does text entry) (take n a))
           → Turn text side es s n₀ c m now (k + 1)
@@ -160,7 +165,7 @@ module _ (text : SumText) (side : Side) (es : List Numbers) (s : List Level) (n�
         within = omega arith;
         few = rw add-one (let f = rw next-own at (t .few) in omega arith);
         sorted = rw e (sorted-entry levelPrice side (does text entry) (take n a) (t .sorted));
-        sound = rw e (sound-entry side (does text entry) (take n a) (subst Within (sym (does-named text entry)) w) (t .sound));
+        sound = rw e (sound-entry side (does text entry) (take n a) (subst Within (sym (does-named text entry w)) (w .0)) (t .sound));
         rest = rw (add-one, e) (rw next-own at (t .rest));
         meeting = rw (add-one, e, f) (or-assoc seen (replaces levelPrice (does text entry) (take n a)) _ ∙ (rw next-own at (t .meeting)));
       }

@@ -13,7 +13,7 @@ use Rattle.edit.specs.declared.Side.{Side}
 use Rattle.level.specs.declared.Level.{Level}
 use Rattle.level.specs.declared.Levels.{Levels}
 use Rattle.level.proofs.Held.{held-length}
-use Rattle.level.proofs.Determined.{Word, words-one}
+use Rattle.level.proofs.Determined.{words-one}
 use Rattle.side.specs.Applying.{AfterEntries}
 use Rattle.side.specs.declared.Applied.{Applied}
 
@@ -37,10 +37,10 @@ module _ {side : Side} {depth : ℕ} {es : List (Edit Level)} {kept : Levels} {w
       let same : whole (a .left) (a .count) (a .replaced) ≡ whole (b .left) (b .count) (b .replaced) = rw (same-left, c, m) in
       same
 
-  pub one-outcome : All Word words → All Word other → words ≡ other
+  pub one-outcome : words ≡ other
   unfolding held
-  one-outcome w v =
+  one-outcome =
       let e : take (a .left) (levelsIn words) ≡ take (a .left) (levelsIn other) = same-levels ∙ ap (λ (n : ℕ). take n (levelsIn other)) (sym same-left) in
       let f : wordsPast (a .left) words ≡ wordsPast (a .left) other
       = r .past ∙ sym (subst (λ (n : ℕ). wordsPast n other ≡ wordsPast n (kept .words)) (sym same-left) (t .past)) in
-      words-one (a .left) words other (omega (arith, r .good .few, r .good .room)) (omega (arith, r .good .few, t .good .room)) w v e f
+      words-one (a .left) words other (omega (arith, r .good .few, r .good .room)) (omega (arith, r .good .few, t .good .room)) e f

@@ -62,11 +62,11 @@ module _ (text : SumText) (side : Side) (depth : ℕ) (kept : Levels) (es : List
   unfolding editsFor
   some-worked k w a =
       let all = changesFor text side es in
-      let q = changes-shown text side es in
+      let q = changes-shown text side es w in
       record {
         sound = record {
           good = a .good;
-          carried = subst (All (Carries (pieceOf text))) (sym (a .levels)) (all-afterMessage levelPrice (Carries (pieceOf text)) side depth all (held kept) (changes-carried text side es) (k .carried));
+          carried = subst (All (Carries (pieceOf text))) (sym (a .levels)) (all-afterMessage levelPrice (Carries (pieceOf text)) side depth all (held kept) (changes-carried text side es w) (k .carried));
           sized = subst (All Sized) (sym (a .levels)) (all-afterMessage levelPrice Sized side depth all (held kept) (changes-sized text side es w) (k .sized));
         };
         levels = applied-levels a ∙ ap (λ (x : List (Edit PriceLevel)). afterMessage shownPrice side depth x (map shown (held kept))) q;

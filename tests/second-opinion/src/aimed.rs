@@ -8,17 +8,19 @@ use crate::damage::BAD_DECIMALS;
 use crate::decimal::Decimal;
 use crate::linked;
 use crate::escapes::{misspell, misspelled, respell, respell_wholly, spelled, twice};
-use crate::making::{prices, prices_from, removal, set, sets, Making, AT, LARGEST};
+use crate::making::{prices, prices_from, removal, set, sets, Making, AT, LARGEST, LARGEST_12};
 use crate::message::{Kind, Side, MAX_ENTRIES, MAX_MESSAGE};
 use crate::random::Random;
 use crate::seen::{BLOCK, DEPTHS};
 use crate::session::{Call, Opening, Purpose, Session};
 use crate::settings::Dialect;
 use crate::traffic::{large, zero, Line};
+use crate::twelve;
 use crate::value::{key, Blanks, Value};
 
-/// Where digits are large: 2^63 among the asks, among the bids, and the largest.
-const BASES: [u64; 3] = [AT - 150, AT - 60, LARGEST + 1 - 240];
+/// Where digits are large, with the count of decimals: 2^63 among the asks, among the bids, and the largest.
+const BASES: [(u128, u32); 5] =
+    [(AT - 150, 9), (AT - 60, 9), (LARGEST + 1 - 240, 9), (2 * AT - 150, 12), (LARGEST_12 + 1 - 240, 12)];
 
 /// One session for each depth, and some for each other end.
 pub fn sessions(random: &mut Random, purpose: Purpose) -> Vec<Session> {
@@ -35,6 +37,7 @@ pub fn sessions(random: &mut Random, purpose: Purpose) -> Vec<Session> {
             all.push(digits(random, purpose, dialect, base));
         }
         all.extend([true, false].map(|few| crossed::session(random, purpose, dialect, few)));
+        all.push(twelve::session(random, purpose, dialect));
         if dialect != Dialect::K {
             all.push(linked::session(random, purpose, dialect));
         }
@@ -48,7 +51,7 @@ pub fn sessions(random: &mut Random, purpose: Purpose) -> Vec<Session> {
 pub fn one(random: &mut Random, purpose: Purpose) -> Session {
     let dialect = random.pick(&Dialect::ALL);
     let m = random.pick(&[Dialect::M1, Dialect::M2]);
-    match random.below(9) {
+    match random.below(10) {
         0 => {
             let depth = random.between(10, 100) as u64;
             deep(random, purpose, depth)
@@ -66,6 +69,7 @@ pub fn one(random: &mut Random, purpose: Purpose) -> Session {
             crossed::session(random, purpose, dialect, few)
         }
         7 => linked::session(random, purpose, m),
+        8 => twelve::session(random, purpose, dialect),
         _ => {
             let base = random.pick(&BASES);
             digits(random, purpose, dialect, base)
@@ -194,11 +198,11 @@ fn in_and_out(random: &mut Random, book: &Book, side: Side, all: &[Decimal], com
     lines
 }
 
-/// Prices and sizes of 19 digits from `base` on, taken one after another.
-fn digits(random: &mut Random, purpose: Purpose, dialect: Dialect, base: u64) -> Session {
+/// Prices and sizes of many digits from `base` on, taken one after another.
+fn digits(random: &mut Random, purpose: Purpose, dialect: Dialect, (base, decimals): (u128, u32)) -> Session {
     let depth = if dialect == Dialect::K { random.pick(&[10, 57, 100]) } else { 100 };
     let mut making = Making::new(purpose, dialect, depth);
-    let [bids, asks] = prices_from(random, base, 9, 120);
+    let [bids, asks] = prices_from(random, base, decimals, 120);
     let of = |side: Side, prices: Vec<Decimal>| prices.into_iter().map(move |price| (side, price));
     let mut all: Vec<(Side, Decimal)> = of(Side::Bid, bids).chain(of(Side::Ask, asks)).collect();
     random.shuffle(&mut all);

@@ -23,5 +23,6 @@ pub mod settings;
 pub mod sweep;
 pub mod tally;
 pub mod traffic;
+pub mod twelve;
 pub mod value;
 pub mod vectors;

@@ -10,8 +10,10 @@ use crate::settings::{Dialect, Settings};
 use crate::traffic::{finished, large, respelled, size, zero, Draft, Line};
 use crate::value::{Blanks, Value};
 
-pub const AT: u64 = 1 << 63;
-pub const LARGEST: u64 = 9_999_999_999_999_999_999;
+pub const AT: u128 = 1 << 63;
+/// The largest digits, with nine decimals and with twelve.
+pub const LARGEST: u128 = 9_999_999_999_999_999_999;
+pub const LARGEST_12: u128 = 9_999_999_999_999_999_999_999;
 
 /// A session in the making, and the book so far.
 pub struct Making {
@@ -110,15 +112,17 @@ impl Making {
 /// `count` different prices for each side, one after another from some base on, the bids
 /// below the asks; each side shuffled.
 pub fn prices(random: &mut Random, count: usize) -> [Vec<Decimal>; 2] {
-    let wide = count as u64;
-    let any = random.below(10) as u32;
-    let (base, decimals) =
-        random.pick(&[(1, any), (95, any), (5_000_000_000, any), (AT - wide, 9), (LARGEST + 1 - 2 * wide, 9)]);
+    let wide = count as u128;
+    let any = random.below(13) as u32;
+    let (base, decimals) = random.pick(&[
+        (1, any), (95, any), (5_000_000_000, any), (AT - wide, 9), (LARGEST + 1 - 2 * wide, 9), (2 * AT - wide, 12),
+        (LARGEST_12 + 1 - 2 * wide, 12),
+    ]);
     prices_from(random, base, decimals, count)
 }
 
-pub fn prices_from(random: &mut Random, base: u64, decimals: u32, count: usize) -> [Vec<Decimal>; 2] {
-    let step = |place: usize| Decimal { digits: base + place as u64, decimals };
+pub fn prices_from(random: &mut Random, base: u128, decimals: u32, count: usize) -> [Vec<Decimal>; 2] {
+    let step = |place: usize| Decimal { digits: base + place as u128, decimals };
     [0..count, count..2 * count].map(|places| {
         let mut all: Vec<Decimal> = places.map(step).collect();
         random.shuffle(&mut all);

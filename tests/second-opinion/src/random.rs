@@ -15,6 +15,10 @@ impl Random {
         mixed ^ (mixed >> 31)
     }
 
+    pub fn wide(&mut self) -> u128 {
+        u128::from(self.next()) << 64 | u128::from(self.next())
+    }
+
     /// 0 up to and without `end`, which is above 0.
     pub fn below(&mut self, end: usize) -> usize {
         (self.next() % end as u64) as usize

@@ -8,7 +8,9 @@ use crate::random::Random;
 use crate::session::{Call, Opening, Session};
 
 const HEADER: usize = 48;
-const REPLY: usize = 40;
+const REPLY: usize = 56;
+/// The words of a reply after the answer number.
+type Values = [u64; 6];
 
 /// A script in its calls, and the room for its replies.
 #[derive(Clone, Debug)]
@@ -60,7 +62,7 @@ fn overlong(random: &mut Random, parts: &mut [Vec<u8>]) {
     }
     let part = random.below(parts.len());
     let place = random.pick(&[0, 32, 40]);
-    let value = random.pick(&[6, 7, 256, 1 << 32, 1 << 63, u64::MAX - 47, u64::MAX - 39, u64::MAX]);
+    let value = random.pick(&[6, 7, 256, 1 << 32, 1 << 63, u64::MAX - 55, u64::MAX - 47, u64::MAX]);
     parts[part][place..place + 8].copy_from_slice(&value.to_le_bytes());
 }
 
@@ -135,8 +137,9 @@ pub fn here(opening: &Opening, script: &[u8], out: &mut [u8]) -> usize {
         let Some(room) = lent(&script[from..], &out[to..]) else { break };
         let (answer, values) = reply(&mut book, &script[from..], message, &mut out[to + REPLY..to + REPLY + room]);
         debug_assert!(asked <= 5);
-        let words = [u64::from(answer), values[0], values[1], values[2], values[3]];
-        out[to..to + REPLY].copy_from_slice(&words.map(u64::to_le_bytes).concat());
+        let words: Vec<u64> = [vec![u64::from(answer)], values.to_vec()].concat();
+        let bytes: Vec<u8> = words.into_iter().flat_map(u64::to_le_bytes).collect();
+        out[to..to + REPLY].copy_from_slice(&bytes);
         from += HEADER + message.len();
         to += REPLY + room;
         made += 1;
@@ -158,31 +161,31 @@ fn lent(script: &[u8], out: &[u8]) -> Option<usize> {
     (out.len().checked_sub(REPLY)? >= room).then_some(room)
 }
 
-fn reply(book: &mut Book, header: &[u8], message: &[u8], room: &mut [u8]) -> (u8, [u64; 4]) {
+fn reply(book: &mut Book, header: &[u8], message: &[u8], room: &mut [u8]) -> (u8, Values) {
     let scope = if word(header, 8) == 0 { Scope::Live } else { Scope::LastGood };
     let side = if word(header, 16) == 0 { Side::Bid } else { Side::Ask };
     match word(header, 0) {
-        0 => (book.take(message), [0; 4]),
+        0 => (book.take(message), [0; 6]),
         1 => {
             let (answer, bids, asks) = book.levels(scope);
-            (answer, [bids as u64, asks as u64, 0, 0])
+            (answer, [bids as u64, asks as u64, 0, 0, 0, 0])
         }
         2 => {
             let (answer, level) = book.level(scope, side, word(header, 24));
-            let (price, size) = (level.price, level.size);
-            (answer, [price.digits, u64::from(price.decimals), size.digits, u64::from(size.decimals)])
+            let ([digits, past, decimals], size) = (level.price.words(), level.size.words());
+            (answer, [digits, past, decimals, size[0], size[1], size[2]])
         }
         3 => {
             let (answer, number) = book.book_number(scope);
-            (answer, [number, 0, 0, 0])
+            (answer, [number, 0, 0, 0, 0, 0])
         }
         4 => {
             let (answer, count) = book.updates(scope);
-            (answer, [u64::from(count), 0, 0, 0])
+            (answer, [u64::from(count), 0, 0, 0, 0, 0])
         }
         _ => {
             let (answer, length) = book.write(room);
-            (answer, [length as u64, 0, 0, 0])
+            (answer, [length as u64, 0, 0, 0, 0, 0])
         }
     }
 }

@@ -8,6 +8,7 @@ use crate::linked;
 use crate::message::{self, BadText, Entry, Kind, Level, Message, Side};
 use crate::session::{Call, Session};
 use crate::settings::{Dialect, Settings};
+use crate::twelve;
 use std::collections::{BTreeMap, BTreeSet, HashSet};
 
 pub const FULL_K: &str = "working side of 200 levels, K, taken";
@@ -22,6 +23,9 @@ pub const SIZE_AT: &str = "size with the digits 2^63, taken";
 pub const SIZE_ABOVE: &str = "size with digits above 2^63, taken";
 pub const PRICE_SHOWN: &str = "level shown, price with the digits 2^63 or above";
 pub const SIZE_SHOWN: &str = "level shown, size with the digits 2^63 or above";
+pub const PRICE_PAST: &str = "level shown, price with digits past the ninth decimal";
+pub const SIZE_PAST: &str = "level shown, size with digits past the ninth decimal";
+pub const LONGEST: &str = "longest snapshot written";
 pub const FILE: &str = "file longer than a block";
 pub const ACROSS: &str = "file with a line across a block's end";
 pub const AT_END: &str = "file with a line end at a block's end";
@@ -38,7 +42,7 @@ const ALWAYS: [&str; 10] = [
     FULL_K, FULL_M, MIDWAY, MIDWAY_FULL, PRICE_BELOW, PRICE_AT, PRICE_ABOVE, SIZE_BELOW, SIZE_AT, SIZE_ABOVE,
 ];
 /// What a run of every call has to bring up.
-const CALLS: [&str; 2] = [PRICE_SHOWN, SIZE_SHOWN];
+const CALLS: [&str; 5] = [PRICE_SHOWN, SIZE_SHOWN, PRICE_PAST, SIZE_PAST, LONGEST];
 /// What a run against the line program has to bring up, beside the bad first lines.
 const LINES: [&str; 3] = [FILE, ACROSS, AT_END];
 /// What a run with the program for the first bad text has to bring up.
@@ -82,6 +86,7 @@ impl Seen {
             match call {
                 Call::Message(text) => self.message(&mut book, &settings, text),
                 Call::Level(scope, side, place) => self.level(&book, *scope, *side, *place),
+                Call::Write(room) if twelve::is_longest(&book) && book.write(&mut vec![0; *room]).0 == 0 => self.count(LONGEST),
                 _ => {}
             }
         }
@@ -89,11 +94,14 @@ impl Seen {
 
     fn level(&mut self, book: &Book, scope: Scope, side: Side, place: u64) {
         let (_, level) = book.level(scope, side, place);
-        if level.price.digits >= 1 << 63 {
-            self.count(PRICE_SHOWN);
-        }
-        if level.size.digits >= 1 << 63 {
-            self.count(SIZE_SHOWN);
+        for (decimal, large, past) in [(level.price, PRICE_SHOWN, PRICE_PAST), (level.size, SIZE_SHOWN, SIZE_PAST)] {
+            let [digits, past_ninth, _] = decimal.words();
+            if digits >= 1 << 63 {
+                self.count(large);
+            }
+            if past_ninth > 0 {
+                self.count(past);
+            }
         }
     }
 
@@ -106,6 +114,7 @@ impl Seen {
         // A refused message leaves the sides as they were.
         let after = if answer == 0 { book.sides.clone() } else { book.after(settings, &message) };
         self.causes(settings.dialect, crossed::seen(settings, &message, &before, &after, answer));
+        self.causes(settings.dialect, twelve::seen(&message, &before, &after, answer));
         self.causes(settings.dialect, linked::seen(settings, &message, number, &before, &after, answer));
         for (most, end) in Side::BOTH.map(|side| worked(&before, &message, side)) {
             match (settings.dialect, answer) {
@@ -137,6 +146,7 @@ impl Seen {
         let bad = (answer == 8).then(|| &text[message::first_bad(Some(settings), text)]);
         self.causes(settings.dialect, escapes::seen(settings, text, answer, bad));
         self.causes(settings.dialect, linked::seen_texts(settings, text, answer));
+        self.causes(settings.dialect, twelve::seen_bad(bad));
     }
 
     /// Why a message got its answer, counted for each dialect.
@@ -147,8 +157,8 @@ impl Seen {
     fn digits(&mut self, level: &Level) {
         const AT: u64 = 1 << 63;
         for (digits, names) in [
-            (level.price.digits, [PRICE_BELOW, PRICE_AT, PRICE_ABOVE]),
-            (level.size.digits, [SIZE_BELOW, SIZE_AT, SIZE_ABOVE]),
+            (level.price.words()[0], [PRICE_BELOW, PRICE_AT, PRICE_ABOVE]),
+            (level.size.words()[0], [SIZE_BELOW, SIZE_AT, SIZE_ABOVE]),
         ] {
             if digits + 1 == AT {
                 self.count(names[0]);
@@ -216,7 +226,7 @@ fn of_dialect(dialect: Dialect, cause: &str) -> String {
 /// What every run has to bring up in each dialect.
 pub fn causes() -> Vec<String> {
     let of = |dialect: Dialect| {
-        let all = [escapes::causes(dialect), crossed::causes(dialect), linked::causes(dialect)].concat();
+        let all = [escapes::causes(dialect), crossed::causes(dialect), linked::causes(dialect), twelve::CAUSES.to_vec()].concat();
         all.into_iter().map(move |cause| of_dialect(dialect, cause))
     };
     Dialect::ALL.into_iter().flat_map(of).collect()

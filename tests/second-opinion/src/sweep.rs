@@ -195,7 +195,7 @@ fn with_entry(line: &str, kind: &str, price: &[u8], size: &[u8]) -> Vec<u8> {
 fn decimals(line: &str) -> Vec<Vec<u8>> {
     let mut spelled = words(b"019.-+ex /:", 3);
     for whole in 1..13 {
-        for part in 0..12 {
+        for part in 0..15 {
             for digit in ["0", "1", "9"] {
                 spelled.push(format!("{}.{}", "1".repeat(whole), digit.repeat(part)).into_bytes());
                 spelled.push(format!("{}{}", "9".repeat(whole), digit.repeat(part)).into_bytes());

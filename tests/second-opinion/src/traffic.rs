@@ -1,7 +1,7 @@
 //! Drafts of right messages, from the book as it stands.
 
 use crate::book::{Book, Sides};
-use crate::decimal::Decimal;
+use crate::decimal::{Decimal, MAX_DECIMALS};
 use crate::message::{Entry, Kind, Level, Message, Side, MAX_ENTRIES};
 use crate::random::Random;
 use crate::settings::{Dialect, Settings};
@@ -11,14 +11,16 @@ use std::collections::HashSet;
 /// The prices of a session: `spread` ticks on each side of `middle`, each of 10^-`decimals`.
 pub struct Market {
     pub decimals: u32,
-    pub middle: u64,
-    pub spread: u64,
+    pub middle: u128,
+    pub spread: u128,
     /// How many prices in a hundred are drawn on the other side of the middle.
     pub crossing: usize,
 }
 
-const ENDS: [&str; 8] =
-    ["9999999999.999999999", "9223372036.854775807", "9223372036.854775808", "0.000000001", "9999999999", "9999999999.0", "1", "0.1"];
+const ENDS: [&str; 10] = [
+    "9999999999.999999999999", "9999999999.999999999", "9223372036.854775807", "9223372036.854775808", "0.000000001", "0.000000000001",
+    "9999999999", "9999999999.0", "1", "0.1",
+];
 
 /// An entry as it is to be written.
 #[derive(Clone, Debug)]
@@ -43,17 +45,20 @@ impl Market {
     pub fn new(random: &mut Random) -> Market {
         let spread = random.pick(&[3, 12, 60, 130, 400]);
         let crossing = random.pick(&[0, 0, 0, 0, 0, 0, 1, 10]);
-        if random.percent(8) {
-            let middle = random.pick(&[1 << 63, (1 << 63) + 200, 9_999_999_999_999_990_000]);
-            return Market { decimals: 9, middle, spread, crossing };
+        if random.percent(12) {
+            let (middle, decimals) = random.pick(&[
+                (1 << 63, 9), ((1 << 63) + 200, 9), (9_999_999_999_999_990_000, 9), (1 << 63, 12), (1 << 64, 12), (1 << 73, 12),
+                (9_999_999_999_999_999_990_000, 12), (1_000_000_000_000, 12),
+            ]);
+            return Market { decimals, middle, spread, crossing };
         }
-        let decimals = random.below(10) as u32;
-        let middle = spread + 1 + random.next() % random.pick(&[1, 50, 100_000, 900_000_000]);
+        let decimals = random.below(13) as u32;
+        let middle = spread + 1 + u128::from(random.next()) % random.pick(&[1, 50, 100_000, 900_000_000]);
         Market { decimals, middle, spread, crossing }
     }
 
-    fn tick(&self, random: &mut Random, side: Side) -> u64 {
-        let step = random.next() % self.spread;
+    fn tick(&self, random: &mut Random, side: Side) -> u128 {
+        let step = u128::from(random.next()) % self.spread;
         let below = (side == Side::Bid) != random.percent(self.crossing);
         if below {
             self.middle - 1 - step
@@ -79,7 +84,7 @@ impl Market {
 pub fn respelled(random: &mut Random, decimal: Decimal, chance: usize) -> String {
     let mut spelled = decimal;
     let chance = if random.percent(3) { 95 } else { chance };
-    while spelled.decimals < 9 && random.percent(chance) {
+    while spelled.decimals < MAX_DECIMALS && random.percent(chance) {
         spelled = Decimal { digits: spelled.digits * 10, decimals: spelled.decimals + 1 };
     }
     while spelled.decimals > 0 && spelled.digits % 10 == 0 && random.percent(chance) {
@@ -91,35 +96,39 @@ pub fn respelled(random: &mut Random, decimal: Decimal, chance: usize) -> String
 /// A size above zero.
 pub fn size(random: &mut Random) -> String {
     match random.below(30) {
-        0 => "9999999999.999999999".to_string(),
-        1 => "0.000000001".to_string(),
+        0 => random.pick(&["9999999999.999999999", "9999999999.999999999999", "9999999999"]).to_string(),
+        1 => random.pick(&["0.000000001", "0.000000000001", "0.0000000010", "0.000000000100"]).to_string(),
         2 => "0.00000500".to_string(),
         3 => large(random).text(),
         _ => {
-            let decimals = random.below(10);
+            let decimals = random.below(13);
             let most = random.between(1, 9 + decimals) as u32;
-            let digits = 1 + random.next() % 10u64.pow(most);
+            let digits = 1 + random.wide() % 10u128.pow(most);
             Decimal { digits, decimals: decimals as u32 }.text()
         }
     }
 }
 
-/// 19 digits that are about 2^63 as one number, or above it.
+/// 19 digits that are about 2^63 as one number, or above it; or up to 22 digits, with twelve decimals.
 pub fn large(random: &mut Random) -> Decimal {
-    const AT: u64 = 1 << 63;
-    const END: u64 = 10_000_000_000_000_000_000;
+    const AT: u128 = 1 << 63;
+    const END: u128 = 10_000_000_000_000_000_000;
     let digits = match random.below(6) {
         0 => AT - 1,
         1 => AT,
         2 => AT + 1,
         3 => END - 1,
-        _ => AT + random.next() % (END - AT),
+        _ => AT + random.wide() % (END - AT),
     };
+    if random.percent(40) {
+        let past = random.pick(&[0, 1, 999, 500]);
+        return Decimal { digits: 1000 * digits + past, decimals: 12 };
+    }
     Decimal { digits, decimals: 9 }
 }
 
 pub fn zero(random: &mut Random) -> String {
-    Decimal { digits: 0, decimals: random.below(10) as u32 }.text()
+    Decimal { digits: 0, decimals: random.below(13) as u32 }.text()
 }
 
 /// A right snapshot with different prices.

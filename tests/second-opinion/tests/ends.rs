@@ -103,7 +103,7 @@ fn large_digits_are_counted() {
         let text = format!(r#"[0,{{"as":[["{price}","{size}","t"]],"bs":[]}},"book-10","a"]"#);
         Call::Message(text.into_bytes())
     };
-    let calls = ["9223372036.854775807", "9223372036.854775809", "9999999999.999999999", "922337203.6854775808"].map(text);
+    let calls = ["9223372036.854775807", "9223372036.854775809", "9999999999.999999999", "922337.2036854775808"].map(text);
     let session = session("K 10 a", calls.to_vec());
     assert_eq!(answers(&session), [0, 0, 0, 8]);
     let mut seen = Seen::default();

@@ -13,7 +13,7 @@ side-fine : (c : tie.After-apply) → ValidSide (c .before .before .before .befo
 side-fine c =
     let s = c .before .before .before .before .before .before .before .before .before .before .before in
     let r = c .before .before .before .before .before .before .before .before .read-entries in
-    applied-fine (s .args .text) (s .args .side) (s .args .depth) (take (r .result) (entriesIn (r .last .1 .1 .0))) (s .args .levels) (s .pre .0) (c .apply .ensures)
+    applied-fine (s .args .text) (s .args .side) (s .args .depth) (take (r .result) (entriesIn (r .last .1 .1 .0))) (s .args .levels) (s .pre .0) (r .ensures .within) (c .apply .ensures)
 
 returns : tie.Need-returns
 returns c = side-fine (c .before .before .before .before)

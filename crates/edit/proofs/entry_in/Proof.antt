@@ -12,7 +12,7 @@ returns : tie.Need-returns
 unfolding entriesIn entryOf
 returns c =
     let b = c .before .before .before .before .before .before in
-    rw (c .before .before .before .of-digits .ensures, c .before .of-digits2 .ensures, c .side-in .ensures)
+    rw (c .before .before .before .of-parts .ensures, c .before .of-parts2 .ensures, c .side-in .ensures)
     (threes-at entryOf (b .args .k) (b .args .buffer .now) noNumbers (omega (arith, b .pre .0, b .pre .1)))
 
 pub entry-in-spec : {M : Type 1} → statement M

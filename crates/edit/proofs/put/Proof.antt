@@ -1,10 +1,12 @@
 -- `put` meets its contract: the three words from 3k on are the entry's, which comes back out of them; past the end nothing is set.
-use Prim.Native.Nat.{ℕ, _+_, _*_, _≤_}
+use Prim.Native.Nat.{ℕ, _+_, _*_, _≤_, _<_}
 use mathlib.Core.Path.{_≡_, sym, ap, _∙_}
 use native.Mathlib.Omega.{arith}
 use borrow.Author.Needs.{needs}
 use lib.ListN.{set, length-set}
 use Rattle.decimal.specs.Decimal.{number}
+use Rattle.decimal.specs.Words.{digitsNear}
+use Rattle.decimal.proofs.Words.{parts-low}
 use Rattle.edit.specs.Edit.{Numbers}
 use Rattle.edit.specs.Buffer.{entryOf, entriesIn}
 use Rattle.edit.proofs.Threes.{threes-length, threes-set, set-past}
@@ -12,22 +14,26 @@ use Rattle.edit.proofs.Packing.{side-few, packed, entry-packed}
 use Rattle.edit.proofs.put.Statement.{statement}
 use Rattle.edit.proofs.put.Tie as tie
 
-abbrev few : tie.After-side-number → Type 0
-few c = (c .side-number .result ≤ 1) × (c .before .before .decimals-of .result ≤ 9) × (c .before .decimals-of2 .result ≤ 9)
+low-price : (c : tie.After-parts-of2) → c .before .parts-of .result .code < 2000
+low-price c = let b = c .before .before .before in parts-low (number (b .args .price)) (c .before .parts-of .result) (b .pre .1 .few) (c .before .parts-of .ensures)
 
-bounds : (c : tie.After-side-number) → few c
-bounds c =
-    let b = c .before .before .before in
-    let h = side-few (b .before .args .side) in
-    let p = b .before .pre .1 .few in
-    let z = b .before .pre .2 .few in
-    (rw (c .side-number .ensures) h, rw (c .before .before .decimals-of .ensures) p, rw (c .before .decimals-of2 .ensures) z)
+low-size : (c : tie.After-parts-of2) → c .parts-of2 .result .code < 2000
+low-size c = let b = c .before .before .before in parts-low (number (b .args .size)) (c .parts-of2 .result) (b .pre .2 .few) (c .parts-of2 .ensures)
+
+few : (c : tie.After-side-number) → c .side-number .result ≤ 1
+few c = let h = side-few (c .before .before .before .before .before .before .args .side) in rw (c .side-number .ensures) h
+
+mul-codes : tie.Need-mul-codes
+mul-codes c = let z = low-size (c .before) in record { fits = omega arith }
+
+add-codes : tie.Need-add-codes
+add-codes c = let p = low-price (c .before .before) in let z = low-size (c .before .before) in record { fits = omega arith }
 
 mul-rest : tie.Need-mul-rest
-mul-rest c = let h = bounds c .0 in record { fits = omega arith }
+mul-rest c = let h = few c in record { fits = omega arith }
 
 add-rest : tie.Need-add-rest
-add-rest c = let h = bounds c .0 in let p = bounds c .1 in let z = bounds c .2 in record { fits = omega arith }
+add-rest c = let h = few c in let p = low-price (c .before .before .before) in let z = low-size (c .before .before .before) in record { fits = omega arith }
 
 returns : tie.Need-returns
 unfolding entriesIn
@@ -38,8 +44,8 @@ returns c =
     record {
       room = simp length-set (b .pre .0);
       entries =
-          rw (c .before .digits-of .ensures, c .digits-of2 .ensures, c .before .before .before .before .decimals-of .ensures, c .before .before .before .decimals-of2 .ensures, c .before .before .side-number .ensures)
-          (threes-set entryOf (a .k) (a .buffer .now) (e .price .digits) (e .size .digits) (packed e (b .pre .1) (b .pre .2)) (omega (arith, b .pre .0))
+          rw (c .before .before .before .before .parts-of .ensures, c .before .before .before .parts-of2 .ensures, c .side-number .ensures)
+          (threes-set entryOf (a .k) (a .buffer .now) (digitsNear (e .price)) (digitsNear (e .size)) (packed e (b .pre .1) (b .pre .2)) (omega (arith, b .pre .0))
           ∙ ap (set (entriesIn (a .buffer .now)) (a .k)) (entry-packed e (b .pre .1) (b .pre .2)));
     }
 
@@ -54,4 +60,4 @@ returns-2 c =
     }
 
 pub put-spec : {M : Type 1} → statement M
-put-spec = tie.close (tie.spec (λ c κs. search needs) (λ c κs. search needs) (λ c. search needs) (λ c. search needs) (λ c κs. search needs) mul-rest add-rest (λ c κs. search needs) (λ c. search needs) (λ c. search needs) (λ c. search needs) (λ c κs. search needs) (λ c. search needs) (λ c. search needs) (λ c. search needs) (λ c. search needs) (λ c. search needs) (λ c. search needs) (λ c. search needs) (λ c. search needs) returns returns-2)
+put-spec = tie.close (tie.spec (λ c κs. search needs) (λ c κs. search needs) mul-codes add-codes (λ c κs. search needs) mul-rest add-rest (λ c. search needs) (λ c. search needs) (λ c. search needs) (λ c. search needs) (λ c. search needs) (λ c. search needs) (λ c. search needs) (λ c. search needs) (λ c. search needs) (λ c. search needs) (λ c. search needs) returns returns-2)

@@ -8,7 +8,7 @@ use Rattle.feed.proofs.answer_from.Tie as tie
 returns : tie.Need-returns
 returns c =
     let s = c .before .before .before .before .before .before .before .before .before .before in
-    processed-from (c .before .before .before .before .process-lines .ensures) (s .args .s .now) (s .args .from) (whole-rest (s .args .s .now) (s .args .from)) (s .pre .1) (search needs)
+    processed-from (c .before .before .before .before .process-lines .ensures) (s .args .s .now) (s .args .from) (whole-rest (s .args .s .now) (s .args .from)) (s .pre .1) (search needs) (s .args .book)
 
 pub answer-from-spec : {M : Type 1} → statement M
 answer-from-spec =

@@ -2,13 +2,12 @@
 use mathlib.Core.Path.{sym}
 use lib.Seq.{length-take-le}
 use borrow.Author.Needs.{needs}
-use Rattle.book.specs.Shown.{shows}
 use Rattle.feed.proofs.Streaming.{as-opened, none-answered, first-answered}
 use Rattle.feed.proofs.answer_lines.Statement.{statement}
 use Rattle.feed.proofs.answer_lines.Tie as tie
 
 returns : tie.Need-returns
-returns c = let s = c .before .before .before .before .before .before .before .before in as-opened (s .args .opened) (shows (s .args .book)) (c .before .before .before .before .if1 .taken) (c .before .before .answer-from .ensures)
+returns c = let s = c .before .before .before .before .before .before .before .before in as-opened (s .args .opened) (s .args .book) (c .before .before .before .before .if1 .taken) (c .before .before .answer-from .ensures)
 
 returns-2 : tie.Need-returns-2
 returns-2 c =
@@ -21,7 +20,7 @@ slice-aggregate-open c = sym (length-take-le (c .before .before .find .result) (
 returns-3 : tie.Need-returns-3
 returns-3 c =
     let s = c .before .before .before .before .before .before .before .before .before .before .before .before in
-    first-answered (s .args .opened) (shows (s .args .book)) (c .before .before .before .before .before .before .before .before .if1 .left) (c .before .before .before .before .before .before .before .find .ensures .2) (c .before .before .before .before .before .before .if2 .left) (c .before .before .before .before .«open» .ensures) (c .before .before .answer-from2 .ensures)
+    first-answered (s .args .opened) (s .args .book) (c .before .before .before .before .before .before .before .before .if1 .left) (c .before .before .before .before .before .before .before .find .ensures .2) (c .before .before .before .before .before .before .if2 .left) (c .before .before .before .before .«open» .ensures) (c .before .before .answer-from2 .ensures)
 
 pub answer-lines-spec : {M : Type 1} → statement M
 answer-lines-spec =

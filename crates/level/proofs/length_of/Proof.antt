@@ -1,6 +1,7 @@
--- `length_of` meets its contract: it is the level's field.
+-- `length_of` meets its contract: it is cut out as the definition has it.
 use mathlib.Core.Path.{refl}
 use Rattle.level.specs.Words.{levelLength}
+use borrow.Author.Needs.{needs}
 use Rattle.level.proofs.length_of.Statement.{statement}
 use Rattle.level.proofs.length_of.Tie as tie
 
@@ -9,4 +10,4 @@ unfolding levelLength
 returns c = refl
 
 pub length-of-spec : {M : Type 1} → statement M
-length-of-spec = tie.close (tie.spec returns)
+length-of-spec = tie.close (tie.spec (λ c. search needs) returns)

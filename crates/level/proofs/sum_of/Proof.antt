@@ -1,6 +1,7 @@
--- `sum_of` meets its contract: it is the level's field.
+-- `sum_of` meets its contract: it is cut out as the definition has it.
 use mathlib.Core.Path.{refl}
 use Rattle.level.specs.Words.{levelSum}
+use borrow.Author.Needs.{needs}
 use Rattle.level.proofs.sum_of.Statement.{statement}
 use Rattle.level.proofs.sum_of.Tie as tie
 
@@ -9,4 +10,4 @@ unfolding levelSum
 returns c = refl
 
 pub sum-of-spec : {M : Type 1} → statement M
-sum-of-spec = tie.close (tie.spec returns)
+sum-of-spec = tie.close (tie.spec (λ c. search needs) returns)

@@ -180,18 +180,18 @@ module _ (v : tie.After-price-named Inv-load μ-load Inv-find μ-find Inv-down �
   is-edit =
       v .before .with-sum .ensures
       ∙ ap (mapEdit (withSum (s .args .text))) (v .before .before .before .before .entry-at .ensures .says ∙ sym (ap (changeOf levelPlain) (in-buffer E below)))
-      ∙ summed-does (s .args .text) e
+      ∙ summed-does (s .args .text) e (entry-within E below)
 
   named-is : number (v .price-named .result) ≡ named levelPrice this
   named-is = v .price-named .ensures ∙ ap (named levelPrice) is-edit
 
   sound-price : Within (number (v .price-named .result))
-  sound-price = subst Within (sym (named-is ∙ does-named (s .args .text) e)) (entry-within E below .0)
+  sound-price = subst Within (sym (named-is ∙ does-named (s .args .text) e (entry-within E below))) (entry-within E below .0)
 
   stepped : (c : List Level) (m : ℕ) (now : Bool) → length c ≡ 200 → m ≤ N + 1 → take m c ≡ applyRanked levelPrice (s .args .side) this S
       → now ≡ (E .entry .replaced || replaces levelPrice this S) → Turn (s .args .text) (s .args .side) es s₀ (s .args .kept) c m now (K + 1)
   stepped =
-      turn-step (s .args .text) (s .args .side) es s₀ (s .args .kept) (s .pre .0 .few) (g .own) A N K (E .entry .replaced) (E .entry .inv) (in-message E below) own (entry-within E below .0)
+      turn-step (s .args .text) (s .args .side) es s₀ (s .args .kept) (s .pre .0 .few) (g .own) A N K (E .entry .replaced) (E .entry .inv) (in-message E below) own (entry-within E below)
 
   -- the entry sets a level
   module _ (new : Level) (is : change ≡ Set new) where

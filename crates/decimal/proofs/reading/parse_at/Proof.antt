@@ -5,7 +5,7 @@ use lib.ListN.{drop}
 use Rattle.text.specs.Text.{byteAt, isDigit}
 use Rattle.decimal.specs.Decimal.{number}
 use Rattle.decimal.proofs.Scan.{prefix-refused}
-use Rattle.decimal.proofs.Front.{run-within, not-whole, whole-part, front-empty, front-long, front-plain, fraction-empty, fraction-more, front-fraction, point-within, whole-room}
+use Rattle.decimal.proofs.Front.{run-within, not-whole, whole-part, front-empty, front-long, front-plain, fraction-empty, fraction-more, front-more, front-fraction, point-within, whole-room}
 use borrow.Author.Needs.{needs}
 use Rattle.decimal.proofs.reading.parse_at.Statement.{statement}
 use Rattle.decimal.proofs.reading.parse_at.Tie as tie
@@ -43,11 +43,15 @@ returns-5 c = sym (fraction-empty (whole-part (c .before .before .before .before
 
 returns-6 : tie.Need-returns-6
 unfolding byteAt
-returns-6 c = sym (fraction-more (whole-part (c .before .before .before .before .before .before .before .before .before .before .before .before .before .digits-at .ensures) (c .before .before .before .before .before .before .before .before .before .before .before .before .if1 .left) (sym (ap isDigit (c .before .before .before .before .before .before .before .before .before .before .before .byte-at .ensures)) ∙ sym (c .before .before .before .before .before .before .before .before .before .before .is-digit .ensures) ∙ c .before .before .before .before .before .before .before .before .before .if2 .left) (sym (c .before .before .before .before .before .before .before .before .needless-zero .ensures) ∙ c .before .before .before .before .before .before .before .if3 .left)) (sym (c .before .before .before .before .before .before .byte-at2 .ensures) ∙ c .before .before .before .before .before .if4 .left) (c .before .before .before .before .digits-at2 .ensures) (sym (ap isDigit (c .before .before .byte-at3 .ensures)) ∙ sym (c .before .is-digit2 .ensures) ∙ c .if6 .taken))
+returns-6 c = sym (fraction-more (whole-part (c .before .before .before .before .before .before .before .before .before .before .before .before .before .before .before .before .before .digits-at .ensures) (c .before .before .before .before .before .before .before .before .before .before .before .before .before .before .before .before .if1 .left) (sym (ap isDigit (c .before .before .before .before .before .before .before .before .before .before .before .before .before .before .before .byte-at .ensures)) ∙ sym (c .before .before .before .before .before .before .before .before .before .before .before .before .before .before .is-digit .ensures) ∙ c .before .before .before .before .before .before .before .before .before .before .before .before .before .if2 .left) (sym (c .before .before .before .before .before .before .before .before .before .before .before .before .needless-zero .ensures) ∙ c .before .before .before .before .before .before .before .before .before .before .before .if3 .left)) (sym (c .before .before .before .before .before .before .before .before .before .before .byte-at2 .ensures) ∙ c .before .before .before .before .before .before .before .before .before .if4 .left) (c .before .before .before .before .before .before .before .before .digits-at2 .ensures) (sym (ap isDigit (c .before .before .before .before .before .before .byte-at3 .ensures)) ∙ sym (c .before .before .before .before .before .is-digit2 .ensures) ∙ c .before .before .before .before .if6 .taken) (c .before .before .before .digits-at3 .ensures) (sym (ap isDigit (c .before .before .byte-at4 .ensures)) ∙ sym (c .before .is-digit3 .ensures) ∙ c .if7 .taken))
 
 returns-7 : tie.Need-returns-7
 unfolding number byteAt
-returns-7 c = front-fraction (whole-part (c .before .before .before .before .before .before .before .before .before .before .before .before .before .digits-at .ensures) (c .before .before .before .before .before .before .before .before .before .before .before .before .if1 .left) (sym (ap isDigit (c .before .before .before .before .before .before .before .before .before .before .before .byte-at .ensures)) ∙ sym (c .before .before .before .before .before .before .before .before .before .before .is-digit .ensures) ∙ c .before .before .before .before .before .before .before .before .before .if2 .left) (sym (c .before .before .before .before .before .before .before .before .needless-zero .ensures) ∙ c .before .before .before .before .before .before .before .if3 .left)) (sym (c .before .before .before .before .before .before .byte-at2 .ensures) ∙ c .before .before .before .before .before .if4 .left) (c .before .before .before .before .digits-at2 .ensures) (c .before .before .before .if5 .left) (sym (ap isDigit (c .before .before .byte-at3 .ensures)) ∙ sym (c .before .is-digit2 .ensures) ∙ c .if6 .left)
+returns-7 c = front-more (whole-part (c .before .before .before .before .before .before .before .before .before .before .before .before .before .before .before .before .before .digits-at .ensures) (c .before .before .before .before .before .before .before .before .before .before .before .before .before .before .before .before .if1 .left) (sym (ap isDigit (c .before .before .before .before .before .before .before .before .before .before .before .before .before .before .before .byte-at .ensures)) ∙ sym (c .before .before .before .before .before .before .before .before .before .before .before .before .before .before .is-digit .ensures) ∙ c .before .before .before .before .before .before .before .before .before .before .before .before .before .if2 .left) (sym (c .before .before .before .before .before .before .before .before .before .before .before .before .needless-zero .ensures) ∙ c .before .before .before .before .before .before .before .before .before .before .before .if3 .left)) (sym (c .before .before .before .before .before .before .before .before .before .before .byte-at2 .ensures) ∙ c .before .before .before .before .before .before .before .before .before .if4 .left) (c .before .before .before .before .before .before .before .before .digits-at2 .ensures) (sym (ap isDigit (c .before .before .before .before .before .before .byte-at3 .ensures)) ∙ sym (c .before .before .before .before .before .is-digit2 .ensures) ∙ c .before .before .before .before .if6 .taken) (c .before .before .before .digits-at3 .ensures) (sym (ap isDigit (c .before .before .byte-at4 .ensures)) ∙ sym (c .before .is-digit3 .ensures) ∙ c .if7 .left)
+
+returns-8 : tie.Need-returns-8
+unfolding number byteAt
+returns-8 c = front-fraction (whole-part (c .before .before .before .before .before .before .before .before .before .before .before .before .before .digits-at .ensures) (c .before .before .before .before .before .before .before .before .before .before .before .before .if1 .left) (sym (ap isDigit (c .before .before .before .before .before .before .before .before .before .before .before .byte-at .ensures)) ∙ sym (c .before .before .before .before .before .before .before .before .before .before .is-digit .ensures) ∙ c .before .before .before .before .before .before .before .before .before .if2 .left) (sym (c .before .before .before .before .before .before .before .before .needless-zero .ensures) ∙ c .before .before .before .before .before .before .before .if3 .left)) (sym (c .before .before .before .before .before .before .byte-at2 .ensures) ∙ c .before .before .before .before .before .if4 .left) (c .before .before .before .before .digits-at2 .ensures) (c .before .before .before .if5 .left) (sym (ap isDigit (c .before .before .byte-at3 .ensures)) ∙ sym (c .before .is-digit2 .ensures) ∙ c .if6 .left)
 
 pub parse-at-spec : {M : Type 1} → statement M
 parse-at-spec =
@@ -67,6 +71,10 @@ parse-at-spec =
     returns-5
     (λ c κs. search needs)
     (λ c κs. search needs)
+    (λ c κs. search needs)
+    (λ c κs. search needs)
+    (λ c κs. search needs)
     returns-6
+    returns-7
     (λ c. search needs)
-    returns-7)
+    returns-8)

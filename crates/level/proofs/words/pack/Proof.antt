@@ -1,4 +1,4 @@
--- `pack` meets its contract: it makes the word that the definition has, and a level of the code fits by the types of its fields.
+-- `pack` meets its contract: it makes the word that the definition has.
 use mathlib.Core.Path.{refl}
 use Rattle.level.specs.Words.{packed}
 use borrow.Author.Needs.{needs}
@@ -7,20 +7,9 @@ use Rattle.level.proofs.words.pack.Tie as tie
 
 returns : tie.Need-returns
 unfolding packed
-returns c = record { word = refl; fits = record { sum = search needs; length = search needs; price-decimals = search needs; size-decimals = search needs } }
+returns c = refl
 
 pub pack-spec : {M : Type 1} → statement M
 pack-spec =
     tie.close
-    (tie.spec
-    (λ c. search needs)
-    (λ c. search needs)
-    (λ c. search needs)
-    (λ c. search needs)
-    (λ c. search needs)
-    (λ c. search needs)
-    (λ c. search needs)
-    (λ c. search needs)
-    (λ c. search needs)
-    (λ c. search needs)
-    returns)
+    (tie.spec (λ c. search needs) (λ c. search needs) (λ c. search needs) (λ c. search needs) (λ c. search needs) (λ c. search needs) returns)

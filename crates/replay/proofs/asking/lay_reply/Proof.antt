@@ -6,22 +6,88 @@ use Rattle.replay.proofs.asking.lay_reply.Statement.{statement}
 use Rattle.replay.proofs.asking.lay_reply.Tie as tie
 
 lay-word-requires : tie.Need-lay-word-requires
-lay-word-requires c κs = word-room (c .before .before .args .reply .answer) (c .before .before .args .reply .first ∷ c .before .before .args .reply .second ∷ c .before .before .args .reply .third ∷ c .before .before .args .reply .fourth ∷ []) (words-owed (c .before .before .args .part .now) (c .before .before .args .reply) (c .before .before .pre))
+lay-word-requires c κs =
+    let s = c .before .before in
+    let r = s .args .reply in
+    let o1 = words-owed (s .args .part .now) r (s .pre) in
+    word-room (r .answer) (r .first ∷ r .second ∷ r .third ∷ r .fourth ∷ r .fifth ∷ r .sixth ∷ []) o1
 
 lay-word-requires-2 : tie.Need-lay-word-requires-2
-lay-word-requires-2 c κs = word-room (c .before .before .before .before .before .before .args .reply .first) (c .before .before .before .before .before .before .args .reply .second ∷ c .before .before .before .before .before .before .args .reply .third ∷ c .before .before .before .before .before .before .args .reply .fourth ∷ []) (word-laid (c .before .before .before .before .before .before .args .reply .answer) (c .before .before .before .before .before .before .args .reply .first ∷ c .before .before .before .before .before .before .args .reply .second ∷ c .before .before .before .before .before .before .args .reply .third ∷ c .before .before .before .before .before .before .args .reply .fourth ∷ []) (words-owed (c .before .before .before .before .before .before .args .part .now) (c .before .before .before .before .before .before .args .reply) (c .before .before .before .before .before .before .pre)) (c .before .before .before .lay-word .ensures))
+lay-word-requires-2 c κs =
+    let s = c .before .before .before .before .before .before in
+    let r = s .args .reply in
+    let o1 = words-owed (s .args .part .now) r (s .pre) in
+    let o2 = word-laid (r .answer) (r .first ∷ r .second ∷ r .third ∷ r .fourth ∷ r .fifth ∷ r .sixth ∷ []) o1 (c .before .before .before .lay-word .ensures) in
+    word-room (r .first) (r .second ∷ r .third ∷ r .fourth ∷ r .fifth ∷ r .sixth ∷ []) o2
 
 lay-word-requires-3 : tie.Need-lay-word-requires-3
-lay-word-requires-3 c κs = word-room (c .before .before .before .before .before .before .before .before .before .before .args .reply .second) (c .before .before .before .before .before .before .before .before .before .before .args .reply .third ∷ c .before .before .before .before .before .before .before .before .before .before .args .reply .fourth ∷ []) (word-laid (c .before .before .before .before .before .before .before .before .before .before .args .reply .first) (c .before .before .before .before .before .before .before .before .before .before .args .reply .second ∷ c .before .before .before .before .before .before .before .before .before .before .args .reply .third ∷ c .before .before .before .before .before .before .before .before .before .before .args .reply .fourth ∷ []) (word-laid (c .before .before .before .before .before .before .before .before .before .before .args .reply .answer) (c .before .before .before .before .before .before .before .before .before .before .args .reply .first ∷ c .before .before .before .before .before .before .before .before .before .before .args .reply .second ∷ c .before .before .before .before .before .before .before .before .before .before .args .reply .third ∷ c .before .before .before .before .before .before .before .before .before .before .args .reply .fourth ∷ []) (words-owed (c .before .before .before .before .before .before .before .before .before .before .args .part .now) (c .before .before .before .before .before .before .before .before .before .before .args .reply) (c .before .before .before .before .before .before .before .before .before .before .pre)) (c .before .before .before .before .before .before .before .lay-word .ensures)) (c .before .before .before .lay-word2 .ensures))
+lay-word-requires-3 c κs =
+    let s = c .before .before .before .before .before .before .before .before .before .before in
+    let r = s .args .reply in
+    let o1 = words-owed (s .args .part .now) r (s .pre) in
+    let o2 = word-laid (r .answer) (r .first ∷ r .second ∷ r .third ∷ r .fourth ∷ r .fifth ∷ r .sixth ∷ []) o1 (c .before .before .before .before .before .before .before .lay-word .ensures) in
+    let o3 = word-laid (r .first) (r .second ∷ r .third ∷ r .fourth ∷ r .fifth ∷ r .sixth ∷ []) o2 (c .before .before .before .lay-word2 .ensures) in
+    word-room (r .second) (r .third ∷ r .fourth ∷ r .fifth ∷ r .sixth ∷ []) o3
 
 lay-word-requires-4 : tie.Need-lay-word-requires-4
-lay-word-requires-4 c κs = word-room (c .before .before .before .before .before .before .before .before .before .before .before .before .before .before .args .reply .third) (c .before .before .before .before .before .before .before .before .before .before .before .before .before .before .args .reply .fourth ∷ []) (word-laid (c .before .before .before .before .before .before .before .before .before .before .before .before .before .before .args .reply .second) (c .before .before .before .before .before .before .before .before .before .before .before .before .before .before .args .reply .third ∷ c .before .before .before .before .before .before .before .before .before .before .before .before .before .before .args .reply .fourth ∷ []) (word-laid (c .before .before .before .before .before .before .before .before .before .before .before .before .before .before .args .reply .first) (c .before .before .before .before .before .before .before .before .before .before .before .before .before .before .args .reply .second ∷ c .before .before .before .before .before .before .before .before .before .before .before .before .before .before .args .reply .third ∷ c .before .before .before .before .before .before .before .before .before .before .before .before .before .before .args .reply .fourth ∷ []) (word-laid (c .before .before .before .before .before .before .before .before .before .before .before .before .before .before .args .reply .answer) (c .before .before .before .before .before .before .before .before .before .before .before .before .before .before .args .reply .first ∷ c .before .before .before .before .before .before .before .before .before .before .before .before .before .before .args .reply .second ∷ c .before .before .before .before .before .before .before .before .before .before .before .before .before .before .args .reply .third ∷ c .before .before .before .before .before .before .before .before .before .before .before .before .before .before .args .reply .fourth ∷ []) (words-owed (c .before .before .before .before .before .before .before .before .before .before .before .before .before .before .args .part .now) (c .before .before .before .before .before .before .before .before .before .before .before .before .before .before .args .reply) (c .before .before .before .before .before .before .before .before .before .before .before .before .before .before .pre)) (c .before .before .before .before .before .before .before .before .before .before .before .lay-word .ensures)) (c .before .before .before .before .before .before .before .lay-word2 .ensures)) (c .before .before .before .lay-word3 .ensures))
+lay-word-requires-4 c κs =
+    let s = c .before .before .before .before .before .before .before .before .before .before .before .before .before .before in
+    let r = s .args .reply in
+    let o1 = words-owed (s .args .part .now) r (s .pre) in
+    let o2 = word-laid (r .answer) (r .first ∷ r .second ∷ r .third ∷ r .fourth ∷ r .fifth ∷ r .sixth ∷ []) o1 (c .before .before .before .before .before .before .before .before .before .before .before .lay-word .ensures) in
+    let o3 = word-laid (r .first) (r .second ∷ r .third ∷ r .fourth ∷ r .fifth ∷ r .sixth ∷ []) o2 (c .before .before .before .before .before .before .before .lay-word2 .ensures) in
+    let o4 = word-laid (r .second) (r .third ∷ r .fourth ∷ r .fifth ∷ r .sixth ∷ []) o3 (c .before .before .before .lay-word3 .ensures) in
+    word-room (r .third) (r .fourth ∷ r .fifth ∷ r .sixth ∷ []) o4
 
 lay-word-requires-5 : tie.Need-lay-word-requires-5
-lay-word-requires-5 c κs = word-room (c .before .before .before .before .before .before .before .before .before .before .before .before .before .before .before .before .before .before .args .reply .fourth) [] (word-laid (c .before .before .before .before .before .before .before .before .before .before .before .before .before .before .before .before .before .before .args .reply .third) (c .before .before .before .before .before .before .before .before .before .before .before .before .before .before .before .before .before .before .args .reply .fourth ∷ []) (word-laid (c .before .before .before .before .before .before .before .before .before .before .before .before .before .before .before .before .before .before .args .reply .second) (c .before .before .before .before .before .before .before .before .before .before .before .before .before .before .before .before .before .before .args .reply .third ∷ c .before .before .before .before .before .before .before .before .before .before .before .before .before .before .before .before .before .before .args .reply .fourth ∷ []) (word-laid (c .before .before .before .before .before .before .before .before .before .before .before .before .before .before .before .before .before .before .args .reply .first) (c .before .before .before .before .before .before .before .before .before .before .before .before .before .before .before .before .before .before .args .reply .second ∷ c .before .before .before .before .before .before .before .before .before .before .before .before .before .before .before .before .before .before .args .reply .third ∷ c .before .before .before .before .before .before .before .before .before .before .before .before .before .before .before .before .before .before .args .reply .fourth ∷ []) (word-laid (c .before .before .before .before .before .before .before .before .before .before .before .before .before .before .before .before .before .before .args .reply .answer) (c .before .before .before .before .before .before .before .before .before .before .before .before .before .before .before .before .before .before .args .reply .first ∷ c .before .before .before .before .before .before .before .before .before .before .before .before .before .before .before .before .before .before .args .reply .second ∷ c .before .before .before .before .before .before .before .before .before .before .before .before .before .before .before .before .before .before .args .reply .third ∷ c .before .before .before .before .before .before .before .before .before .before .before .before .before .before .before .before .before .before .args .reply .fourth ∷ []) (words-owed (c .before .before .before .before .before .before .before .before .before .before .before .before .before .before .before .before .before .before .args .part .now) (c .before .before .before .before .before .before .before .before .before .before .before .before .before .before .before .before .before .before .args .reply) (c .before .before .before .before .before .before .before .before .before .before .before .before .before .before .before .before .before .before .pre)) (c .before .before .before .before .before .before .before .before .before .before .before .before .before .before .before .lay-word .ensures)) (c .before .before .before .before .before .before .before .before .before .before .before .lay-word2 .ensures)) (c .before .before .before .before .before .before .before .lay-word3 .ensures)) (c .before .before .before .lay-word4 .ensures))
+lay-word-requires-5 c κs =
+    let s = c .before .before .before .before .before .before .before .before .before .before .before .before .before .before .before .before .before .before in
+    let r = s .args .reply in
+    let o1 = words-owed (s .args .part .now) r (s .pre) in
+    let o2 = word-laid (r .answer) (r .first ∷ r .second ∷ r .third ∷ r .fourth ∷ r .fifth ∷ r .sixth ∷ []) o1 (c .before .before .before .before .before .before .before .before .before .before .before .before .before .before .before .lay-word .ensures) in
+    let o3 = word-laid (r .first) (r .second ∷ r .third ∷ r .fourth ∷ r .fifth ∷ r .sixth ∷ []) o2 (c .before .before .before .before .before .before .before .before .before .before .before .lay-word2 .ensures) in
+    let o4 = word-laid (r .second) (r .third ∷ r .fourth ∷ r .fifth ∷ r .sixth ∷ []) o3 (c .before .before .before .before .before .before .before .lay-word3 .ensures) in
+    let o5 = word-laid (r .third) (r .fourth ∷ r .fifth ∷ r .sixth ∷ []) o4 (c .before .before .before .lay-word4 .ensures) in
+    word-room (r .fourth) (r .fifth ∷ r .sixth ∷ []) o5
+
+lay-word-requires-6 : tie.Need-lay-word-requires-6
+lay-word-requires-6 c κs =
+    let s = c .before .before .before .before .before .before .before .before .before .before .before .before .before .before .before .before .before .before .before .before .before .before in
+    let r = s .args .reply in
+    let o1 = words-owed (s .args .part .now) r (s .pre) in
+    let o2 = word-laid (r .answer) (r .first ∷ r .second ∷ r .third ∷ r .fourth ∷ r .fifth ∷ r .sixth ∷ []) o1 (c .before .before .before .before .before .before .before .before .before .before .before .before .before .before .before .before .before .before .before .lay-word .ensures) in
+    let o3 = word-laid (r .first) (r .second ∷ r .third ∷ r .fourth ∷ r .fifth ∷ r .sixth ∷ []) o2 (c .before .before .before .before .before .before .before .before .before .before .before .before .before .before .before .lay-word2 .ensures) in
+    let o4 = word-laid (r .second) (r .third ∷ r .fourth ∷ r .fifth ∷ r .sixth ∷ []) o3 (c .before .before .before .before .before .before .before .before .before .before .before .lay-word3 .ensures) in
+    let o5 = word-laid (r .third) (r .fourth ∷ r .fifth ∷ r .sixth ∷ []) o4 (c .before .before .before .before .before .before .before .lay-word4 .ensures) in
+    let o6 = word-laid (r .fourth) (r .fifth ∷ r .sixth ∷ []) o5 (c .before .before .before .lay-word5 .ensures) in
+    word-room (r .fifth) (r .sixth ∷ []) o6
+
+lay-word-requires-7 : tie.Need-lay-word-requires-7
+lay-word-requires-7 c κs =
+    let s = c .before .before .before .before .before .before .before .before .before .before .before .before .before .before .before .before .before .before .before .before .before .before .before .before .before .before in
+    let r = s .args .reply in
+    let o1 = words-owed (s .args .part .now) r (s .pre) in
+    let o2 = word-laid (r .answer) (r .first ∷ r .second ∷ r .third ∷ r .fourth ∷ r .fifth ∷ r .sixth ∷ []) o1 (c .before .before .before .before .before .before .before .before .before .before .before .before .before .before .before .before .before .before .before .before .before .before .before .lay-word .ensures) in
+    let o3 = word-laid (r .first) (r .second ∷ r .third ∷ r .fourth ∷ r .fifth ∷ r .sixth ∷ []) o2 (c .before .before .before .before .before .before .before .before .before .before .before .before .before .before .before .before .before .before .before .lay-word2 .ensures) in
+    let o4 = word-laid (r .second) (r .third ∷ r .fourth ∷ r .fifth ∷ r .sixth ∷ []) o3 (c .before .before .before .before .before .before .before .before .before .before .before .before .before .before .before .lay-word3 .ensures) in
+    let o5 = word-laid (r .third) (r .fourth ∷ r .fifth ∷ r .sixth ∷ []) o4 (c .before .before .before .before .before .before .before .before .before .before .before .lay-word4 .ensures) in
+    let o6 = word-laid (r .fourth) (r .fifth ∷ r .sixth ∷ []) o5 (c .before .before .before .before .before .before .before .lay-word5 .ensures) in
+    let o7 = word-laid (r .fifth) (r .sixth ∷ []) o6 (c .before .before .before .lay-word6 .ensures) in
+    word-room (r .sixth) [] o7
 
 returns : tie.Need-returns
-returns c = words-laid (word-laid (c .before .before .before .before .before .before .before .before .before .before .before .before .before .before .before .before .before .before .before .before .before .args .reply .fourth) [] (word-laid (c .before .before .before .before .before .before .before .before .before .before .before .before .before .before .before .before .before .before .before .before .before .args .reply .third) (c .before .before .before .before .before .before .before .before .before .before .before .before .before .before .before .before .before .before .before .before .before .args .reply .fourth ∷ []) (word-laid (c .before .before .before .before .before .before .before .before .before .before .before .before .before .before .before .before .before .before .before .before .before .args .reply .second) (c .before .before .before .before .before .before .before .before .before .before .before .before .before .before .before .before .before .before .before .before .before .args .reply .third ∷ c .before .before .before .before .before .before .before .before .before .before .before .before .before .before .before .before .before .before .before .before .before .args .reply .fourth ∷ []) (word-laid (c .before .before .before .before .before .before .before .before .before .before .before .before .before .before .before .before .before .before .before .before .before .args .reply .first) (c .before .before .before .before .before .before .before .before .before .before .before .before .before .before .before .before .before .before .before .before .before .args .reply .second ∷ c .before .before .before .before .before .before .before .before .before .before .before .before .before .before .before .before .before .before .before .before .before .args .reply .third ∷ c .before .before .before .before .before .before .before .before .before .before .before .before .before .before .before .before .before .before .before .before .before .args .reply .fourth ∷ []) (word-laid (c .before .before .before .before .before .before .before .before .before .before .before .before .before .before .before .before .before .before .before .before .before .args .reply .answer) (c .before .before .before .before .before .before .before .before .before .before .before .before .before .before .before .before .before .before .before .before .before .args .reply .first ∷ c .before .before .before .before .before .before .before .before .before .before .before .before .before .before .before .before .before .before .before .before .before .args .reply .second ∷ c .before .before .before .before .before .before .before .before .before .before .before .before .before .before .before .before .before .before .before .before .before .args .reply .third ∷ c .before .before .before .before .before .before .before .before .before .before .before .before .before .before .before .before .before .before .before .before .before .args .reply .fourth ∷ []) (words-owed (c .before .before .before .before .before .before .before .before .before .before .before .before .before .before .before .before .before .before .before .before .before .args .part .now) (c .before .before .before .before .before .before .before .before .before .before .before .before .before .before .before .before .before .before .before .before .before .args .reply) (c .before .before .before .before .before .before .before .before .before .before .before .before .before .before .before .before .before .before .before .before .before .pre)) (c .before .before .before .before .before .before .before .before .before .before .before .before .before .before .before .before .before .before .lay-word .ensures)) (c .before .before .before .before .before .before .before .before .before .before .before .before .before .before .lay-word2 .ensures)) (c .before .before .before .before .before .before .before .before .before .before .lay-word3 .ensures)) (c .before .before .before .before .before .before .lay-word4 .ensures)) (c .before .before .lay-word5 .ensures))
+returns c =
+    let s = c .before .before .before .before .before .before .before .before .before .before .before .before .before .before .before .before .before .before .before .before .before .before .before .before .before .before .before .before .before in
+    let r = s .args .reply in
+    let o1 = words-owed (s .args .part .now) r (s .pre) in
+    let o2 = word-laid (r .answer) (r .first ∷ r .second ∷ r .third ∷ r .fourth ∷ r .fifth ∷ r .sixth ∷ []) o1 (c .before .before .before .before .before .before .before .before .before .before .before .before .before .before .before .before .before .before .before .before .before .before .before .before .before .before .lay-word .ensures) in
+    let o3 = word-laid (r .first) (r .second ∷ r .third ∷ r .fourth ∷ r .fifth ∷ r .sixth ∷ []) o2 (c .before .before .before .before .before .before .before .before .before .before .before .before .before .before .before .before .before .before .before .before .before .before .lay-word2 .ensures) in
+    let o4 = word-laid (r .second) (r .third ∷ r .fourth ∷ r .fifth ∷ r .sixth ∷ []) o3 (c .before .before .before .before .before .before .before .before .before .before .before .before .before .before .before .before .before .before .lay-word3 .ensures) in
+    let o5 = word-laid (r .third) (r .fourth ∷ r .fifth ∷ r .sixth ∷ []) o4 (c .before .before .before .before .before .before .before .before .before .before .before .before .before .before .lay-word4 .ensures) in
+    let o6 = word-laid (r .fourth) (r .fifth ∷ r .sixth ∷ []) o5 (c .before .before .before .before .before .before .before .before .before .before .lay-word5 .ensures) in
+    let o7 = word-laid (r .fifth) (r .sixth ∷ []) o6 (c .before .before .before .before .before .before .lay-word6 .ensures) in
+    let o8 = word-laid (r .sixth) [] o7 (c .before .before .lay-word7 .ensures) in
+    words-laid o8
 
 pub lay-reply-spec : {M : Type 1} → statement M
 lay-reply-spec =
@@ -32,5 +98,7 @@ lay-reply-spec =
     lay-word-requires-3
     lay-word-requires-4
     lay-word-requires-5
+    lay-word-requires-6
+    lay-word-requires-7
     (λ c. search needs)
     returns)

@@ -12,7 +12,7 @@ use Rattle.writer.proofs.measuring.k_length.Tie as tie
 summed : (c : tie.After-whole-length) →
     let s = c .before .before .before .before in
     let n = 32 + (c .before .before .side-length .result + c .before .side-length2 .result) + c .whole-length .result + length (c .before .before .before .before .args .name .now) in
-    (n ≡ length (kSnapshotText (s .args .depth) (s .args .name .now) (s .args .bids) (s .args .asks))) × (n ≤ 12000)
+    (n ≡ length (kSnapshotText (s .args .depth) (s .args .name .now) (s .args .bids) (s .args .asks))) × (n ≤ 14000)
 summed c =
     let s = c .before .before .before .before in
     let k = length-k (s .args .depth) (s .args .name .now) (s .args .bids) (s .args .asks) in

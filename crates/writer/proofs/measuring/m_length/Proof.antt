@@ -12,7 +12,7 @@ use Rattle.writer.proofs.measuring.m_length.Tie as tie
 summed : (c : tie.After-whole-length2) →
     let s = c .before .before .before .before .before in
     let n = 97 + (c .before .before .before .side-length .result + c .before .before .side-length2 .result) + (c .before .whole-length .result + c .whole-length2 .result) + length (c .before .before .before .before .before .args .name .now) in
-    (n ≡ length (mSnapshotText (s .args .name .now) (s .args .bids) (s .args .asks) (s .args .checksum) (s .args .number))) × (n ≤ 12000)
+    (n ≡ length (mSnapshotText (s .args .name .now) (s .args .bids) (s .args .asks) (s .args .checksum) (s .args .number))) × (n ≤ 14000)
 summed c =
     let s = c .before .before .before .before .before in
     let k = length-m (s .args .name .now) (s .args .bids) (s .args .asks) (s .args .checksum) (s .args .number) in

@@ -5,6 +5,7 @@ pub mod Ranking
 pub mod Lengths
 pub mod Mapping
 pub mod Meeting
+pub mod Moving
 pub mod Changes
 pub mod Packing
 pub mod Stored

@@ -2,6 +2,7 @@
 -- words; the side that the code keeps; worked examples.
 pub mod Side
 pub mod Ranked
+pub mod Moved
 pub mod Order
 pub mod Words
 pub mod Kept

@@ -1,9 +1,10 @@
 -- A message's entries on one side: what the loop over them keeps, and what it has shown at the end. An entry for the other side changes nothing.
 -- Assumes nothing.
-use Prim.Native.Nat.{ℕ, suc, _+_, _-_, _≤_, _<_}
+use Prim.Native.Nat.{ℕ, suc, _+_, _-_, _*_, _≤_, _<_}
 use mathlib.Core.Path.{_≡_, refl, sym, ap, ap₂, _∙_, subst}
 use mathlib.Core.Bool.{Bool, true, false, _||_, or-assoc, or-false}
 use mathlib.Core.List.{List, [], _∷_, _++_}
+use native.Mathlib.Nat.{add-assoc, add-zero, zero-add}
 use native.Mathlib.Numerals.{add-one}
 use native.Mathlib.Omega.{arith}
 use borrow.Author.Tests.{eqb-true, eqb-false}
@@ -22,6 +23,7 @@ use Rattle.edit.specs.Buffer.{entryOf, entriesIn, noNumbers}
 use Rattle.settings.specs.declared.SumText.{SumText}
 use Rattle.level.specs.Side.{nearer, without, applyAll, ranked}
 use Rattle.level.specs.Ranked.{All, afterMessage, replaces, replaced, Sorted, mapEdit, IfSet}
+use Rattle.level.specs.Moved.{moves, moved}
 use Rattle.edit.specs.Edit.{named}
 use Rattle.level.specs.Order.{aheadOf, equalOf}
 use Rattle.level.specs.Words.{noLevel, levelPlain, changeOf}
@@ -35,6 +37,7 @@ use Rattle.level.proofs.All.{all-at}
 use Rattle.level.proofs.Ranking.{all-without, all-place, applyRanked, allRanked, commute-all, sorted-ranked, sorted-entry}
 use Rattle.level.proofs.Lengths.{length-ranked}
 use Rattle.level.proofs.Meeting.{metRanked, met-ranked}
+use Rattle.level.proofs.Moving.{movedRanked, moved-ranked, moves-le}
 
 -- a price that can be compared
 abbrev pub Sound : Level → Type 0
@@ -97,8 +100,8 @@ module _ (text : SumText) (side : Side) where
   unfolding changesFor
   length-changes es = length-map (forSide sideOf side es) (does text)
 
--- the side s, of n₀ levels, has had k entries, and is now the n levels at the front of a; `seen`: one of them met a level
-pub record Turn (text : SumText) (side : Side) (es : List Numbers) (s : List Level) (n₀ : ℕ) (a : List Level) (n : ℕ) (seen : Bool) (k : ℕ) : Type 0 where
+-- the side s, of n₀ levels, has had k entries, and is now the n levels at the front of a; they moved `gone` levels; `seen`: one of them met a level
+pub record Turn (text : SumText) (side : Side) (es : List Numbers) (s : List Level) (n₀ : ℕ) (a : List Level) (n gone : ℕ) (seen : Bool) (k : ℕ) : Type 0 where
   pub long : length a ≡ 200
   pub fits : n ≤ 200
   pub within : k ≤ length es
@@ -106,10 +109,12 @@ pub record Turn (text : SumText) (side : Side) (es : List Numbers) (s : List Lev
   pub sorted : Sorted levelPrice side (take n a)
   pub sound : All Sound (take n a)
   pub rest : allRanked levelPrice side (changesFor text side (drop k es)) (take n a) ≡ allRanked levelPrice side (changesFor text side es) s
+  pub small : gone ≤ 200 * k
+  pub moving : gone + movedRanked levelPrice side (changesFor text side (drop k es)) (take n a) ≡ movedRanked levelPrice side (changesFor text side es) s
   pub meeting : (seen || metRanked levelPrice side (changesFor text side (drop k es)) (take n a)) ≡ metRanked levelPrice side (changesFor text side es) s
 
 module _ (text : SumText) (side : Side) (es : List Numbers) (s : List Level) (n₀ : ℕ) (stood : n₀ ≤ 100) (come : length (forSide sideOf side es) ≤ 100) where
-  pub turn-start : (a : List Level) → length a ≡ 200 → take n₀ a ≡ s → Sorted levelPrice side s → All Sound s → Turn text side es s n₀ a n₀ false 0
+  pub turn-start : (a : List Level) → length a ≡ 200 → take n₀ a ≡ s → Sorted levelPrice side s → All Sound s → Turn text side es s n₀ a n₀ 0 false 0
   turn-start a l e o t = record {
     long = l;
     fits = omega arith;
@@ -118,10 +123,12 @@ module _ (text : SumText) (side : Side) (es : List Numbers) (s : List Level) (n�
     sorted = rw e o;
     sound = rw e t;
     rest = rw e;
+    small = omega arith;
+    moving = rw (e, zero-add);
     meeting = rw e;
   }
 
-  module _ (a : List Level) (n k : ℕ) (seen : Bool) (t : Turn text side es s n₀ a n seen k) (h : k < length es) where
+  module _ (a : List Level) (n gone k : ℕ) (seen : Bool) (t : Turn text side es s n₀ a n gone seen k) (h : k < length es) where
     -- the k-th entry
     abbrev pub entry : Numbers
     entry = getD es k noNumbers
@@ -130,7 +137,7 @@ module _ (text : SumText) (side : Side) (es : List Numbers) (s : List Level) (n�
     next = drop-cons es k noNumbers h
 
     -- ---- it is for the other side
-    pub turn-pass : isSame (entry .side) side ≡ false → Turn text side es s n₀ a n seen (k + 1)
+    pub turn-pass : isSame (entry .side) side ≡ false → Turn text side es s n₀ a n gone seen (k + 1)
     turn-pass other =
         let same : changesFor text side (drop k es) ≡ changesFor text side (drop (suc k) es)
         = ap (changesFor text side) next ∙ changes-other text side entry (drop (suc k) es) other in
@@ -142,6 +149,8 @@ module _ (text : SumText) (side : Side) (es : List Numbers) (s : List Level) (n�
           sorted = t .sorted;
           sound = t .sound;
           rest = rw (add-one, ← same) (t .rest);
+          small = let h = t .small in omega arith;
+          moving = rw (add-one, ← same) (t .moving);
           meeting = rw (add-one, ← same) (t .meeting);
         }
 
@@ -154,12 +163,13 @@ module _ (text : SumText) (side : Side) (es : List Numbers) (s : List Level) (n�
       pub turn-room : n < 200
       turn-room = let l = rw next-own at (t .few) in omega (arith, length-changes text side es)
 
-      pub turn-step : EntryWithin entry → (c : List Level) (m : ℕ) (now : Bool) → length c ≡ 200 → m ≤ n + 1
+      pub turn-step : EntryWithin entry → (c : List Level) (m by : ℕ) (now : Bool) → length c ≡ 200 → m ≤ n + 1
           → take m c ≡ applyRanked levelPrice side (does text entry) (take n a)
+          → by ≡ moves levelPrice side (does text entry) (take n a)
           → now ≡ (seen || replaces levelPrice (does text entry) (take n a))
-          → Turn text side es s n₀ c m now (k + 1)
-      unfolding allRanked metRanked
-      turn-step w c m now l q e f = record {
+          → Turn text side es s n₀ c m (gone + by) now (k + 1)
+      unfolding allRanked metRanked movedRanked
+      turn-step w c m by now l q e g f = record {
         long = l;
         fits = omega (arith, turn-room);
         within = omega arith;
@@ -167,12 +177,17 @@ module _ (text : SumText) (side : Side) (es : List Numbers) (s : List Level) (n�
         sorted = rw e (sorted-entry levelPrice side (does text entry) (take n a) (t .sorted));
         sound = rw e (sound-entry side (does text entry) (take n a) (subst Within (sym (does-named text entry w)) (w .0)) (t .sound));
         rest = rw (add-one, e) (rw next-own at (t .rest));
+        small =
+            let h = moves-le levelPrice side (does text entry) (take n a) in
+            let o = length-take-le n a (omega (arith, t .fits, t .long)) in
+            omega (arith, t .small, t .fits);
+        moving = rw (add-one, e, g) (add-assoc gone (moves levelPrice side (does text entry) (take n a)) _ ∙ (rw next-own at (t .moving)));
         meeting = rw (add-one, e, f) (or-assoc seen (replaces levelPrice (does text entry) (take n a)) _ ∙ (rw next-own at (t .meeting)));
       }
 
 -- after the last entry
-module _ (text : SumText) (side : Side) (es : List Numbers) (s : List Level) (n₀ : ℕ) (a : List Level) (n k : ℕ) (seen : Bool)
-    (t : Turn text side es s n₀ a n seen k) (h : length es ≤ k) (o : Sorted levelPrice side s) where
+module _ (text : SumText) (side : Side) (es : List Numbers) (s : List Level) (n₀ : ℕ) (a : List Level) (n gone k : ℕ) (seen : Bool)
+    (t : Turn text side es s n₀ a n gone seen k) (h : length es ≤ k) (o : Sorted levelPrice side s) where
   abbrev all : List (Edit Level)
   all = changesFor text side es
 
@@ -196,6 +211,12 @@ module _ (text : SumText) (side : Side) (es : List Numbers) (s : List Level) (n�
   turn-count l =
       sym (length-take-le n a l) ∙ ap length (turn-done ∙ sym whole)
       ∙ length-ranked levelPrice side (applyAll levelPrice all s)
+
+  pub turn-moved : gone ≡ moved levelPrice side all s
+  unfolding movedRanked
+  turn-moved =
+      sym (add-zero gone) ∙ (rw none-left at (t .moving))
+      ∙ sym (moved-ranked levelPrice side all s ∙ ap (movedRanked levelPrice side all) (sorted-ranked levelPrice side s o))
 
   pub turn-met : seen ≡ replaced levelPrice all s
   unfolding metRanked

@@ -13,10 +13,12 @@ use Rattle.edit.specs.declared.Side.{Side}
 use Rattle.edit.specs.Edit.{sets, removes}
 use Rattle.level.specs.Side.{nearer, without, place}
 use Rattle.level.specs.Ranked.{All, standing, Sorted}
+use Rattle.level.specs.Moved.{placeOf}
 use Rattle.level.proofs.Order.{before-ne, before-trans, before-or-after, after-not-before}
 use Rattle.level.proofs.All.{all-map, all-append, all-at}
 use Rattle.level.proofs.Ranking.{applyRanked, without-new, without-same, placed}
 use Rattle.level.proofs.Meeting.{standing-none}
+use Rattle.level.proofs.Moving.{place-at}
 use Rattle.side.proofs.Shift.{up, up-end, down, down-end}
 
 module _ {A : Type 0} (priceOf : A → Number) (side : Side) where
@@ -100,6 +102,11 @@ module _ {A : Type 0} (priceOf : A → Number) (side : Side) where
   unfolding All
   bracket-head s v low high d k h l =
       let e : high ≡ low = omega (arith, k .low-le) in (rw (e, drop-cons s low d l) at (k .rest)) .0
+
+  pub bracket-place : (s : List A) (v low high : ℕ) → Bracket s v low high → high ≤ low → placeOf priceOf side v s ≡ low
+  bracket-place s v low high k h =
+      let e : high ≡ low = omega (arith, k .low-le) in
+      place-at priceOf side v s low (omega (arith, k .high-le)) (k .ahead) (rw e at (k .rest))
 
   -- ---- what the code leaves is what the definition says
 

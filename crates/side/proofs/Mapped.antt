@@ -7,12 +7,14 @@ use Rattle.edit.specs.Edit.{shownPrice}
 use Rattle.edit.specs.Edit.{Edit}
 use Rattle.level.specs.Side.{applyAll}
 use Rattle.level.specs.Ranked.{afterMessage, replaced, mapEdit}
+use Rattle.level.specs.Moved.{moved}
 use Rattle.level.specs.Words.{shown}
 use Rattle.level.specs.Kept.{keptIn, held}
 use Rattle.edit.specs.declared.Side.{Side}
 use Rattle.level.specs.declared.Level.{Level}
 use Rattle.level.specs.declared.Levels.{Levels}
 use Rattle.level.proofs.Mapping.{shown-afterMessage, shown-count, shown-met}
+use Rattle.level.proofs.Moving.{shown-moved}
 use Rattle.side.specs.Applying.{AfterEntries}
 use Rattle.side.specs.declared.Applied.{Applied}
 
@@ -25,3 +27,6 @@ module _ {side : Side} {depth : ℕ} {es : List (Edit Level)} {kept : Levels} {w
 
   pub applied-met : applied .replaced ≡ replaced shownPrice (map (mapEdit shown) es) (map shown (held kept))
   applied-met = r .replaced ∙ sym (shown-met es (held kept))
+
+  pub applied-moved : applied .moved ≡ moved shownPrice side (map (mapEdit shown) es) (map shown (held kept))
+  applied-moved = r .moved ∙ sym (shown-moved side es (held kept))

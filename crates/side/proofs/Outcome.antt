@@ -17,8 +17,8 @@ use Rattle.level.proofs.Determined.{words-one}
 use Rattle.side.specs.Applying.{AfterEntries}
 use Rattle.side.specs.declared.Applied.{Applied}
 
-abbrev whole : ℕ → ℕ → Bool → Applied
-whole left count replaced = record { left = left; count = count; replaced = replaced }
+abbrev whole : ℕ → ℕ → ℕ → Bool → Applied
+whole left count moved replaced = record { left = left; count = count; moved = moved; replaced = replaced }
 
 module _ {side : Side} {depth : ℕ} {es : List (Edit Level)} {kept : Levels} {words other : List ℕ} {a b : Applied}
     (r : AfterEntries side depth es kept words a) (t : AfterEntries side depth es kept other b) where
@@ -34,7 +34,8 @@ module _ {side : Side} {depth : ℕ} {es : List (Edit Level)} {kept : Levels} {w
   one-answer =
       let c : a .count ≡ b .count = r .count ∙ sym (t .count) in
       let m : a .replaced ≡ b .replaced = r .replaced ∙ sym (t .replaced) in
-      let same : whole (a .left) (a .count) (a .replaced) ≡ whole (b .left) (b .count) (b .replaced) = rw (same-left, c, m) in
+      let d : a .moved ≡ b .moved = r .moved ∙ sym (t .moved) in
+      let same : whole (a .left) (a .count) (a .moved) (a .replaced) ≡ whole (b .left) (b .count) (b .moved) (b .replaced) = rw (same-left, c, d, m) in
       same
 
   pub one-outcome : words ≡ other

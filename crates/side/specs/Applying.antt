@@ -10,6 +10,7 @@ use Rattle.edit.specs.declared.Side.{Side}
 use Rattle.settings.specs.declared.SumText.{SumText}
 use Rattle.level.specs.Side.{applyAll}
 use Rattle.level.specs.Ranked.{All, afterMessage, replaced}
+use Rattle.level.specs.Moved.{moved}
 use Rattle.level.specs.Words.{levelPrice, levelSize, wordsPast, changeOf}
 use Rattle.level.specs.Kept.{held, keptIn, Good}
 use Rattle.level.specs.declared.Level.{Level}
@@ -43,11 +44,12 @@ withSum text level = levelFor text (levelPrice level) (levelSize level)
 unfoldable pub changesFor : SumText → Side → List Numbers → List (Edit Level)
 changesFor text side es = map (changeOf (levelFor text)) (forSide sideOf side es)
 
--- A side with a message's entries applied: the levels that are left in the words are the definition's, the count is that before the cut, and `replaced`
--- says whether some entry set a level at a price where one stood by then. No word past the levels that are left is touched.
+-- A side with a message's entries applied: the levels that are left in the words are the definition's, the count is that before the cut, `moved` is
+-- how many levels the entries moved, and `replaced` says whether some entry set a level at a price where one stood by then. No word past the levels that are left is touched.
 pub record AfterEntries (side : Side) (depth : ℕ) (entries : List (Edit Level)) (kept : Levels) (words : List ℕ) (applied : Applied) : Type 0 where
   pub good : Good side (keptIn words (applied .left))
   pub levels : held (keptIn words (applied .left)) ≡ afterMessage levelPrice side depth entries (held kept)
   pub count : applied .count ≡ length (applyAll levelPrice entries (held kept))
+  pub moved : applied .moved ≡ moved levelPrice side entries (held kept)
   pub replaced : applied .replaced ≡ replaced levelPrice entries (held kept)
   pub past : wordsPast (applied .left) words ≡ wordsPast (applied .left) (kept .words)

@@ -31,11 +31,12 @@ use settings::SumText;
 // How many levels there is room for while one message is worked: 100 that stood, and 100 entries.
 const MAX_WORKING: usize = 200;
 
-// A side with a message's entries applied and cut: how many levels are left, how many stood before the cut, and whether some
-// entry set a level at a price where one stood by then.
+// A side with a message's entries applied and cut: how many levels are left, how many stood before the cut, how many the entries
+// moved, and whether some entry set a level at a price where one stood by then.
 pub struct Applied {
     pub left: usize,
     pub count: usize,
+    pub moved: usize,
     pub replaced: bool,
 }
 
@@ -64,6 +65,7 @@ pub fn apply(
         levels[i] = level_in(words, i);
         i += 1;
     }
+    let mut moved = 0;
     let mut replaced = false;
     let mut k = 0;
     'entry: while k < entries {
@@ -98,6 +100,7 @@ pub fn apply(
                     }
                     Change::Remove(_) => {
                         count -= 1;
+                        moved += count - low;
                         let mut j = low;
                         'down: while j < count {
                             levels[j] = levels[j + 1];
@@ -109,6 +112,7 @@ pub fn apply(
             }
         }
         if let Change::Set(new) = change {
+            moved += count - low;
             let mut j = count;
             'up: while low < j {
                 levels[j] = levels[j - 1];
@@ -131,6 +135,7 @@ pub fn apply(
     Applied {
         left: left,
         count: count,
+        moved: moved,
         replaced: replaced,
     }
 }

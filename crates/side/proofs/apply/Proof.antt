@@ -5,6 +5,7 @@ use mathlib.Core.Logic.{⊎-elim}
 use mathlib.Core.Bool.{Bool, true, false, not, _||_, or-false, or-true}
 use mathlib.Core.List.{List}
 use Prim.Native.Nat.{ℕ, _+_, _-_, _/_, _≤_, _<_}
+use native.Mathlib.Nat.{add-zero}
 use native.Mathlib.Omega.{arith}
 use borrow.Author.Needs.{needs}
 use lib.ListN.{length, getD, set, take, drop, length-set}
@@ -22,16 +23,18 @@ use Rattle.edit.specs.declared.Side.{Side}
 use Rattle.level.specs.Side.{nearer, without, applyAll}
 use Rattle.level.specs.Ranked.{All, standing, afterMessage, replaces, replaced, Sorted, mapEdit, IfSet}
 use Rattle.edit.specs.Edit.{named}
+use Rattle.level.specs.Moved.{moves, moved}
 use Rattle.level.specs.Words.{levelsIn, wordsPast, noLevel, edit, levelPlain, changeOf}
 use Rattle.level.specs.Kept.{maxWords, keptIn, held}
 use Rattle.side.specs.Applying.{EntryWithin, LevelWithin, Given, withSum, changesFor}
 use Rattle.level.proofs.All.{all-take, all-at}
 use Rattle.level.proofs.Ranking.{applyRanked, sorted-take}
 use Rattle.level.proofs.Meeting.{standing-at}
+use Rattle.level.proofs.Moving.{moves-replaced, moves-inserted, moves-removed, moves-absent}
 use Rattle.side.proofs.Shift.{up, up-start, up-turn, length-up, down, down-start, down-turn, length-down}
 use Rattle.level.proofs.Stored.{length-levels, past-more}
-use Rattle.side.proofs.Find.{Bracket, bracket-start, bracket-up, bracket-down, past, past-same, past-none, bracket-head, set-new, set-same, remove-same, remove-none, none-standing}
-use Rattle.side.proofs.Entries.{Sound, given-length, does, does-named, summed-does, plain-within, Turn, turn-start, turn-pass, turn-room, turn-step, turn-levels, turn-count, turn-met, key, sound-at, ahead-at, same-at, other-at, copied, cut-short, cut-whole}
+use Rattle.side.proofs.Find.{Bracket, bracket-start, bracket-up, bracket-down, past, past-same, past-none, bracket-head, bracket-place, set-new, set-same, remove-same, remove-none, none-standing}
+use Rattle.side.proofs.Entries.{Sound, given-length, does, does-named, summed-does, plain-within, Turn, turn-start, turn-pass, turn-room, turn-step, turn-levels, turn-count, turn-moved, turn-met, key, sound-at, ahead-at, same-at, other-at, copied, cut-short, cut-whole}
 use Rattle.side.proofs.apply.Statement.{statement}
 use Rattle.side.proofs.apply.Tie as tie
 
@@ -42,34 +45,34 @@ abbrev μ-load : tie.MeasureT-load
 μ-load words kept side depth text buffer entries table levels₀ count i₀ levels i = count - i
 
 abbrev Inv-find : tie.InvT-find
-Inv-find words kept side depth text buffer entries table levels count i replaced k change price low₀ high₀ low high = Bracket levelPrice side (take count levels) (value (number price)) low high × (high ≤ count)
+Inv-find words kept side depth text buffer entries table levels count i moved replaced k change price low₀ high₀ low high = Bracket levelPrice side (take count levels) (value (number price)) low high × (high ≤ count)
 
 abbrev μ-find : tie.MeasureT-find
-μ-find words kept side depth text buffer entries table levels count i replaced k change price low₀ high₀ low high = high - low
+μ-find words kept side depth text buffer entries table levels count i moved replaced k change price low₀ high₀ low high = high - low
 
 abbrev Inv-down : tie.InvT-down
-Inv-down words kept side depth text buffer entries table levels₀ count i replaced k low high j₀ levels j = (levels ≡ down levels₀ low j) × (low ≤ j) × (j ≤ count)
+Inv-down words kept side depth text buffer entries table levels₀ count i moved replaced k low high j₀ levels j = (levels ≡ down levels₀ low j) × (low ≤ j) × (j ≤ count)
 
 abbrev μ-down : tie.MeasureT-down
-μ-down words kept side depth text buffer entries table levels₀ count i replaced k low high j₀ levels j = count - j
+μ-down words kept side depth text buffer entries table levels₀ count i moved replaced k low high j₀ levels j = count - j
 
 abbrev Inv-up : tie.InvT-up
-Inv-up words kept side depth text buffer entries table levels₀ count i replaced k low high new j₀ levels j = (levels ≡ up levels₀ j count) × (low ≤ j) × (j ≤ count)
+Inv-up words kept side depth text buffer entries table levels₀ count i moved replaced k low high new j₀ levels j = (levels ≡ up levels₀ j count) × (low ≤ j) × (j ≤ count)
 
 abbrev μ-up : tie.MeasureT-up
-μ-up words kept side depth text buffer entries table levels₀ count i replaced k low high new j₀ levels j = j
+μ-up words kept side depth text buffer entries table levels₀ count i moved replaced k low high new j₀ levels j = j
 
 abbrev Inv-entry : tie.InvT-entry
-Inv-entry words kept side depth text buffer entries table levels₀ count₀ i replaced₀ k₀ levels count replaced k = Turn text side (take entries (entriesIn buffer)) (take count₀ levels₀) count₀ levels count replaced k
+Inv-entry words kept side depth text buffer entries table levels₀ count₀ i moved₀ replaced₀ k₀ levels count moved replaced k = Turn text side (take entries (entriesIn buffer)) (take count₀ levels₀) count₀ levels count moved replaced k
 
 abbrev μ-entry : tie.MeasureT-entry
-μ-entry words kept side depth text buffer entries table levels₀ count₀ i replaced₀ k₀ levels count replaced k = entries - k
+μ-entry words kept side depth text buffer entries table levels₀ count₀ i moved₀ replaced₀ k₀ levels count moved replaced k = entries - k
 
 abbrev Inv-cut : tie.InvT-cut
-Inv-cut words₀ kept depth buffer entries table levels count i₀ replaced k left words i = (length words ≡ maxWords) × (i ≤ left) × (take i (levelsIn words) ≡ take i levels) × (wordsPast i words ≡ wordsPast i words₀)
+Inv-cut words₀ kept depth buffer entries table levels count i₀ moved replaced k left words i = (length words ≡ maxWords) × (i ≤ left) × (take i (levelsIn words) ≡ take i levels) × (wordsPast i words ≡ wordsPast i words₀)
 
 abbrev μ-cut : tie.MeasureT-cut
-μ-cut words₀ kept depth buffer entries table levels count i₀ replaced k left words i = left - i
+μ-cut words₀ kept depth buffer entries table levels count i₀ moved replaced k left words i = left - i
 
 not-true : (b : Bool) → not b ≡ true → b ≡ false
 not-true true e = sym e
@@ -151,6 +154,9 @@ module _ (v : tie.After-price-named Inv-load μ-load Inv-find μ-find Inv-down �
   abbrev S : List Level
   S = take N A
 
+  abbrev G : ℕ
+  G = E .entry .moved
+
   -- the value of the price, the entry's change, and what the definition has there
   abbrev P : ℕ
   P = value (number (v .price-named .result))
@@ -168,7 +174,10 @@ module _ (v : tie.After-price-named Inv-load μ-load Inv-find μ-find Inv-down �
   long = E .entry .inv .long
 
   few : N < 200
-  few = turn-room (s .args .text) (s .args .side) es s₀ (s .args .kept) (s .pre .0 .few) (g .own) A N K (E .entry .replaced) (E .entry .inv) (in-message E below) own
+  few = turn-room (s .args .text) (s .args .side) es s₀ (s .args .kept) (s .pre .0 .few) (g .own) A N G K (E .entry .replaced) (E .entry .inv) (in-message E below) own
+
+  little : G ≤ 40000
+  little = omega (arith, E .entry .inv .small, below, g .few)
 
   room : N ≤ length A
   room = omega (arith, few, long)
@@ -188,10 +197,16 @@ module _ (v : tie.After-price-named Inv-load μ-load Inv-find μ-find Inv-down �
   sound-price : Within (number (v .price-named .result))
   sound-price = subst Within (sym (named-is ∙ does-named (s .args .text) e (entry-within E below))) (entry-within E below .0)
 
-  stepped : (c : List Level) (m : ℕ) (now : Bool) → length c ≡ 200 → m ≤ N + 1 → take m c ≡ applyRanked levelPrice (s .args .side) this S
-      → now ≡ (E .entry .replaced || replaces levelPrice this S) → Turn (s .args .text) (s .args .side) es s₀ (s .args .kept) c m now (K + 1)
+  stepped : (c : List Level) (m by : ℕ) (now : Bool) → length c ≡ 200 → m ≤ N + 1 → take m c ≡ applyRanked levelPrice (s .args .side) this S
+      → by ≡ moves levelPrice (s .args .side) this S → now ≡ (E .entry .replaced || replaces levelPrice this S)
+      → Turn (s .args .text) (s .args .side) es s₀ (s .args .kept) c m (G + by) now (K + 1)
   stepped =
-      turn-step (s .args .text) (s .args .side) es s₀ (s .args .kept) (s .pre .0 .few) (g .own) A N K (E .entry .replaced) (E .entry .inv) (in-message E below) own (entry-within E below)
+      turn-step (s .args .text) (s .args .side) es s₀ (s .args .kept) (s .pre .0 .few) (g .own) A N G K (E .entry .replaced) (E .entry .inv) (in-message E below) own (entry-within E below)
+
+  -- an entry that moves none
+  unmoved : {c : List Level} {m : ℕ} {now : Bool} → Turn (s .args .text) (s .args .side) es s₀ (s .args .kept) c m (G + 0) now (K + 1)
+      → Turn (s .args .text) (s .args .side) es s₀ (s .args .kept) c m G now (K + 1)
+  unmoved {c} {m} {now} t = subst (λ (x : ℕ). Turn (s .args .text) (s .args .side) es s₀ (s .args .kept) c m x now (K + 1)) (add-zero G) t
 
   -- the entry sets a level
   module _ (new : Level) (is : change ≡ Set new) where
@@ -203,12 +218,13 @@ module _ (v : tie.After-price-named Inv-load μ-load Inv-find μ-find Inv-down �
     unfolding named
     key-new = sym (ap value (named-is ∙ ap (named levelPrice) set-is))
 
-    after-set : (c : List Level) (m : ℕ) (now : Bool) → length c ≡ 200 → m ≤ N + 1 → take m c ≡ applyRanked levelPrice (s .args .side) (sets new) S
-        → now ≡ (E .entry .replaced || standing levelPrice P S)
-        → Turn (s .args .text) (s .args .side) es s₀ (s .args .kept) c m now (K + 1)
+    after-set : (c : List Level) (m by : ℕ) (now : Bool) → length c ≡ 200 → m ≤ N + 1 → take m c ≡ applyRanked levelPrice (s .args .side) (sets new) S
+        → moves levelPrice (s .args .side) (sets new) S ≡ by → now ≡ (E .entry .replaced || standing levelPrice P S)
+        → Turn (s .args .text) (s .args .side) es s₀ (s .args .kept) c m (G + by) now (K + 1)
     unfolding replaces
-    after-set c m now l q e f =
-        stepped c m now l q (e ∙ ap (λ (x : Edit Level). applyRanked levelPrice (s .args .side) x S) (sym set-is))
+    after-set c m by now l q e g f =
+        stepped c m by now l q (e ∙ ap (λ (x : Edit Level). applyRanked levelPrice (s .args .side) x S) (sym set-is))
+        (sym g ∙ ap (λ (x : Edit Level). moves levelPrice (s .args .side) x S) (sym set-is))
         (f ∙ ap (λ (x : ℕ). E .entry .replaced || standing levelPrice x S) (sym key-new) ∙ ap (λ (x : Edit Level). E .entry .replaced || replaces levelPrice x S) (sym set-is))
 
   -- it removes one
@@ -221,12 +237,14 @@ module _ (v : tie.After-price-named Inv-load μ-load Inv-find μ-find Inv-down �
     unfolding named
     key-removed = sym (ap value (named-is ∙ ap (named levelPrice) removal-is))
 
-    after-removal : (c : List Level) (m : ℕ) → length c ≡ 200 → m ≤ N + 1 → take m c ≡ without levelPrice P S
-        → Turn (s .args .text) (s .args .side) es s₀ (s .args .kept) c m (E .entry .replaced) (K + 1)
+    after-removal : (c : List Level) (m by : ℕ) → length c ≡ 200 → m ≤ N + 1 → take m c ≡ without levelPrice P S
+        → moves levelPrice (s .args .side) (removes (number price)) S ≡ by
+        → Turn (s .args .text) (s .args .side) es s₀ (s .args .kept) c m (G + by) (E .entry .replaced) (K + 1)
     unfolding replaces applyRanked
-    after-removal c m l q e =
-        stepped c m (E .entry .replaced) l q
+    after-removal c m by l q e g =
+        stepped c m by (E .entry .replaced) l q
         (e ∙ ap (λ (x : ℕ). without levelPrice x S) (sym key-removed) ∙ ap (λ (x : Edit Level). applyRanked levelPrice (s .args .side) x S) (sym removal-is))
+        (sym g ∙ ap (λ (x : Edit Level). moves levelPrice (s .args .side) x S) (sym removal-is))
         (sym (or-false (E .entry .replaced)) ∙ ap (λ (x : Edit Level). E .entry .replaced || replaces levelPrice x S) (sym removal-is))
 
 -- no level is at the price: all from its place on is behind it
@@ -297,7 +315,7 @@ entry-again c =
     let s = St E in
     let h = c .before .before .before .entry-test .taken in
     turn-pass (s .args .text) (s .args .side) (entries E h) (take (s .args .kept) (E .before .before .load .levels)) (s .args .kept) (s .pre .0 .few) (s .pre .1 .own)
-    (E .entry .levels) (E .entry .count) (E .entry .k) (E .entry .replaced) (E .entry .inv) (in-message E h) (sym (tested (c .before)) ∙ not-true _ (c .if1 .taken))
+    (E .entry .levels) (E .entry .count) (E .entry .moved) (E .entry .k) (E .entry .replaced) (E .entry .inv) (in-message E h) (sym (tested (c .before)) ∙ not-true _ (c .if1 .taken))
 
 with-sum-requires : tie.Need-with-sum-requires Inv-load μ-load Inv-find μ-find Inv-down μ-down Inv-up μ-up Inv-entry μ-entry Inv-cut μ-cut
 with-sum-requires c κs =
@@ -371,9 +389,11 @@ entry-again-2 c =
     let high = past-same levelPrice (s v .args .side) (S v) (P v) (E v .entry .inv .sorted) (p .low) noLevel ls same in
     let new = c .before .change .given .0 .0 in
     let is = c .before .change .given .1 in
-    after-set v new is (set (A v) (p .low) new) (N v) true (simp length-set (long v)) (omega arith)
+    let met = standing-at levelPrice (P v) (S v) (p .low) noLevel ls same in
+    unmoved v (after-set v new is (set (A v) (p .low) new) (N v) 0 true (simp length-set (long v)) (omega arith)
     (set-same levelPrice (s v .args .side) (A v) (N v) (p .low) (room v) (omega arith) (P v) (p .inv .0 .ahead) noLevel lt same high new (key-new v new is))
-    (sym (ap (λ (x : Bool). E v .entry .replaced || x) (standing-at levelPrice (P v) (S v) (p .low) noLevel ls same) ∙ or-true (E v .entry .replaced)))
+    (moves-replaced levelPrice (s v .args .side) (P v) (S v) new (key-new v new is) met)
+    (sym (ap (λ (x : Bool). E v .entry .replaced || x) met ∙ or-true (E v .entry .replaced))))
 
 entry-again-3 : tie.Need-entry-again-3 Inv-load μ-load Inv-find μ-find Inv-down μ-down Inv-up μ-up Inv-entry μ-entry Inv-cut μ-cut
 entry-again-3 c =
@@ -385,9 +405,14 @@ entry-again-3 c =
     let high = past-same levelPrice (s v .args .side) (S v) (P v) (E v .entry .inv .sorted) (p .low) noLevel ls same in
     let q = c .before .down in
     let j : q .j ≡ N v - 1 = omega (arith, q .inv .2, c .down-test .left) in
-    after-removal v (c .before .before .enum-told .given .0 .0) (c .before .before .enum-told .given .1) (q .levels) (N v - 1) (ap length (q .inv .0) ∙ length-down (A v) (p .low) (q .j) (q .inv .1) (omega (arith, room v)) ∙ long v) (omega arith)
+    let out : p .high ≤ p .low = c .before .before .before .before .before .before .before .before .before .before .find-test .left in
+    after-removal v (c .before .before .enum-told .given .0 .0) (c .before .before .enum-told .given .1) (q .levels) (N v - 1) (N v - 1 - p .low) (ap length (q .inv .0) ∙ length-down (A v) (p .low) (q .j) (q .inv .1) (omega (arith, room v)) ∙ long v) (omega arith)
     (ap (take (N v - 1)) (q .inv .0 ∙ ap (down (A v) (p .low)) j)
     ∙ remove-same levelPrice (s v .args .side) (A v) (N v) (p .low) (room v) (omega arith) (P v) (p .inv .0 .ahead) noLevel lt same high (N v - 1) (omega arith))
+    (moves-removed levelPrice (s v .args .side) (P v) (S v) (number (c .before .before .enum-told .given .0 .0)) (N v) (p .low)
+    (key-removed v (c .before .before .enum-told .given .0 .0) (c .before .before .enum-told .given .1))
+    (standing-at levelPrice (P v) (S v) (p .low) noLevel ls same) (side-long v)
+    (bracket-place levelPrice (s v .args .side) (S v) (P v) (p .low) (p .high) (p .inv .0) out))
 
 up-holds : tie.Need-up-holds Inv-load μ-load Inv-find μ-find Inv-down μ-down Inv-up μ-up Inv-entry μ-entry Inv-cut μ-cut
 up-holds c =
@@ -412,11 +437,15 @@ entry-again-4 c =
     let j : q .j ≡ p .low = omega (arith, q .inv .1, c .up-test .left) in
     let new = c .before .before .before .change2 .given .0 .0 in
     let is = c .before .before .before .change2 .given .1 in
-    after-set v new is (set (q .levels) (p .low) new) (N v + 1) (E v .entry .replaced)
+    let out : p .high ≤ p .low = c .before .before .before .before .before .before .find-test .left in
+    let none = none-standing levelPrice (s v .args .side) (A v) (N v) (p .low) (room v) le (P v) (p .inv .0 .ahead) high in
+    after-set v new is (set (q .levels) (p .low) new) (N v + 1) (N v - p .low) (E v .entry .replaced)
     (simp length-set (ap length (q .inv .0) ∙ length-up (A v) (q .j) (N v) (q .inv .2) (omega (arith, few v, long v)) ∙ long v)) (omega arith)
     (ap (λ (r : List Level). take (N v + 1) (set r (p .low) new)) (q .inv .0 ∙ ap (λ (i : ℕ). up (A v) i (N v)) j)
     ∙ set-new levelPrice (s v .args .side) (A v) (N v) (p .low) (room v) le (P v) (p .inv .0 .ahead) new (omega (arith, few v, long v)) (key-new v new is) high)
-    (sym (ap (λ (x : Bool). E v .entry .replaced || x) (none-standing levelPrice (s v .args .side) (A v) (N v) (p .low) (room v) le (P v) (p .inv .0 .ahead) high) ∙ or-false (E v .entry .replaced)))
+    (moves-inserted levelPrice (s v .args .side) (P v) (S v) new (N v) (p .low) (key-new v new is) none (side-long v)
+    (bracket-place levelPrice (s v .args .side) (S v) (P v) (p .low) (p .high) (p .inv .0) out))
+    (sym (ap (λ (x : Bool). E v .entry .replaced || x) none ∙ or-false (E v .entry .replaced)))
 
 entry-again-5 : tie.Need-entry-again-5 Inv-load μ-load Inv-find μ-find Inv-down μ-down Inv-up μ-up Inv-entry μ-entry Inv-cut μ-cut
 entry-again-5 c =
@@ -424,8 +453,10 @@ entry-again-5 c =
     let p = c .before .before .before .before .find in
     let le : p .low ≤ N v = omega (arith, p .inv .1, p .inv .0 .low-le) in
     let high = behind-all (c .before .before) in
-    after-removal v (c .enum-told2 .given .0 .0) (c .enum-told2 .given .1) (A v) (N v) (long v) (omega arith)
+    unmoved v (after-removal v (c .enum-told2 .given .0 .0) (c .enum-told2 .given .1) (A v) (N v) 0 (long v) (omega arith)
     (remove-none levelPrice (s v .args .side) (A v) (N v) (p .low) (room v) le (P v) (p .inv .0 .ahead) high)
+    (moves-absent levelPrice (s v .args .side) (P v) (S v) (number (c .enum-told2 .given .0 .0)) (key-removed v (c .enum-told2 .given .0 .0) (c .enum-told2 .given .1))
+    (none-standing levelPrice (s v .args .side) (A v) (N v) (p .low) (room v) le (P v) (p .inv .0 .ahead) high)))
 
 cut-holds : tie.Need-cut-holds Inv-load μ-load Inv-find μ-find Inv-down μ-down Inv-up μ-up Inv-entry μ-entry Inv-cut μ-cut
 cut-holds c = (c .before .before .before .before .before .before .pre .0 .room, omega arith, refl, refl)
@@ -483,15 +514,19 @@ returns c =
       };
       levels =
           eq ∙ turn-levels (s .args .text) (s .args .side) es kept (s .args .kept)
-          (E .entry .levels) (E .entry .count) (E .entry .k) (E .entry .replaced) (E .entry .inv) past sorted (s .args .depth)
+          (E .entry .levels) (E .entry .count) (E .entry .moved) (E .entry .k) (E .entry .replaced) (E .entry .inv) past sorted (s .args .depth)
           ∙ ap (afterMessage levelPrice (s .args .side) (s .args .depth) all) o;
       count =
           turn-count (s .args .text) (s .args .side) es kept (s .args .kept)
-          (E .entry .levels) (E .entry .count) (E .entry .k) (E .entry .replaced) (E .entry .inv) past sorted l
+          (E .entry .levels) (E .entry .count) (E .entry .moved) (E .entry .k) (E .entry .replaced) (E .entry .inv) past sorted l
           ∙ ap (λ (x : List Level). length (applyAll levelPrice all x)) o;
+      moved =
+          turn-moved (s .args .text) (s .args .side) es kept (s .args .kept)
+          (E .entry .levels) (E .entry .count) (E .entry .moved) (E .entry .k) (E .entry .replaced) (E .entry .inv) past sorted
+          ∙ ap (moved levelPrice (s .args .side) all) o;
       replaced =
           turn-met (s .args .text) (s .args .side) es kept (s .args .kept)
-          (E .entry .levels) (E .entry .count) (E .entry .k) (E .entry .replaced) (E .entry .inv) past sorted
+          (E .entry .levels) (E .entry .count) (E .entry .moved) (E .entry .k) (E .entry .replaced) (E .entry .inv) past sorted
           ∙ ap (replaced levelPrice all) o;
       past = rw i at (p .inv .3);
     }
@@ -550,6 +585,8 @@ apply-spec =
     array-set-from-levels-2
     (λ c. search needs)
     (λ c. omega arith)
+    (λ c. omega (arith, c .before .before .before .before .before .before .before .if3 .taken))
+    (λ c. omega (arith, little (c .before .before .before .before .before .before .before .before .before .before), few (c .before .before .before .before .before .before .before .before .before .before)))
     down-holds
     (λ c. omega arith)
     (λ c. omega arith)
@@ -564,6 +601,8 @@ apply-spec =
     (λ c. omega arith)
     entry-again-3
     (λ c. search needs)
+    (λ c. omega (arith, c .before .before .before .before .before .find .inv .1, c .before .before .before .before .before .find .inv .0 .low-le))
+    (λ c. omega (arith, little (c .before .before .before .before .before .before), few (c .before .before .before .before .before .before)))
     up-holds
     (λ c. omega arith)
     (λ c. omega arith)

@@ -13,6 +13,7 @@ use Rattle.edit.specs.declared.Side.{Side}
 use Rattle.level.specs.Words.{levelPrice, levelSize, shown}
 use Rattle.level.specs.Side.{applyAll}
 use Rattle.level.specs.Ranked.{All, afterMessage, replaced}
+use Rattle.level.specs.Moved.{moved}
 use Rattle.level.specs.Kept.{held, Good}
 use Rattle.level.specs.declared.Level.{Level}
 use Rattle.level.specs.declared.Levels.{Levels}
@@ -23,7 +24,7 @@ use Rattle.checksum.specs.Carried.{pieceOf, Carries}
 use Rattle.side.specs.Applying.{EntryWithin, changesFor, AfterEntries}
 use Rattle.side.specs.declared.Applied.{Applied}
 use Rattle.side.proofs.Changes.{changes-shown, changes-carried, changes-sized}
-use Rattle.side.proofs.Mapped.{applied-levels, applied-count, applied-met}
+use Rattle.side.proofs.Mapped.{applied-levels, applied-count, applied-moved, applied-met}
 use Rattle.sides.specs.Worked.{Sound, editsFor, sideAfter, Worked}
 
 abbrev Sized : Level → Type 0
@@ -44,14 +45,15 @@ module _ (text : SumText) (side : Side) (depth : ℕ) (kept : Levels) (es : List
   unchanged g few = sym (ap (take depth) (sorted-ranked levelPrice side (held kept) (g .sorted)) ∙ take-all depth (held kept) few)
 
   pub none-worked : 0 ≡ length (forSide sideOf side es) → Sound text side kept → length (held kept) ≤ depth
-      → Worked text side depth (editsFor side es) kept (record { levels = kept; count = kept .count; replaced = false })
-  unfolding applyAll replaced
+      → Worked text side depth (editsFor side es) kept (record { levels = kept; count = kept .count; moved = 0; replaced = false })
+  unfolding applyAll moved replaced
   none-worked h k few =
       let l = length-map (held kept) shown in
       rw (none-own side es h) (record {
         sound = k;
         levels = ap (map shown) (unchanged (k .good) few) ∙ shown-afterMessage side depth [] (held kept);
         count = sym (held-length kept (k .good .few) (k .good .room)) ∙ sym l;
+        moved = refl;
         replaced = refl;
         past = refl;
       })
@@ -71,6 +73,7 @@ module _ (text : SumText) (side : Side) (depth : ℕ) (kept : Levels) (es : List
         };
         levels = applied-levels a ∙ ap (λ (x : List (Edit PriceLevel)). afterMessage shownPrice side depth x (map shown (held kept))) q;
         count = applied-count a ∙ ap (λ (x : List (Edit PriceLevel)). length (applyAll shownPrice x (map shown (held kept)))) q;
+        moved = applied-moved a ∙ ap (λ (x : List (Edit PriceLevel)). moved shownPrice side x (map shown (held kept))) q;
         replaced = applied-met a ∙ ap (λ (x : List (Edit PriceLevel)). replaced shownPrice x (map shown (held kept))) q;
         past = a .past;
       }

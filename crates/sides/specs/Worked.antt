@@ -10,6 +10,7 @@ use Rattle.edit.specs.Edit.{PriceLevel, shownPrice, Edit, Numbers, editOf, forS
 use Rattle.level.specs.Words.{levelSize, shown, wordsPast}
 use Rattle.level.specs.Side.{applyAll}
 use Rattle.level.specs.Ranked.{All, afterMessage, replaced}
+use Rattle.level.specs.Moved.{moved}
 use Rattle.level.specs.Kept.{keptIn, held, Good}
 use Rattle.edit.specs.declared.Side.{Side}
 use Rattle.level.specs.declared.Levels.{Levels}
@@ -26,20 +27,23 @@ pub record Sound (text : SumText) (side : Side) (kept : Levels) : Type 0 where
 unfoldable pub editsFor : Side → List Numbers → List (Edit PriceLevel)
 editsFor side es = map editOf (forSide sideOf side es)
 
--- A side after entries: its levels, how many stood before the cut, and whether some entry set a level at a price where one stood by then.
+-- A side after entries: its levels, how many stood before the cut, how many the entries moved, and whether some entry set a level at a price where one
+-- stood by then.
 pub record SideAfter : Type 0 where
   pub levels : Levels
   pub count : ℕ
+  pub moved : ℕ
   pub replaced : Bool
 
 -- What `apply_entries` leaves in the words, and answers.
 abbrev pub sideAfter : List ℕ → Applied → SideAfter
-sideAfter words r = record { levels = keptIn words (r .left); count = r .count; replaced = r .replaced }
+sideAfter words r = record { levels = keptIn words (r .left); count = r .count; moved = r .moved; replaced = r .replaced }
 
 pub record Worked (text : SumText) (side : Side) (depth : ℕ) (edits : List (Edit PriceLevel)) (kept : Levels) (r : SideAfter) : Type 0 where
   pub sound : Sound text side (r .levels)
   pub levels : map shown (held (r .levels)) ≡ afterMessage shownPrice side depth edits (map shown (held kept))
   pub count : r .count ≡ length (applyAll shownPrice edits (map shown (held kept)))
+  pub moved : r .moved ≡ moved shownPrice side edits (map shown (held kept))
   pub replaced : r .replaced ≡ replaced shownPrice edits (map shown (held kept))
   -- no word past the levels that are left is touched
   pub past : wordsPast (r .levels .count) (r .levels .words) ≡ wordsPast (r .levels .count) (kept .words)

@@ -43,6 +43,7 @@ pub fn apply_entries(
         return Applied {
             left: kept,
             count: kept,
+            moved: 0,
             replaced: false,
         };
     }

@@ -1,6 +1,6 @@
 -- The claims that `specs/Claims` states, under the same names.
 -- Assumes nothing.
-use mathlib.Core.Path.{_≡_, refl, sym, ap, _∙_}
+use mathlib.Core.Path.{_≡_, refl, sym, ap, ap₂, _∙_}
 use mathlib.Core.List.{List, [], _∷_, _++_}
 use mathlib.Core.Bool.{Bool, true, false, true≢false, false≢true, cond, or-false}
 use Prim.Native.Nat.{ℕ, _≤_}
@@ -11,7 +11,7 @@ use Rattle.answer.proofs.Laws.{not-taken, other-answer, taken-answer}
 use Rattle.message.specs.Meaning.{Message, decodes, decode}
 use Rattle.answer.specs.declared.Answer.{Answer}
 use Rattle.answer.specs.declared.Answer.the-variants.{Taken}
-use Rattle.reference.specs.Reference.{Status, shut, waiting, live, isShut, isLive, Reference, opened, taken, After, receive, Question, howMany, levelAt, whichNumber, howManyUpdates, write, zeros, Response, respond, refusal, replied, Reply, Ask, message, question, does, Call, repliesTo, final, withStatus}
+use Rattle.reference.specs.Reference.{Status, shut, waiting, live, isShut, isLive, Reference, opened, taken, levelsMoved, takenBy, After, amount, receive, Question, howMany, levelAt, whichNumber, howManyUpdates, write, zeros, Response, respond, refusal, replied, Reply, Ask, message, question, does, Call, repliesTo, final, withStatus}
 use lib.ListN.{length}
 use Rattle.decimal.specs.Buffer.{overlaid}
 use Rattle.decimal.proofs.Buffer.{overlaid-none}
@@ -24,7 +24,7 @@ use Rattle.reference.specs.Claims.{Round-trip, Refused, Demand-1, Settin
 use Rattle.reference.proofs.Carried.{said-carries}
 use Rattle.reference.proofs.Outcome.{statusAfter, Outcome, is-refused, is-accepted, outcome, acceptable-taken, ready-open, or-none}
 use Rattle.reference.proofs.Questions.{question-one, zeros-again, no-answer, no-snapshot}
-use Rattle.reference.proofs.Runs.{Steps, stays, moves, steps, Reached, opened-waits, reached, run-append, taken-fresh, acceptable-fresh, final-rebuilt, rebuilt-ever, since-begins, since-rebuilt, begins-live}
+use Rattle.reference.proofs.Runs.{Steps, stays, moves, steps, Reached, opened-waits, reached, run-append, taken-fresh, moved-fresh, acceptable-fresh, final-rebuilt, rebuilt-ever, since-begins, since-rebuilt, begins-live}
 
 -- ---- demand 1
 
@@ -43,7 +43,7 @@ unfolding does answerNumber oneOf
 of-message p s buffer = go (outcome p s)
   where
     go : Outcome p s → oneOf toMessages (answerNumber (receive p s .answer)) ≡ true
-    go (is-refused n l k e) = l
+    go (is-refused n l k e none) = l
     go (is-accepted m q a e) = rw (e, answerNumber, oneOf)
 
 all-but-status : (p : Reference) (lent : List ℕ) (r : Reply) → r .after ≡ withStatus (statusAfter (r .answer) (p .status)) p → r .value ≡ zeros (r .value)
@@ -56,7 +56,7 @@ unfolding does replied zeros statusAfter withStatus
 refused p (message s) buffer h = go (outcome p s)
   where
     go : Outcome p s → Refused p buffer (does p (message s) buffer)
-    go (is-refused n l k e) = all-but-status p buffer (does p (message s) buffer) e refl refl
+    go (is-refused n l k e none) = all-but-status p buffer (does p (message s) buffer) e (ap amount none) refl
     go (is-accepted m q a e) = absurd (not-taken (receive p s .answer) h (ap (λ (x : After). x .answer) e))
 refused p (question q) buffer h =
     let r = respond p (length buffer) q in
@@ -112,16 +112,17 @@ demand-2 p s =
     record {
       only-when = λ h. taken-when h (outcome p s);
       when = λ m q a. ap (λ (x : After). x .answer) (acceptable-taken p s m q a);
-      then = λ m q h. taken-then m q h (outcome p s);
+      then = λ m q h. ap (λ (x : After). x .book) (taken-then m q h (outcome p s));
+      moved = λ m q h. ap (λ (x : After). x .moved) (taken-then m q h (outcome p s));
     }
   where
     taken-when : receive p s .answer ≡ Taken → Outcome p s → (m : Message) × (decode (p .config) s ≡ decodes m) × Acceptable p m
-    taken-when h (is-refused n l k e) = absurd (not-taken (receive p s .answer) n h)
+    taken-when h (is-refused n l k e none) = absurd (not-taken (receive p s .answer) n h)
     taken-when h (is-accepted m q a e) = (m, q, a)
 
-    taken-then : (m : Message) → decode (p .config) s ≡ decodes m → receive p s .answer ≡ Taken → Outcome p s → receive p s .book ≡ taken p m
-    taken-then m q h (is-refused n l k e) = absurd (not-taken (receive p s .answer) n h)
-    taken-then m q h (is-accepted n r a e) = let same : n ≡ m = cc in ap (λ (x : After). x .book) e ∙ ap (taken p) same
+    taken-then : (m : Message) → decode (p .config) s ≡ decodes m → receive p s .answer ≡ Taken → Outcome p s → receive p s ≡ takenBy p m
+    taken-then m q h (is-refused n l k e none) = absurd (not-taken (receive p s .answer) n h)
+    taken-then m q h (is-accepted n r a e) = let same : n ≡ m = cc in e ∙ ap (takenBy p) same
 
 pub all-compared : All-compared
 all-compared = said-carries
@@ -141,7 +142,7 @@ module _ (t : Config) (p : Reference) (r : Reached t p) (s : List ℕ) (m : Mess
   unfolding opened
   hear-new a =
       acceptable-taken p s m (rw (r .config) q) a
-      ∙ ap (λ (b : Reference). record { book = b; answer = Taken }) (taken-fresh p (opened t) m k (r .config))
+      ∙ ap₂ (λ (b : Reference) (n : ℕ). record { book = b; answer = Taken; moved = n }) (taken-fresh p (opened t) m k (r .config)) (moved-fresh p (opened t) m k (r .config))
       ∙ sym
       (acceptable-taken (opened t) s m q
       (acceptable-fresh p (opened t) m k (r .config) (opened-ready t m (sym (r .shut) ∙ ready-open p m (a .ready)) k) a))
@@ -150,7 +151,7 @@ module _ (t : Config) (p : Reference) (r : Reached t p) (s : List ℕ) (m : Mess
   hear-fresh h = go (outcome p s)
     where
       go : Outcome p s → receive p s ≡ receive (opened t) s
-      go (is-refused n l o e) = absurd (not-taken (receive p s .answer) n h)
+      go (is-refused n l o e none) = absurd (not-taken (receive p s .answer) n h)
       go (is-accepted n d a e) = let same : n ≡ m = cc (sym (r .config)) in hear-new (rw same at a)
 
 -- the replies from the snapshot on are a new book's
@@ -223,7 +224,7 @@ no-update : (p : Reference) (s : List ℕ) (m : Message) → isLive (p .status) 
 no-update p s m h q k t = go (outcome p s)
   where
     go : Outcome p s → ⊥
-    go (is-refused n b l e) = not-taken (receive p s .answer) n t
+    go (is-refused n b l e none) = not-taken (receive p s .answer) n t
     go (is-accepted n d a e) = let same : n ≡ m = cc in true≢false (sym (of-snapshot (needs-snapshot p m h (rw same at a))) ∙ of-update k)
 
 -- and stays so until then
@@ -250,7 +251,7 @@ unfolding withStatus statusAfter isLive
 refusal-waits p s h w = go (outcome p s)
   where
     go : Outcome p s → isLive (receive p s .book .status) ≡ false
-    go (is-refused n l k e) = rw (e, withStatus, statusAfter, w)
+    go (is-refused n l k e none) = rw (e, withStatus, statusAfter, w)
     go (is-accepted m q a e) = absurd (h (ap (λ (x : After). x .answer) e))
 
 pub no-price : No-price

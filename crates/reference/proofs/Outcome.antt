@@ -24,7 +24,7 @@ use Rattle.answer.proofs.Laws.{taken-answer}
 use Rattle.message.specs.Meaning.{Message, Decoded, refuses, decodes, decode, Checked, fails, passes, envelopeIn, checked, decodedOf}
 use Rattle.answer.specs.declared.Answer.{Answer}
 use Rattle.answer.specs.declared.Answer.the-variants.{Taken, Shut, TooLong, NotJson, NotOurs, BadLayout, TooManyEntries, BadDecimal, PriceTwice, NoSnapshot, OldNumber, TooManyLevels, WrongChecksum, NoLevel, NoRoom, Crossed}
-use Rattle.reference.specs.Reference.{Status, shut, waiting, live, isShut, isLive, Sides, Reference, rules, checksumOf, editsFor, pricesOf, namesPriceTwice, lacksSnapshot, isOld, hasTooMany, hasCrossed, differs, hasWrongChecksum, sidesAfter, verdict, taken, withStatus, refusedBy, answered, received, receive}
+use Rattle.reference.specs.Reference.{Status, shut, waiting, live, isShut, isLive, Sides, Reference, rules, checksumOf, editsFor, pricesOf, namesPriceTwice, lacksSnapshot, isOld, hasTooMany, hasCrossed, differs, hasWrongChecksum, sidesAfter, verdict, taken, withStatus, takenBy, refusedBy, answered, received, receive}
 use Rattle.reference.proofs.Snapshot.{of-snapshot, of-update, a-snapshot, an-update}
 use Rattle.reference.proofs.Checks.{Refusals, Read, Either, checked-either}
 use Rattle.reference.specs.Claims.{Ready, is-live, restarts, Agrees, carries-none, the-same, Uncrossed, Acceptable}
@@ -226,8 +226,8 @@ statusAfter a status = cond (leavesStatus a) status waiting
 
 pub data Outcome (p : Reference) (s : List ℕ) : Type 0 where
   is-refused : isTaken (receive p s .answer) ≡ false → oneOf toMessages (answerNumber (receive p s .answer)) ≡ true → isShut (statusAfter (receive p s .answer) (p .status)) ≡ isShut (p .status)
-      → receive p s .book ≡ withStatus (statusAfter (receive p s .answer) (p .status)) p → Outcome p s
-  is-accepted : (m : Message) → decode (p .config) s ≡ decodes m → Acceptable p m → receive p s ≡ record { book = taken p m; answer = Taken } → Outcome p s
+      → receive p s .book ≡ withStatus (statusAfter (receive p s .answer) (p .status)) p → receive p s .moved ≡ 0 → Outcome p s
+  is-accepted : (m : Message) → decode (p .config) s ≡ decodes m → Acceptable p m → receive p s ≡ takenBy p m → Outcome p s
 
 refused-book : (p : Reference) (a : Answer) → refusedBy p a .book ≡ withStatus (statusAfter a (p .status)) p
 unfolding refusedBy withStatus statusAfter
@@ -248,9 +248,9 @@ stays-open a status u = at (leavesStatus a)
 module _ (p : Reference) (s : List ℕ) where
   refusing : (a : Answer) → refusal a ≡ true → isShut (statusAfter a (p .status)) ≡ isShut (p .status) → receive p s ≡ refusedBy p a → Outcome p s
   unfolding refusedBy
-  refusing a h k e = is-refused (rw e (refusal-other a h)) (rw e (refusal-number a h)) (rw e k) (rw e (refused-book p a))
+  refusing a h k e = is-refused (rw e (refusal-other a h)) (rw e (refusal-number a h)) (rw e k) (rw e (refused-book p a)) (rw e)
 
-  pub acceptable-taken : (m : Message) → decode (p .config) s ≡ decodes m → Acceptable p m → receive p s ≡ record { book = taken p m; answer = Taken }
+  pub acceptable-taken : (m : Message) → decode (p .config) s ≡ decodes m → Acceptable p m → receive p s ≡ takenBy p m
   unfolding receive received answered isTaken answerNumber
   acceptable-taken m q a = rw (ready-open p m (a .ready), q, receive, received, acceptable-verdict p m a, answered, isTaken, answerNumber)
 

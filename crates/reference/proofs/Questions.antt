@@ -9,7 +9,7 @@ use lib.ListN.{length}
 use Rattle.answer.specs.Answers.{answerNumber, isTaken}
 use Rattle.answer.specs.declared.Answer.{Answer}
 use Rattle.answer.specs.declared.Answer.the-variants.{Taken, Shut, NoSnapshot, NoLevel, NoRoom}
-use Rattle.reference.specs.Reference.{isShut, isLive, Reference, stands, sideOf, snapshotText, Question, howMany, levelAt, whichNumber, howManyUpdates, write, Value, nothing, counts, level, amount, zeros, Response, respond, refusal, replied, Ask, message, question, does}
+use Rattle.reference.specs.Reference.{isShut, isLive, Reference, stands, sideOf, snapshotText, Question, howMany, levelAt, whichNumber, howManyUpdates, write, Value, counts, level, amount, zeros, Response, respond, refusal, replied, Ask, message, question, does}
 use Rattle.reference.specs.Claims.{isCurrent, asksPrice}
 use Rattle.reference.specs.declared.Scope.{Scope}
 use Rattle.reference.specs.declared.Scope.the-variants.{Current, LastGood}
@@ -51,7 +51,6 @@ module _ (P : Answer → Type 0) (p-taken : P Taken) (p-shut : P Shut) (p-no-sna
 
 pub zeros-again : (v : Value) → zeros (zeros v) ≡ zeros v
 unfolding zeros
-zeros-again nothing = refl
 zeros-again (counts m n) = refl
 zeros-again (level l) = refl
 zeros-again (amount n) = refl

@@ -12,7 +12,7 @@ use Rattle.answer.specs.Answers.{answerNumber, isTaken, leavesStatus}
 use Rattle.message.specs.Meaning.{Message, Decoded, refuses, decodes, decode}
 use Rattle.answer.specs.declared.Answer.{Answer}
 use Rattle.answer.specs.declared.Answer.the-variants.{Taken}
-use Rattle.reference.specs.Reference.{Status, shut, waiting, live, isShut, isLive, Reference, opened, rules, sidesAfter, taken, After, receive, Question, Reply, Ask, message, question, does, replied, Call, repliesTo, final, withStatus}
+use Rattle.reference.specs.Reference.{Status, shut, waiting, live, isShut, isLive, Reference, opened, rules, sidesAfter, levelsMoved, taken, After, receive, Question, Reply, Ask, message, question, does, replied, Call, repliesTo, final, withStatus}
 use Rattle.reference.specs.Claims.{Ready, is-live, restarts, Uncrossed, Acceptable, ifAnswered, takenIn, takenOf, anySnapshot, sinceSnapshot, Begins, begins, rebuilt}
 use Rattle.layout.specs.Layout.{isSnapshot}
 use Rattle.layout.specs.declared.Kind.the-variants.{Snapshot}
@@ -42,7 +42,7 @@ unfolding does replied takenIn withStatus statusAfter ifAnswered isTaken
 steps p (message s) buffer = go (outcome p s)
   where
     go : Outcome p s → Steps p (message s) (receive p s .book)
-    go (is-refused h n k e) =
+    go (is-refused h n k e none) =
         stays (statusAfter (receive p s .answer) (p .status)) k (refused-live (leavesStatus (receive p s .answer)) (p .status)) (none-taken (receive p s .answer) (decode (p .config) s) h) e
     go (is-accepted m q a e) = moves s m q a (rw (e, q, is-taken Taken refl)) (ap (λ (x : After). x .book) e)
 steps p (question q) buffer = stays (p .status) refl (λ h. h) refl refl
@@ -121,6 +121,10 @@ module _ (p q : Reference) (m : Message) (k : m .kind ≡ Snapshot) (h : p .conf
   pub taken-fresh : taken p m ≡ taken q m
   unfolding taken
   taken-fresh = rw (sides-fresh, of-snapshot k, h)
+
+  pub moved-fresh : levelsMoved p m ≡ levelsMoved q m
+  unfolding levelsMoved
+  moved-fresh = rw (of-snapshot k)
 
   pub acceptable-fresh : Ready q m → Acceptable p m → Acceptable q m
   acceptable-fresh r a =

@@ -14,7 +14,7 @@ use Rattle.answer.specs.Answers.{answerNumber, isTaken}
 use Rattle.message.specs.Meaning.{Message, Decoded, refuses, decodes, decode, Checked, fails, passes, envelopeIn, checked, decodedOf}
 use Rattle.answer.specs.declared.Answer.{Answer}
 use Rattle.answer.specs.declared.Answer.the-variants.{Taken, Shut, PriceTwice, NoSnapshot, OldNumber, TooManyLevels, WrongChecksum, Crossed}
-use Rattle.reference.specs.Reference.{shut, waiting, isShut, Reference, opened, namesPriceTwice, lacksSnapshot, isOld, hasTooMany, hasCrossed, hasWrongChecksum, verdict, taken, refusedBy, answered, received, receive, stands, Question, Response, respond, refusal, replied, Ask, message, question, does, Call, final}
+use Rattle.reference.specs.Reference.{shut, waiting, isShut, Reference, opened, namesPriceTwice, lacksSnapshot, isOld, hasTooMany, hasCrossed, hasWrongChecksum, verdict, takenBy, refusedBy, answered, received, receive, stands, Question, Response, respond, refusal, replied, Ask, message, question, does, Call, final}
 use Rattle.reference.specs.Claims.{Settings-decide}
 use Rattle.reference.proofs.Checks.{Refusals, Read, Either, checked-either}
 use Rattle.reference.proofs.Questions.{lacks-one}
@@ -77,7 +77,7 @@ received-other p s u = rw (u, receive) (go (decode (p .config) s) refl)
     go (refuses a) q = decoded-other (p .config) s a q
     go (decodes m) q = at m (isTaken (verdict p m))
       where
-        at : (m : Message) (b : Bool) → Other (cond b (record { book = taken p m; answer = Taken }) (refusedBy p (verdict p m)) .answer)
+        at : (m : Message) (b : Bool) → Other (cond b (takenBy p m) (refusedBy p (verdict p m)) .answer)
         at m true = refl
         at m false = verdict-other p m
 

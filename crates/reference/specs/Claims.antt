@@ -19,7 +19,7 @@ use Rattle.answer.specs.Answers.{answerNumber as numberOf, oneOf, toMessages, t
 use Rattle.message.specs.Meaning.{Message, Decoded, refuses, decodes, decode}
 use Rattle.answer.specs.declared.Answer.{Answer}
 use Rattle.answer.specs.declared.Answer.the-variants.{Taken, Shut, NoSnapshot}
-use Rattle.reference.specs.Reference.{waiting, live, withStatus, Sides, Reference, rules, isShut, isLive, opened, editsFor, sidesAfter, pricesOf, checksumOf, taken, receive, Question, write, zeros, respond, Reply, Ask, message, question, does, Call, repliesTo, final, snapshotText}
+use Rattle.reference.specs.Reference.{waiting, live, withStatus, Sides, Reference, rules, isShut, isLive, opened, editsFor, sidesAfter, levelsMoved, pricesOf, checksumOf, taken, receive, Question, write, zeros, respond, Reply, Ask, message, question, does, Call, repliesTo, final, snapshotText}
 use Rattle.reference.specs.declared.Scope.{Scope}
 use Rattle.reference.specs.declared.Scope.the-variants.{Current, LastGood}
 
@@ -90,6 +90,8 @@ pub record Demand2 (p : Reference) (s : List ℕ) : Type 0 where
   pub only-when : receive p s .answer ≡ Taken → (m : Message) × (decode (p .config) s ≡ decodes m) × Acceptable p m
   pub when : (m : Message) → decode (p .config) s ≡ decodes m → Acceptable p m → receive p s .answer ≡ Taken
   pub then : (m : Message) → decode (p .config) s ≡ decodes m → receive p s .answer ≡ Taken → receive p s .book ≡ taken p m
+  -- It moved as many levels as its entries do.
+  pub moved : (m : Message) → decode (p .config) s ≡ decodes m → receive p s .answer ≡ Taken → receive p s .moved ≡ levelsMoved p m
 
 abbrev pub Demand-2 : Type 0
 Demand-2 = (p : Reference) (s : List ℕ) → Demand2 p s

@@ -16,6 +16,7 @@ use Rattle.settings.specs.declared.SumText.{SumText}
 use Rattle.settings.specs.declared.SumText.the-variants.{Stripped, Interleaved}
 use Rattle.edit.specs.Edit.{PriceLevel, shownPrice, Edit, forSide}
 use Rattle.level.specs.Side.{namesTwice, applyAll, ranked, crosses}
+use Rattle.level.specs.Moved.{moved}
 use Rattle.edit.specs.Edit.{named}
 use Rattle.edit.specs.declared.Side.{Side}
 use Rattle.edit.specs.declared.Side.the-variants.{Bids, Asks}
@@ -85,13 +86,20 @@ afterEdits t side es s =
     let levels : List PriceLevel = ranked shownPrice side (applyAll shownPrice es s) in
     cond (rulesOf (t .dialect) .cut) (take (t .depth) levels) levels
 
--- A snapshot replaces the book.
+-- A snapshot replaces the book: it starts from empty sides.
+abbrev pub sidesBefore : Reference → Message → Sides
+sidesBefore p m = record { bids = cond (isSnapshot (m .kind)) [] (p .last .sides .bids); asks = cond (isSnapshot (m .kind)) [] (p .last .sides .asks) }
+
 unfoldable pub sidesAfter : Reference → Message → Sides
 sidesAfter p m =
     record {
-      bids = afterEdits (p .config) Bids (editsFor Bids m) (cond (isSnapshot (m .kind)) [] (p .last .sides .bids));
-      asks = afterEdits (p .config) Asks (editsFor Asks m) (cond (isSnapshot (m .kind)) [] (p .last .sides .asks));
+      bids = afterEdits (p .config) Bids (editsFor Bids m) (sidesBefore p m .bids);
+      asks = afterEdits (p .config) Asks (editsFor Asks m) (sidesBefore p m .asks);
     }
+
+-- How many levels a message moves: the sum over its entries, both sides.
+unfoldable pub levelsMoved : Reference → Message → ℕ
+levelsMoved p m = moved shownPrice Bids (editsFor Bids m) (sidesBefore p m .bids) + moved shownPrice Asks (editsFor Asks m) (sidesBefore p m .asks)
 
 -- ---- checks 9 to 13, and 16
 
@@ -147,6 +155,8 @@ verdict p m =
 pub record After : Type 0 where
   pub book : Reference
   pub answer : Answer
+  -- how many levels it moved
+  pub moved : ℕ
 
 abbrev pub maxUpdates : ℕ
 maxUpdates = 4294967295
@@ -168,17 +178,20 @@ unfoldable pub withStatus : Status → Reference → Reference
 withStatus status p = record { config = p .config; status = status; last = p .last; had-snapshot = p .had-snapshot }
 
 unfoldable pub refusedBy : Reference → Answer → After
-refusedBy p a = record { book = cond (leavesStatus a) p (withStatus waiting p); answer = a }
+refusedBy p a = record { book = cond (leavesStatus a) p (withStatus waiting p); answer = a; moved = 0 }
+
+abbrev pub takenBy : Reference → Message → After
+takenBy p m = record { book = taken p m; answer = Taken; moved = levelsMoved p m }
 
 unfoldable pub answered : Reference → Message → Answer → After
-answered p m a = cond (isTaken a) (record { book = taken p m; answer = Taken }) (refusedBy p a)
+answered p m a = cond (isTaken a) (takenBy p m) (refusedBy p a)
 
 unfoldable pub received : Reference → Decoded → After
 received p (refuses a) = refusedBy p a
 received p (decodes m) = answered p m (verdict p m)
 
 unfoldable pub receive : Reference → List ℕ → After
-receive p s = cond (isShut (p .status)) (record { book = p; answer = Shut }) (received p (decode (p .config) s))
+receive p s = cond (isShut (p .status)) (record { book = p; answer = Shut; moved = 0 }) (received p (decode (p .config) s))
 
 -- ---- questions and the writer: 1, 10, 14, 15 in that order; none changes the book
 
@@ -189,13 +202,12 @@ pub data Question : Type 0 where
   howManyUpdates : Scope → Question
   write : Question
 
--- What a question answers with.
+-- What is handed back with an answer.
 pub data Value : Type 0 where
-  nothing : Value
   -- how many bids and asks
   counts : ℕ → ℕ → Value
   level : PriceLevel → Value
-  -- the sequence number, the count of updates, or a length
+  -- how many levels a message moved; the sequence number, the count of updates, or a length
   amount : ℕ → Value
 
 abbrev pub noLevel : PriceLevel
@@ -203,7 +215,6 @@ noLevel = record { price = record { digits = 0; decimals = 0 }; size = record { 
 
 -- "A refused one answers 0 in place of every count, level, book number and length."
 unfoldable pub zeros : Value → Value
-zeros nothing = nothing
 zeros (counts m n) = counts 0 0
 zeros (level l) = level noLevel
 zeros (amount n) = amount 0
@@ -268,7 +279,7 @@ pub data Ask : Type 0 where
   question : Question → Ask
 
 unfoldable pub does : Reference → Ask → List ℕ → Reply
-does p (message s) buffer = record { after = receive p s .book; answer = receive p s .answer; value = nothing; buffer = buffer }
+does p (message s) buffer = record { after = receive p s .book; answer = receive p s .answer; value = amount (receive p s .moved); buffer = buffer }
 does p (question q) buffer = replied p buffer (respond p (length buffer) q)
 
 pub record Call : Type 0 where

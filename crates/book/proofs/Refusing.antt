@@ -20,7 +20,7 @@ use Rattle.message.specs.declared.Verdict.the-variants.{Fails, Passes}
 use Rattle.layout.specs.declared.Outline.{Outline}
 use Rattle.layout.specs.Scan.{outlineOf}
 use Rattle.decimal.specs.Digits.{reads}
-use Rattle.reference.specs.Reference.{waiting, isShut, isLive, Reference, rules, checksumOf, namesPriceTwice, lacksSnapshot, isOld, hasTooMany, hasCrossed, differs, hasWrongChecksum, verdict, After, taken, withStatus, refusedBy, answered, received, receive}
+use Rattle.reference.specs.Reference.{waiting, isShut, isLive, Reference, rules, checksumOf, namesPriceTwice, lacksSnapshot, isOld, hasTooMany, hasCrossed, differs, hasWrongChecksum, verdict, After, taken, takenBy, withStatus, refusedBy, answered, received, receive}
 use Rattle.settings.specs.Rules.{rulesOf}
 use Rattle.book.specs.Shown.{shows, Good, Received}
 use Rattle.book.specs.Taking.{refusedStep, judgedChecksum, weighed}
@@ -42,17 +42,19 @@ module _ (b : Book) (g : Good b) (u : isShut (statusOf (b .lifecycle .state)) �
   unfolding refusedBy refusedStep refusedLifecycle withStatus shows statusOf
   refused-told a = at (leavesStatus a)
     where
-      at : (t : Bool) → Received (record { book = cond t (shows b) (withStatus waiting (shows b)); answer = a })
+      at : (t : Bool) → Received (record { book = cond t (shows b) (withStatus waiting (shows b)); answer = a; moved = 0 })
           (record {
             book = record { bids = b .bids; asks = b .asks; settings = b .settings; number = b .number; updates = b .updates; lifecycle = record { state = cond t (b .lifecycle .state) Waiting; «had_snapshot» = b .lifecycle .«had_snapshot» } };
             answer = a;
+            moved = 0;
           })
-      at true = record { good = g; same = refl; answer = refl }
+      at true = record { good = g; same = refl; answer = refl; moved = refl }
       at false =
           record {
             good = record { room = g .room; short = g .short; config = λ h. g .config u; bids = g .bids; asks = g .asks; few-bids = g .few-bids; few-asks = g .few-asks; small = g .small };
             same = refl;
             answer = refl;
+            moved = refl;
           }
 
 -- a book that shows the same answers the same
@@ -61,14 +63,14 @@ told-as r h t = subst (λ (z : After). Received z r) (sym h) t
 
 -- ---- what is heard
 
-pub hear-shut : (p : Reference) (s : List ℕ) → isShut (p .status) ≡ true → receive p s ≡ record { book = p; answer = Shut }
+pub hear-shut : (p : Reference) (s : List ℕ) → isShut (p .status) ≡ true → receive p s ≡ record { book = p; answer = Shut; moved = 0 }
 unfolding receive
 hear-shut p s u = rw (u, receive)
 
 -- a shut book answers so, and stays as it is
 pub shut-told : (b : Book) (s : List ℕ) → Good b → isShut (statusOf (b .lifecycle .state)) ≡ true → Received (receive (shows b) s) (refusedStep b Shut)
 unfolding shows refusedStep refusedLifecycle leavesStatus answerNumber oneOf
-shut-told b s g u = told-as (refusedStep b Shut) (hear-shut (shows b) s u) (record { good = g; same = refl; answer = refl })
+shut-told b s g u = told-as (refusedStep b Shut) (hear-shut (shows b) s u) (record { good = g; same = refl; answer = refl; moved = refl })
 
 module _ (p : Reference) (s : List ℕ) (u : isShut (p .status) ≡ false) where
   pub hear-fails : (a : Answer) → checked (p .config) s ≡ fails a → receive p s ≡ refusedBy p a
@@ -132,7 +134,7 @@ module _ (p : Reference) (m : Message) where
             unfolding verdict answered isTaken answerNumber
             thirteen e = rw (a, b, c, d, x, e, verdict, answered, isTaken, answerNumber)
 
-            pub none-fits : hasWrongChecksum p m ≡ false → heard ≡ record { book = taken p m; answer = Taken }
+            pub none-fits : hasWrongChecksum p m ≡ false → heard ≡ takenBy p m
             unfolding verdict answered isTaken answerNumber
             none-fits e = rw (a, b, c, d, x, e, verdict, answered, isTaken, answerNumber)
 

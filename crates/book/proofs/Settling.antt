@@ -29,6 +29,7 @@ use Rattle.level.specs.Words.{levelPrice, shown}
 use Rattle.level.specs.Side.{namesTwice, applyAll, ranked, crosses}
 use Rattle.level.specs.Ranked.{All, IsSet, Sorted, afterMessage, replaced}
 use Rattle.edit.specs.Edit.{named}
+use Rattle.level.specs.Moved.{moved}
 use Rattle.level.specs.Kept.{keptIn, held}
 use Rattle.level.specs.Kept as kept·
 use Rattle.piece.specs.Piece.{kPiece, mPiece}
@@ -37,6 +38,7 @@ use Rattle.level.specs.declared.Levels.{Levels}
 use Rattle.level.proofs.Lengths.{length-ranked, length-applyAll, afterMessage-whole}
 use Rattle.level.proofs.Mapping.{shown-crosses}
 use Rattle.level.proofs.Meeting.{met-snapshot}
+use Rattle.level.proofs.Moving.{moved-few}
 use Rattle.side.specs.Applying.{Given}
 use Rattle.sides.specs.Worked.{SideAfter, Sound, editsFor, Worked}
 use Rattle.layout.specs.Layout.{isSnapshot, printed, unprinted}
@@ -49,7 +51,7 @@ use Rattle.answer.specs.declared.Answer.{Answer}
 use Rattle.message.specs.declared.Verdict.{Verdict}
 use Rattle.message.specs.declared.Verdict.the-variants.{Fails, Passes}
 use Rattle.answer.specs.declared.Answer.the-variants.{Taken, PriceTwice, NoSnapshot, OldNumber, TooManyLevels, WrongChecksum, Crossed}
-use Rattle.reference.specs.Reference.{live, isLive, Sides, Reference, After, editsFor as editsOf, afterEdits, sidesAfter, pricesOf, checksumOf, namesPriceTwice, lacksSnapshot, isOld, hasTooMany, hasCrossed, differs, hasWrongChecksum, oneMore, taken, refusedBy, receive}
+use Rattle.reference.specs.Reference.{live, isLive, Sides, Reference, After, editsFor as editsOf, afterEdits, sidesAfter, levelsMoved, pricesOf, checksumOf, namesPriceTwice, lacksSnapshot, isOld, hasTooMany, hasCrossed, differs, hasWrongChecksum, oneMore, taken, takenBy, refusedBy, receive}
 use Rattle.book.specs.Shown.{shows, textOf, Good, Received}
 use Rattle.book.specs.Taking.{entriesOf, messageIn, Passed, afterIn, Ready, sideBefore, refusedStep, keptStep, Judged, judgedChecksum, weighed}
 use Rattle.book.specs.declared.Book.{Book}
@@ -190,10 +192,10 @@ module _ (b : Book) (o : Outline) (buffer : List ℕ) (k : Passed b o buffer) wh
   refuse-as a e = told-as (refusedStep b a) e (refused-told b (k .good) (k .unshut) a)
 
   -- ---- checks 16 and 13, and then the book with these sides
-  abbrev finished : Levels → Levels → Answer → Step
-  finished bids asks a = cond (isTaken a) (keptStep b o bids asks) (refusedStep b a)
+  abbrev finished : Levels → Levels → ℕ → Answer → Step
+  finished bids asks n a = cond (isTaken a) (keptStep b o bids asks n) (refusedStep b a)
 
-  module _ (bids asks : Levels) where
+  module _ (bids asks : Levels) (n : ℕ) where
     abbrev both-sides : Sides
     both-sides = record { bids = map shown (held bids); asks = map shown (held asks) }
 
@@ -203,6 +205,7 @@ module _ (b : Book) (o : Outline) (buffer : List ℕ) (k : Passed b o buffer) wh
       pub bids-few : length (held bids) ≤ b .settings .depth
       pub asks-few : length (held asks) ≤ b .settings .depth
       pub sides-are : both-sides ≡ sidesAfter p m
+      pub moved-are : n ≡ levelsMoved p m
       pub not-twice : namesPriceTwice m ≡ false
       pub not-lacking : lacksSnapshot p m ≡ false
       pub not-old : isOld p m ≡ false
@@ -219,7 +222,7 @@ module _ (b : Book) (o : Outline) (buffer : List ℕ) (k : Passed b o buffer) wh
     crossed-told : Settles → crosses levelPrice (held bids) (held asks) ≡ true → Received next (refusedStep b Crossed)
     crossed-told z x = refuse-as Crossed (sixteen p m (z .not-twice) (z .not-lacking) (z .not-old) (z .not-many) (crossed-is z ∙ x))
 
-    settled-told : Settles → crosses levelPrice (held bids) (held asks) ≡ false → Received next (finished bids asks (cond wrong WrongChecksum Taken))
+    settled-told : Settles → crosses levelPrice (held bids) (held asks) ≡ false → Received next (finished bids asks n (cond wrong WrongChecksum Taken))
     unfolding hasWrongChecksum shows configOf keptStep liveLifecycle taken statusOf isTaken answerNumber
     settled-told z x = at (hasWrongChecksum p m) refl
       where
@@ -235,7 +238,7 @@ module _ (b : Book) (o : Outline) (buffer : List ℕ) (k : Passed b o buffer) wh
               had-snapshot = isSnapshot kind || b .lifecycle .«had_snapshot»;
             }
 
-        fresh : Received (record { book = taken p m; answer = Taken }) (keptStep b o bids asks)
+        fresh : Received (takenBy p m) (keptStep b o bids asks n)
         fresh =
             record {
               good = record {
@@ -250,11 +253,12 @@ module _ (b : Book) (o : Outline) (buffer : List ℕ) (k : Passed b o buffer) wh
               };
               same = ap (λ (x : Sides). after x (o .kind) (o .number)) (z .sides-are);
               answer = refl;
+              moved = z .moved-are;
             }
 
-        at : (t : Bool) → hasWrongChecksum p m ≡ t → Received next (finished bids asks (cond wrong WrongChecksum Taken))
+        at : (t : Bool) → hasWrongChecksum p m ≡ t → Received next (finished bids asks n (cond wrong WrongChecksum Taken))
         at true e = rw (test ∙ e) (refuse-as WrongChecksum (thirteen p m (z .not-twice) (z .not-lacking) (z .not-old) (z .not-many) (crossed-is z ∙ x) e))
-        at false e = rw (test ∙ e) (told-as (keptStep b o bids asks) (none-fits p m (z .not-twice) (z .not-lacking) (z .not-old) (z .not-many) (crossed-is z ∙ x) e) fresh)
+        at false e = rw (test ∙ e) (told-as (keptStep b o bids asks n) (none-fits p m (z .not-twice) (z .not-lacking) (z .not-old) (z .not-many) (crossed-is z ∙ x) e) fresh)
 
   -- ---- checks 10 and 11
 
@@ -340,6 +344,18 @@ module _ (b : Book) (o : Outline) (buffer : List ℕ) (k : Passed b o buffer) wh
     count-is : a .count ≡ length (applyAll shownPrice edits base)
     count-is = w .count ∙ ap₂ (λ (x : List (Edit PriceLevel)) (y : List PriceLevel). length (applyAll shownPrice x y)) same-edits (before-shown kept)
 
+    moved-is : a .moved ≡ moved shownPrice side edits base
+    moved-is = w .moved ∙ ap₂ (λ (x : List (Edit PriceLevel)) (y : List PriceLevel). moved shownPrice side x y) same-edits (before-shown kept)
+
+    pub moved-small : Given side buffer (o .bids + o .asks) → Sound t side kept → length (held kept) ≤ b .settings .depth → a .moved ≤ 14950
+    unfolding editsFor
+    moved-small g z f =
+        let x = length-map (forSide sideOf side es) editOf in
+        let y = length-map (held (sideBefore o kept)) shown in
+        subst (λ (n : ℕ). n ≤ 14950) (sym (w .moved))
+        (moved-few shownPrice side (editsFor side es) (map shown (held (sideBefore o kept)))
+        (omega (arith, g .own)) (omega (arith, depth-most, before-asked side kept z f .1)))
+
     met-is : a .replaced ≡ replaced shownPrice edits base
     met-is = w .replaced ∙ ap₂ (λ (x : List (Edit PriceLevel)) (y : List PriceLevel). replaced shownPrice x y) same-edits (before-shown kept)
 
@@ -391,8 +407,11 @@ module _ (b : Book) (o : Outline) (buffer : List ℕ) (k : Passed b o buffer) wh
         ap₂ (λ (x y : Bool). x || y) (over-is Bids (b .bids) bids wb) (over-is Asks (b .asks) asks wa)
         ∙ not-each (r .cut) (ltb (r .levels) (bids .count)) (ltb (r .levels) (asks .count))
 
-    settles : (isSnapshot (o .kind) && (bids .replaced || asks .replaced)) ≡ false → (not (r .cut) && over) ≡ false → Settles (bids .levels) (asks .levels)
-    unfolding sidesAfter shows configOf
+    abbrev moves : ℕ
+    moves = bids .moved + asks .moved
+
+    settles : (isSnapshot (o .kind) && (bids .replaced || asks .replaced)) ≡ false → (not (r .cut) && over) ≡ false → Settles (bids .levels) (asks .levels) moves
+    unfolding sidesAfter levelsMoved shows configOf
     settles x y =
         record {
           bids-sound = wb .sound;
@@ -402,6 +421,7 @@ module _ (b : Book) (o : Outline) (buffer : List ℕ) (k : Passed b o buffer) wh
           sides-are = ap₂ (λ (u v : List PriceLevel). record { bids = u; asks = v })
               (after-same Bids (b .bids) bids wb (λ e. within (r .cut) e y .0))
               (after-same Asks (b .asks) asks wa (λ e. within (r .cut) e y .1));
+          moved-are = ap₂ (λ (u v : ℕ). u + v) (moved-is Bids (b .bids) bids wb) (moved-is Asks (b .asks) asks wa);
           not-twice = twice-is ∙ x;
           not-lacking = passed-both judged .0;
           not-old = passed-both judged .1;
@@ -414,7 +434,7 @@ module _ (b : Book) (o : Outline) (buffer : List ℕ) (k : Passed b o buffer) wh
             let g = or-none (ltb (r .levels) (bids .count)) (ltb (r .levels) (asks .count)) f in
             (ltb-false (r .levels) (bids .count) (g .0), ltb-false (r .levels) (asks .count) (g .1))
 
-    weighed-told : Received next (finished (bids .levels) (asks .levels) found)
+    weighed-told : Received next (finished (bids .levels) (asks .levels) moves found)
     unfolding weighed judgedSides judgedChecksum isTaken answerNumber
     weighed-told = at (isSnapshot (o .kind) && (bids .replaced || asks .replaced)) refl (not (r .cut) && over) refl (crosses levelPrice (held (bids .levels)) (held (asks .levels))) refl
       where
@@ -422,25 +442,25 @@ module _ (b : Book) (o : Outline) (buffer : List ℕ) (k : Passed b o buffer) wh
         first x y z = cond x PriceTwice (cond y TooManyLevels (cond z Crossed Taken))
 
         at : (x : Bool) → (isSnapshot (o .kind) && (bids .replaced || asks .replaced)) ≡ x → (y : Bool) → (not (r .cut) && over) ≡ y → (z : Bool) → crosses levelPrice (held (bids .levels)) (held (asks .levels)) ≡ z
-            → Received next (finished (bids .levels) (asks .levels) (cond (isTaken (first x y z)) (cond (wrong (bids .levels) (asks .levels)) WrongChecksum Taken) (first x y z)))
+            → Received next (finished (bids .levels) (asks .levels) moves (cond (isTaken (first x y z)) (cond (wrong (bids .levels) (asks .levels) moves) WrongChecksum Taken) (first x y z)))
         at true e y f z g = refuse-as PriceTwice (nine p m (twice-is ∙ e))
         at false e true f z g = refuse-as TooManyLevels (twelve p m (twice-is ∙ e) (passed-both judged .0) (passed-both judged .1) (many-is ∙ f))
-        at false e false f true g = crossed-told (bids .levels) (asks .levels) (settles e f) g
-        at false e false f false g = settled-told (bids .levels) (asks .levels) (settles e f) g
+        at false e false f true g = crossed-told (bids .levels) (asks .levels) moves (settles e f) g
+        at false e false f false g = settled-told (bids .levels) (asks .levels) moves (settles e f) g
 
     -- the same for an answer that the code found
     module _ (a : Answer) (e : a ≡ found) where
-      step-told : Received next (finished (bids .levels) (asks .levels) a)
-      step-told = subst (λ (y : Answer). Received next (finished (bids .levels) (asks .levels) y)) (sym e) weighed-told
+      step-told : Received next (finished (bids .levels) (asks .levels) moves a)
+      step-told = subst (λ (y : Answer). Received next (finished (bids .levels) (asks .levels) moves y)) (sym e) weighed-told
 
-      pub kept-told : isTaken a ≡ true → Received next (record { book = keptStep b o (bids .levels) (asks .levels) .book; answer = a })
+      pub kept-told : isTaken a ≡ true → Received next (record { book = keptStep b o (bids .levels) (asks .levels) moves .book; answer = a; moved = moves })
       unfolding keptStep
       kept-told h =
-          let x : Received next (keptStep b o (bids .levels) (asks .levels)) = subst (λ (t : Bool). Received next (cond t (keptStep b o (bids .levels) (asks .levels)) (refusedStep b a))) h step-told in
-          record { good = x .good; same = x .same; answer = taken-answer a h ∙ x .answer }
+          let x : Received next (keptStep b o (bids .levels) (asks .levels) moves) = subst (λ (t : Bool). Received next (cond t (keptStep b o (bids .levels) (asks .levels) moves) (refusedStep b a))) h step-told in
+          record { good = x .good; same = x .same; answer = taken-answer a h ∙ x .answer; moved = x .moved }
 
       pub left-told : isTaken a ≡ false → Received next (refusedStep b a)
-      left-told h = subst (λ (t : Bool). Received next (cond t (keptStep b o (bids .levels) (asks .levels)) (refusedStep b a))) h step-told
+      left-told h = subst (λ (t : Bool). Received next (cond t (keptStep b o (bids .levels) (asks .levels) moves) (refusedStep b a))) h step-told
 
 -- ---- checksums
 

@@ -66,7 +66,7 @@ abbrev pub partsOf : Book → BookParts
 partsOf b = record { bids = b .bids .words; asks = b .asks .words; header = headerOf b }
 
 abbrev pub stepOf : List ℕ → List ℕ → Answered → Step
-stepOf bids asks r = record { book = bookOf bids asks (r .header); answer = r .answer }
+stepOf bids asks r = record { book = bookOf bids asks (r .header); answer = r .answer; moved = r .moved }
 
 -- The text that the book's checksum is made of.
 abbrev pub textOf : Book → SumText
@@ -94,6 +94,7 @@ pub record Received (a : After) (r : Step) : Type 0 where
   pub good : Good (r .book)
   pub same : shows (r .book) ≡ a .book
   pub answer : r .answer ≡ a .answer
+  pub moved : r .moved ≡ a .moved
 
 -- The same in words that are lent: of a message that is taken, the words past the levels that are left stay as they were, and a refusal leaves every
 -- word as it was.

@@ -73,14 +73,16 @@ refusedStep b a =
     record {
       book = record { bids = b .bids; asks = b .asks; settings = b .settings; number = b .number; updates = b .updates; lifecycle = refusedLifecycle (b .lifecycle) a };
       answer = a;
+      moved = 0;
     }
 
--- A book that takes a message, which makes these sides.
-unfoldable pub keptStep : Book → Outline → Levels → Levels → Step
-keptStep b o bids asks =
+-- A book that takes a message, which makes these sides and moves so many levels.
+unfoldable pub keptStep : Book → Outline → Levels → Levels → ℕ → Step
+keptStep b o bids asks moved =
     record {
       book = record { bids = bids; asks = asks; settings = b .settings; number = o .number; updates = cond (isSnapshot (o .kind)) 0 (oneMore (b .updates)); lifecycle = liveLifecycle (b .lifecycle) (o .kind) };
       answer = Taken;
+      moved = moved;
     }
 
 -- .. and its header, where so many bids and asks are left.

@@ -66,16 +66,18 @@ pub struct BookParts {
     pub header: Header,
 }
 
-// The answer to a message, where the words of the sides are lent.
+// The answer to a message, where the words of the sides are lent, and how many levels it moved.
 pub struct Answered {
     pub header: Header,
     pub answer: Answer,
+    pub moved: usize,
 }
 
-// The answer to a message.
+// The answer to a message, and how many levels it moved: 0 where it is refused.
 pub struct Step {
     pub book: Book,
     pub answer: Answer,
+    pub moved: usize,
 }
 
 // How many bids and asks there are.
@@ -213,6 +215,7 @@ impl Book {
         Step {
             book: join(bids, asks, header),
             answer,
+            moved: answered.moved,
         }
     }
 

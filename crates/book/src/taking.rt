@@ -56,6 +56,7 @@ pub fn receive(
         Verdict::Fails(refusal) => Answered {
             header: refuse(header, refusal),
             answer: refusal,
+            moved: 0,
         },
         Verdict::Passes(outline) => {
             if outline.bids == 0 {
@@ -160,11 +161,13 @@ fn try_entries(
         return Answered {
             header: renew(header, outline, bid_side.left, ask_side.left),
             answer,
+            moved: bid_side.moved + ask_side.moved,
         };
     }
     Answered {
         header: refuse(header, answer),
         answer,
+        moved: 0,
     }
 }
 

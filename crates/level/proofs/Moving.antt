@@ -3,7 +3,7 @@ use Prim.Native.Nat.{ℕ, zero, suc, _+_, _-_, _*_, _≤_}
 use mathlib.Core.Path.{_≡_, refl, sym, ap, ap₂, _∙_}
 use mathlib.Core.Bool.{Bool, true, false, cond}
 use mathlib.Core.List.{List, [], _∷_, map}
-use native.Mathlib.Nat.{mul-suc, suc-mul, mul-le-mul-left}
+use native.Mathlib.Nat.{mul-suc, suc-mul, mul-le-mul-left, mul-le-mul}
 use native.Mathlib.Omega.{arith}
 use lib.ListN.{length, take, drop, length-map}
 use Rattle.decimal.specs.Decimal.{Number, value}
@@ -149,3 +149,12 @@ moved-bound A priceOf side [] s = omega arith
 moved-bound A priceOf side (e ∷ es) s =
     more-bound (length es) (length s) (length (apply priceOf e s)) (moves priceOf side e s) (moved priceOf side es (apply priceOf e s))
     (moves-le priceOf side e s) (length-apply priceOf e s) (moved-bound A priceOf side es (apply priceOf e s))
+
+-- on a side of a book, from a message
+pub moved-few : {A : Type 0} (priceOf : A → Number) (side : Side) (es : List (Edit A)) (s : List A) → length es ≤ 100 → length s ≤ 100 → moved priceOf side es s ≤ 14950
+moved-few {A} priceOf side es s k n =
+    let h = moved-bound A priceOf side es s in
+    let x : length es * length s ≤ 100 * 100 = mul-le-mul k n in
+    let l : length es - 1 ≤ 99 = omega arith in
+    let y : length es * (length es - 1) ≤ 100 * 99 = mul-le-mul k l in
+    omega arith

@@ -21,8 +21,8 @@ returns c =
     let a = c .before .before .before .before .before .before .before .before .before .before .args in
     let b = a .self in
     let answer = c .before .before .take .result .answer in
-    subst (λ (x : Book). Received (receive (shows b) (now (a .s))) (record { book = x; answer = answer })) (sym (c .join .ensures))
-    (subst (λ (h : Header). Received (receive (shows (bookOf (b .bids .words) (b .asks .words) h)) (now (a .s))) (record { book = bookOf (c .before .before .take .last .1 .0) (c .before .before .take .last .1 .1 .0) (c .before .before .take .result .header); answer = answer })) (c .before .before .before .before .before .before .header .ensures)
+    subst (λ (x : Book). Received (receive (shows b) (now (a .s))) (record { book = x; answer = answer; moved = c .before .before .take .result .moved })) (sym (c .join .ensures))
+    (subst (λ (h : Header). Received (receive (shows (bookOf (b .bids .words) (b .asks .words) h)) (now (a .s))) (record { book = bookOf (c .before .before .take .last .1 .0) (c .before .before .take .last .1 .1 .0) (c .before .before .take .result .header); answer = answer; moved = c .before .before .take .result .moved })) (c .before .before .before .before .before .before .header .ensures)
     (c .before .before .take .ensures .received))
 
 pub take-spec : {M : Type 1} → statement M

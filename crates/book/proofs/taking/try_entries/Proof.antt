@@ -2,18 +2,20 @@
 use mathlib.Core.Path.{_≡_, refl, sym, subst, _∙_}
 use mathlib.Core.Bool.{true≢false}
 use mathlib.Core.List.{List}
-use Prim.Native.Nat.{ℕ}
+use Prim.Native.Nat.{ℕ, _+_}
+use native.Mathlib.Omega.{arith}
 use denote.Ref.{now}
 use Rattle.lifecycle.specs.Lifecycle.{judgedUpdate}
 use Rattle.settings.specs.Rules.{rulesOf}
 use Rattle.sides.specs.Worked.{SideAfter, sideAfter}
+use Rattle.edit.specs.declared.Side.the-variants.{Bids, Asks}
 use Rattle.layout.specs.declared.Outline.{Outline}
 use Rattle.message.specs.declared.Verdict.the-variants.{Passes}
 use Rattle.book.specs.Shown.{bookOf, ReceivedAs}
 use Rattle.book.specs.Taking.{Passed, afterIn, refusedStep, keptStep}
 use Rattle.book.specs.declared.Book.{Book}
 use Rattle.book.specs.declared.Header.{Header}
-use Rattle.book.proofs.Settling.{kept-told, left-told}
+use Rattle.book.proofs.Settling.{moved-small, kept-told, left-told}
 use borrow.Author.Needs.{needs}
 use Rattle.book.proofs.taking.try_entries.Statement.{statement}
 use Rattle.book.proofs.taking.try_entries.Tie as tie
@@ -37,20 +39,29 @@ asksOf c = sideAfter (c .enter .last .1 .1 .1 .0) (c .enter .result .asks)
 enter-requires : tie.Need-enter-requires
 enter-requires c κs = let s = c .before .before .before .before in (s .pre .0 .passed, s .pre .1)
 
+add-moved : tie.Need-add-t19
+add-moved c =
+    let n = c .before .before .before .before .before .before .before .before .before .before in
+    let s = n .before .before .before .before .before in
+    let k = s .pre .0 .passed in
+    let x = moved-small (bookAt s) (outlineAt s) (bufferAt s) k Bids (bookAt s .bids) (bidsOf n) (n .enter .ensures .bids-worked) (k .bids-given) (k .good .bids) (k .good .few-bids) in
+    let y = moved-small (bookAt s) (outlineAt s) (bufferAt s) k Asks (bookAt s .asks) (asksOf n) (n .enter .ensures .asks-worked) (k .asks-given) (k .good .asks) (k .good .few-asks) in
+    omega arith
+
 returns : tie.Need-returns
 unfolding keptStep
 returns c =
-    let n = c .before .before .before .before .before .before .before .before in
+    let n = c .before .before .before .before .before .before .before .before .before .before in
     let s = n .before .before .before .before .before in
-    let answer = c .before .before .before .weigh .result in
-    let is = sym (c .before .before .is-taken .ensures) ∙ c .before .if1 .taken in
+    let answer = c .before .before .before .before .before .weigh .result in
+    let is = sym (c .before .before .before .before .is-taken .ensures) ∙ c .before .before .before .if1 .taken in
     let bids = n .enter .ensures .bids-worked in
     let asks = n .enter .ensures .asks-worked in
     record {
       taken = λ t.
-          subst (λ (h : Header). ReceivedAs (bookAt s) (afterIn (bookAt s) (outlineAt s) (bufferAt s)) (bidsOf n .levels .words) (asksOf n .levels .words) (record { header = h; answer = answer })) (sym (c .renew .ensures))
+          subst (λ (h : Header). ReceivedAs (bookAt s) (afterIn (bookAt s) (outlineAt s) (bufferAt s)) (bidsOf n .levels .words) (asksOf n .levels .words) (record { header = h; answer = answer; moved = bidsOf n .moved + asksOf n .moved })) (sym (c .before .before .renew .ensures))
           (record {
-            received = kept-told (bookAt s) (outlineAt s) (bufferAt s) (s .pre .0 .passed) (s .pre .0 .updates) (bidsOf n) (asksOf n) bids asks answer (c .before .before .before .weigh .ensures) is;
+            received = kept-told (bookAt s) (outlineAt s) (bufferAt s) (s .pre .0 .passed) (s .pre .0 .updates) (bidsOf n) (asksOf n) bids asks answer (c .before .before .before .before .before .weigh .ensures) is;
             settings = refl;
             bids-past = λ y. bids .past;
             asks-past = λ y. asks .past;
@@ -72,7 +83,7 @@ returns-2 c =
     record {
       taken = λ t. absurd (true≢false (sym t ∙ is));
       refused = λ t.
-          subst (λ (h : Header). ReceivedAs (bookAt s) (afterIn (bookAt s) (outlineAt s) (bufferAt s)) (bookAt s .bids .words) (bookAt s .asks .words) (record { header = h; answer = answer })) (sym (c .refuse .ensures))
+          subst (λ (h : Header). ReceivedAs (bookAt s) (afterIn (bookAt s) (outlineAt s) (bufferAt s)) (bookAt s .bids .words) (bookAt s .asks .words) (record { header = h; answer = answer; moved = 0 })) (sym (c .refuse .ensures))
           (record {
             received = left-told (bookAt s) (outlineAt s) (bufferAt s) (s .pre .0 .passed) (s .pre .0 .updates) (bidsOf n) (asksOf n) (n .enter .ensures .bids-worked) (n .enter .ensures .asks-worked) answer (c .before .before .before .weigh .ensures) is;
             settings = refl;
@@ -93,6 +104,7 @@ try-entries-spec =
     (λ c κs. search needs)
     (λ c κs. search needs)
     (λ c κs. search needs)
+    add-moved
     returns
     (λ c κs. search needs)
     returns-2)

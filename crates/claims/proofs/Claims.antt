@@ -6,7 +6,7 @@ use mathlib.Core.List.{List, [], _∷_, map}
 use denote.Ref.{now}
 use Rattle.decimal.specs.Decimal.{number as numberOf}
 use Rattle.answer.specs.declared.Answer.{Answer}
-use Rattle.reference.specs.Reference.{Reference, Value, nothing, counts, level, amount, Reply, Ask, message, question, replied, howMany, levelAt, whichNumber, howManyUpdates, write, does, Call, repliesTo, final}
+use Rattle.reference.specs.Reference.{Reference, Value, counts, level, amount, Reply, Ask, message, question, replied, howMany, levelAt, whichNumber, howManyUpdates, write, does, Call, repliesTo, final}
 use native.Mathlib.Omega.{arith}
 use Rattle.reference.specs.Claims.{call}
 use Rattle.settings.specs.Settings.{Config}
@@ -45,7 +45,7 @@ unfolding does replied repliesTo final
 made g no-call = record { replies = refl; good = g; ends = refl }
 made {b} g (a-message {buffer = u} {r = r} {cs = cs} {rs = rs} κs s h k) =
     let t = h g in
-    more (shows b) (message (now s)) u (shows (r .book)) (r .answer) nothing u (t .same) (t .answer) refl refl cs rs _ (made (t .good) k)
+    more (shows b) (message (now s)) u (shows (r .book)) (r .answer) (amount (r .moved)) u (t .same) (t .answer) (ap amount (t .moved)) refl cs rs _ (made (t .good) k)
 made {b} g (a-count {scope = c} {buffer = u} {r = r} {cs = cs} {rs = rs} κs h k) =
     let t = h g in
     more (shows b) (question (howMany c)) u (shows (r .book)) (r .answer) (counts (r .bids) (r .asks)) u (ap shows (t .book)) (t .answer u) (t .value u) (same-buffer (shows b) (howMany c) u (λ e. let z : _≡_ {A = ℕ} 0 1 = cc in omega arith)) cs rs _

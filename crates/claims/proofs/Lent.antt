@@ -5,7 +5,7 @@ use mathlib.Core.List.{List, [], _∷_, map}
 use native.Mathlib.Omega.{arith}
 use denote.Ref.{now}
 use Rattle.answer.specs.declared.Answer.{Answer}
-use Rattle.reference.specs.Reference.{Reference, Value, nothing, counts, Reply, Ask, message, question, howMany, does, replied, repliesTo, Call}
+use Rattle.reference.specs.Reference.{Reference, Value, counts, amount, Reply, Ask, message, question, howMany, does, replied, repliesTo, Call}
 use Rattle.reference.specs.Claims.{call}
 use Rattle.reference.proofs.Claims.{same-buffer}
 use Rattle.book.specs.Shown.{shows, bookOf, Good}
@@ -26,7 +26,7 @@ unfolding does replied repliesTo
 made-in g no-call-in = refl
 made-in {h} g (a-message-in {r = r} {buffer = w} {cs = cs} {rs = rs} κs u v x y s t κt t0 f l k) =
     let e = l (g, f .right) .received in
-    one-more (shows (bookOf (now u) (now v) h)) (message (now s)) w (shows (bookOf (now x) (now y) (r .header))) (r .answer) nothing w (e .same) (e .answer) refl refl cs rs (made-in (e .good) k)
+    one-more (shows (bookOf (now u) (now v) h)) (message (now s)) w (shows (bookOf (now x) (now y) (r .header))) (r .answer) (amount (r .moved)) w (e .same) (e .answer) (ap amount (e .moved)) refl cs rs (made-in (e .good) k)
 made-in {h} {bids} {asks} g (a-count-in {buffer = w} {scope = c} {r = r} {cs = cs} {rs = rs} κs l k) =
     let e = counts-told h c r l bids asks g in
     one-more (shows (bookOf bids asks h)) (question (howMany c)) w (shows (bookOf bids asks h)) (r .answer) (counts (r .bids) (r .asks)) w refl (e .answer w) (e .value w)

@@ -15,7 +15,7 @@ use Rattle.settings.specs.Settings.{kept}
 use Rattle.layout.specs.declared.Kind.the-variants.{Snapshot}
 use Rattle.message.specs.Meaning.{Message, decodes, decode}
 use Rattle.answer.specs.declared.Answer.the-variants.{Taken}
-use Rattle.reference.specs.Reference.{opened, Value, nothing, counts, level, amount, Reply, message, Question, question, howMany, levelAt, whichNumber, howManyUpdates, write, Call, repliesTo}
+use Rattle.reference.specs.Reference.{opened, Value, counts, level, amount, Reply, message, Question, question, howMany, levelAt, whichNumber, howManyUpdates, write, Call, repliesTo}
 use Rattle.reference.specs.Claims.{call}
 use Rattle.reference.specs.declared.Scope.{Scope}
 use Rattle.book.specs.declared.Book.{Book}
@@ -46,7 +46,7 @@ pub data Made : Book → List Call → List Seen → Book → Type 0 where
   no-call : {b : Book} → Made b [] [] b
   a-message : {b e : Book} {buffer : List ℕ} {r : Step} {cs : List Call} {rs : List Seen} (κs : Lfts 1) (s : RefT (List ℕ))
       → (takes.Asked κs (b, (s, tt)) → takes.Learnt κs (b, (s, tt)) r (b, (s, tt))) → Made (r .book) cs rs e
-      → Made b (call (message (now s)) buffer ∷ cs) (record { answer = r .answer; value = nothing; buffer = buffer } ∷ rs) e
+      → Made b (call (message (now s)) buffer ∷ cs) (record { answer = r .answer; value = amount (r .moved); buffer = buffer } ∷ rs) e
   a-count : {b e : Book} {scope : Scope} {buffer : List ℕ} {r : CountsReply} {cs : List Call} {rs : List Seen} (κs : Lfts 0)
       → (counters.Asked κs (b, (scope, tt)) → counters.Learnt κs (b, (scope, tt)) r (b, (scope, tt))) → Made (r .book) cs rs e
       → Made b (call (question (howMany scope)) buffer ∷ cs) (record { answer = r .answer; value = counts (r .bids) (r .asks); buffer = buffer } ∷ rs) e

@@ -7,7 +7,7 @@ use contract.Lifetimes.{Lfts}
 use denote.Ref.{RefT, now}
 use Rattle.settings.specs.declared.Dialect.{Dialect}
 use Rattle.lifecycle.specs.declared.Counts.{Counts}
-use Rattle.reference.specs.Reference.{opened, nothing, counts, message, question, howMany, Call, repliesTo}
+use Rattle.reference.specs.Reference.{opened, counts, amount, message, question, howMany, Call, repliesTo}
 use Rattle.reference.specs.Claims.{call}
 use Rattle.reference.specs.declared.Scope.{Scope}
 use Rattle.book.specs.declared.Book.{Book}
@@ -28,7 +28,7 @@ pub data MadeIn : Header → List ℕ → List ℕ → List Call → List Seen �
   a-message-in : {h : Header} {r : Answered} {buffer : List ℕ} {cs : List Call} {rs : List Seen} (κs : Lfts 4) (u v x y s t : RefT (List ℕ)) (κt : Lfts 1) (t0 : RefT (List ℕ))
       → fills.Learnt κt (t0, tt) tt (t, tt)
       → (takes.Asked κs (h, (u, (v, (s, (t, tt))))) → takes.Learnt κs (h, (u, (v, (s, (t, tt))))) r (h, (x, (y, (s, (t, tt)))))) → MadeIn (r .header) (now x) (now y) cs rs
-      → MadeIn h (now u) (now v) (call (message (now s)) buffer ∷ cs) (record { answer = r .answer; value = nothing; buffer = buffer } ∷ rs)
+      → MadeIn h (now u) (now v) (call (message (now s)) buffer ∷ cs) (record { answer = r .answer; value = amount (r .moved); buffer = buffer } ∷ rs)
   a-count-in : {h : Header} {bids asks buffer : List ℕ} {scope : Scope} {r : Counts} {cs : List Call} {rs : List Seen} (κs : Lfts 0)
       → counters.Learnt κs (h, (scope, tt)) r (h, (scope, tt)) → MadeIn h bids asks cs rs
       → MadeIn h bids asks (call (question (howMany scope)) buffer ∷ cs) (record { answer = r .answer; value = counts (r .bids) (r .asks); buffer = buffer } ∷ rs)

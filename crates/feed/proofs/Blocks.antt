@@ -43,7 +43,7 @@ carried-said t s = at (leb (length s) carried) refl
 
 pub carried-hear : (p : Reference) (s : List ℕ) → receive p (take carried s) ≡ receive p s
 unfolding receive
-carried-hear p s = ap (λ (x : Decoded). cond (isShut (p .status)) (record { book = p; answer = Shut }) (received p x)) (carried-said (p .config) s)
+carried-hear p s = ap (λ (x : Decoded). cond (isShut (p .status)) (record { book = p; answer = Shut; moved = 0 }) (received p x)) (carried-said (p .config) s)
 
 -- ---- line by line
 

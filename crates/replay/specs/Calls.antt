@@ -20,7 +20,7 @@ use Rattle.replay.specs.declared.asking.Replied.{Replied}
 -- ---- an answer of the book as a reply's words
 
 unfoldable pub stepReplied : Step → Replied
-stepReplied s = record { book = s .book; answer = answerNumber (s .answer); first = 0; second = 0; third = 0; fourth = 0; fifth = 0; sixth = 0 }
+stepReplied s = record { book = s .book; answer = answerNumber (s .answer); first = s .moved; second = 0; third = 0; fourth = 0; fifth = 0; sixth = 0 }
 
 unfoldable pub countsReplied : CountsReply → Replied
 countsReplied s = record { book = s .book; answer = answerNumber (s .answer); first = s .bids; second = s .asks; third = 0; fourth = 0; fifth = 0; sixth = 0 }

@@ -12,7 +12,7 @@ use Rattle.edit.specs.declared.Side.the-variants.{Bids, Asks}
 use Rattle.answer.specs.Answers.{answerNumber}
 use Rattle.reference.specs.declared.Scope.{Scope}
 use Rattle.reference.specs.declared.Scope.the-variants.{Current, LastGood}
-use Rattle.reference.specs.Reference.{Reply, Value, nothing, counts, level, amount, Ask, message, question, howMany, levelAt, whichNumber, howManyUpdates, write, Call}
+use Rattle.reference.specs.Reference.{Reply, Value, counts, level, amount, Ask, message, question, howMany, levelAt, whichNumber, howManyUpdates, write, Call}
 
 -- ---- words: 8 bytes, the lowest first
 
@@ -73,7 +73,6 @@ levelWords l =
     ∷ digitsNear (l .size) ∷ digitsPast (l .size) ∷ l .size .decimals ∷ []
 
 unfoldable pub valueWords : Value → List ℕ
-valueWords nothing = 0 ∷ 0 ∷ 0 ∷ 0 ∷ 0 ∷ 0 ∷ []
 valueWords (counts bids asks) = bids ∷ asks ∷ 0 ∷ 0 ∷ 0 ∷ 0 ∷ []
 valueWords (level l) = levelWords l
 valueWords (amount n) = n ∷ 0 ∷ 0 ∷ 0 ∷ 0 ∷ 0 ∷ []

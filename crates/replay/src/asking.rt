@@ -101,7 +101,7 @@ fn step_replied(step: Step) -> Replied
     Replied {
         book,
         answer: number_of(answer),
-        first: 0,
+        first: step.moved as u64,
         second: 0,
         third: 0,
         fourth: 0,

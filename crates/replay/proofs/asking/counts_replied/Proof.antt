@@ -1,4 +1,4 @@
--- `counted` meets its contract: field by field.
+-- `counts_replied` meets its contract: field by field.
 use Rattle.replay.specs.Calls.{countsReplied}
 use borrow.Author.Needs.{needs}
 use Rattle.replay.proofs.asking.counts_replied.Statement.{statement}

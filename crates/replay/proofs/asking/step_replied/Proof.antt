@@ -1,4 +1,4 @@
--- `told` meets its contract: field by field.
+-- `step_replied` meets its contract: field by field.
 use Rattle.replay.specs.Calls.{stepReplied}
 use borrow.Author.Needs.{needs}
 use Rattle.replay.proofs.asking.step_replied.Statement.{statement}

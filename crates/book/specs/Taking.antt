@@ -68,6 +68,9 @@ refusedHeader h a =
       lifecycle = refusedLifecycle (h .lifecycle) a;
     }
 
+abbrev pub refusedAs : Header → Answer → Answered
+refusedAs h a = record { header = refusedHeader h a; answer = a; moved = 0 }
+
 unfoldable pub refusedStep : Book → Answer → Step
 refusedStep b a =
     record {

@@ -12,7 +12,7 @@ ghost use Rattle.settings.specs.Rules.{rulesOf};
 ghost use Rattle.sides.specs.Worked.{Sound, sideAfter};
 ghost use Rattle.reference.specs.Reference.{checksumOf};
 ghost use Rattle.book.specs.Shown.{bookOf, Good, ReceivedIn, ReceivedAs};
-ghost use Rattle.book.specs.Taking.{Passed, Ready, SidesAfter, Tried, afterIn, judgedChecksum, weighedSides, takenHeader, refusedHeader};
+ghost use Rattle.book.specs.Taking.{Passed, Ready, SidesAfter, Tried, afterIn, judgedChecksum, weighedSides, takenHeader, refusedAs};
 use crate::Answered;
 use crate::Header;
 use answer::Answer;
@@ -53,11 +53,7 @@ pub fn receive(
     let lifecycle = header.lifecycle;
     let mut buffer = [0; BUFFER_WORDS];
     match judge(settings, lifecycle, header.number, s, &mut buffer) {
-        Verdict::Fails(refusal) => Answered {
-            header: refuse(header, refusal),
-            answer: refusal,
-            moved: 0,
-        },
+        Verdict::Fails(refusal) => refuse(header, refusal),
         Verdict::Passes(outline) => {
             if outline.bids == 0 {
                 return take_asks(header, outline, bids, asks, &buffer, table);
@@ -164,11 +160,7 @@ fn try_entries(
             moved: bid_side.moved + ask_side.moved,
         };
     }
-    Answered {
-        header: refuse(header, answer),
-        answer,
-        moved: 0,
-    }
+    refuse(header, answer)
 }
 
 // What entries make of the bids and of the asks.
@@ -243,14 +235,18 @@ fn renew(header: Header, outline: Outline, bids: usize, asks: usize) -> Header
     }
 }
 
-// The header after a refusal.
-fn refuse(header: Header, answer: Answer) -> Header
-    ensures { λ r. ⌜ r ≡ refusedHeader header answer ⌝ }
+// A message that is refused: it moves no level.
+fn refuse(header: Header, answer: Answer) -> Answered
+    ensures { λ r. ⌜ r ≡ refusedAs header answer ⌝ }
 {
     let mut after = header;
     let lifecycle = header.lifecycle;
     after.lifecycle = refused(lifecycle, answer);
-    after
+    Answered {
+        header: after,
+        answer,
+        moved: 0,
+    }
 }
 
 // Checks 9, 12, 16 and 13, by what the entries made of the sides: whether some price was met twice, whether levels are over the limit,

@@ -10,6 +10,7 @@ use Rattle.edit.specs.Edit.{PriceLevel, shownPrice}
 use Rattle.edit.specs.Edit.{Edit, sets, removes}
 use Rattle.level.specs.Side.{names, namesTwice, without, apply, applyAll, place, ranked, crosses}
 use Rattle.level.specs.Ranked.{standing, afterMessage, replaces, replaced}
+use Rattle.level.specs.Moved.{placeOf, moves, moved}
 use Rattle.level.specs.declared.Level.{Level}
 use Rattle.level.specs.Words.{packed, priceCode, sizeCode, levelPrice, levelSize, levelSum, levelLength, levelMade}
 
@@ -96,3 +97,25 @@ words-sum = refl
 words-length : levelLength words ≡ 6
 unfolding words levelLength packed
 words-length = refl
+
+-- ---- levels moved
+
+-- an insert at place 1 of 3 moves the two behind it, one at the end none
+moved-insert : moved shownPrice Bids (sets (level 3) ∷ sets (level 0) ∷ []) (level 4 ∷ level 2 ∷ level 1 ∷ []) ≡ 2
+unfolding level decimal moved moves placeOf standing apply without value
+moved-insert = refl
+
+-- a removal at the top of 3 moves two, one at the end none
+moved-removal : moved shownPrice Asks (removes (decimal 1 0) ∷ removes (decimal 4 0) ∷ []) (level 1 ∷ level 2 ∷ level 4 ∷ []) ≡ 2
+unfolding level decimal moved moves placeOf standing apply without value
+moved-removal = refl
+
+-- a replacement and the removal of an absent price move none
+moved-none : moved shownPrice Asks (sets (level 2) ∷ removes (decimal 3 0) ∷ []) (level 1 ∷ level 2 ∷ level 4 ∷ []) ≡ 0
+unfolding level decimal moved moves placeOf standing apply without value
+moved-none = refl
+
+-- the bound is reached: three inserts at the top of two levels, one after another, move 3·2 + 3·2/2
+bound-reached : moved shownPrice Asks (sets (level 3) ∷ sets (level 2) ∷ sets (level 1) ∷ []) (level 4 ∷ level 5 ∷ []) ≡ 9
+unfolding level decimal moved moves placeOf standing apply without value
+bound-reached = refl

@@ -17,7 +17,7 @@ use Rattle.book.specs.declared.Step.{Step}
 use Rattle.book.specs.declared.CountsReply.{CountsReply}
 use Rattle.book.specs.declared.LevelReply.{LevelReply}
 use Rattle.book.specs.declared.NumberReply.{NumberReply}
-use Rattle.reference.specs.Reference.{Reference, Reply, Value, Ask, message, question, replied, howMany, levelAt, whichNumber, howManyUpdates, write, does, receive}
+use Rattle.reference.specs.Reference.{Reference, Reply, Value, amount, Ask, message, question, replied, howMany, levelAt, whichNumber, howManyUpdates, write, does, receive}
 use Rattle.reference.proofs.Claims.{same-buffer}
 use Rattle.book.specs.Shown.{Good, shows, Received, AnswersCounts, AnswersLevel, AnswersAmount, Wrote}
 use Rattle.text.specs.Words.{wordAt}
@@ -66,7 +66,7 @@ module _ (b : Book) (buffer : List ℕ) where
   pub told-answered : (m : List ℕ) (s : Step) → Received (receive (shows b) m) s → Answered (shows b) (message m) buffer buffer (stepReplied s)
   unfolding does stepReplied valueWords replyWords
   told-answered m s t =
-      record { good = t .good; same = t .same; words = ap (λ (a : Answer). answerNumber a ∷ 0 ∷ 0 ∷ 0 ∷ 0 ∷ 0 ∷ 0 ∷ []) (t .answer); buffer = refl }
+      record { good = t .good; same = t .same; words = worded (t .answer) (ap amount (t .moved)); buffer = refl }
 
   module _ (g : Good b) where
     pub counts-answered : (scope : Scope) (s : CountsReply) → AnswersCounts b scope s → Answered (shows b) (question (howMany scope)) buffer buffer (countsReplied s)

@@ -112,7 +112,6 @@ pub fn apply(
             }
         }
         if let Change::Set(new) = change {
-            moved += count - low;
             let mut j = count;
             'up: while low < j {
                 levels[j] = levels[j - 1];
@@ -120,6 +119,7 @@ pub fn apply(
             }
             levels[low] = new;
             count += 1;
+            moved += count - 1 - low;
         }
     }
     let mut left = count;

@@ -74,6 +74,9 @@ Inv-cut words₀ kept depth buffer entries table levels count i₀ moved replace
 abbrev μ-cut : tie.MeasureT-cut
 μ-cut words₀ kept depth buffer entries table levels count i₀ moved replaced k left words i = left - i
 
+one-less : (n m : ℕ) → n - m ≡ n + 1 - 1 - m
+one-less n m = omega arith
+
 not-true : (b : Bool) → not b ≡ true → b ≡ false
 not-true true e = sym e
 not-true false e = refl
@@ -439,12 +442,13 @@ entry-again-4 c =
     let is = c .before .before .before .change2 .given .1 in
     let out : p .high ≤ p .low = c .before .before .before .before .before .before .find-test .left in
     let none = none-standing levelPrice (s v .args .side) (A v) (N v) (p .low) (room v) le (P v) (p .inv .0 .ahead) high in
-    after-set v new is (set (q .levels) (p .low) new) (N v + 1) (N v - p .low) (E v .entry .replaced)
+    after-set v new is (set (q .levels) (p .low) new) (N v + 1) (N v + 1 - 1 - p .low) (E v .entry .replaced)
     (simp length-set (ap length (q .inv .0) ∙ length-up (A v) (q .j) (N v) (q .inv .2) (omega (arith, few v, long v)) ∙ long v)) (omega arith)
     (ap (λ (r : List Level). take (N v + 1) (set r (p .low) new)) (q .inv .0 ∙ ap (λ (i : ℕ). up (A v) i (N v)) j)
     ∙ set-new levelPrice (s v .args .side) (A v) (N v) (p .low) (room v) le (P v) (p .inv .0 .ahead) new (omega (arith, few v, long v)) (key-new v new is) high)
     (moves-inserted levelPrice (s v .args .side) (P v) (S v) new (N v) (p .low) (key-new v new is) none (side-long v)
-    (bracket-place levelPrice (s v .args .side) (S v) (P v) (p .low) (p .high) (p .inv .0) out))
+    (bracket-place levelPrice (s v .args .side) (S v) (P v) (p .low) (p .high) (p .inv .0) out)
+    ∙ one-less (N v) (p .low))
     (sym (ap (λ (x : Bool). E v .entry .replaced || x) none ∙ or-false (E v .entry .replaced)))
 
 entry-again-5 : tie.Need-entry-again-5 Inv-load μ-load Inv-find μ-find Inv-down μ-down Inv-up μ-up Inv-entry μ-entry Inv-cut μ-cut
@@ -601,8 +605,6 @@ apply-spec =
     (λ c. omega arith)
     entry-again-3
     (λ c. search needs)
-    (λ c. omega (arith, c .before .before .before .before .before .find .inv .1, c .before .before .before .before .before .find .inv .0 .low-le))
-    (λ c. omega (arith, little (c .before .before .before .before .before .before), few (c .before .before .before .before .before .before)))
     up-holds
     (λ c. omega arith)
     (λ c. omega arith)
@@ -615,6 +617,9 @@ apply-spec =
     (λ c. omega arith)
     (λ c. omega (arith, few (c .before .before .before .before .before .before .before .before)))
     (λ c. omega arith)
+    (λ c. omega arith)
+    (λ c. omega (arith, c .before .before .before .before .before .before .before .find .inv .1, c .before .before .before .before .before .before .before .find .inv .0 .low-le))
+    (λ c. omega (arith, little (c .before .before .before .before .before .before .before .before), few (c .before .before .before .before .before .before .before .before)))
     (λ c. omega arith)
     entry-again-4
     (λ c. search needs)

@@ -82,7 +82,7 @@ returns-3 c =
     let s = startOf j in
     let b = bookAt s in
     let x = c .before .before .refusal .given .0 .0 in
-    subst (λ (h : Header). ReceivedIn b (textAt s) (now (s .args .bids)) (now (s .args .asks)) (record { header = h; answer = x; moved = 0 })) (sym (c .refuse .ensures))
+    subst (λ (r : Answered). ReceivedIn b (textAt s) (now (s .args .bids)) (now (s .args .asks)) r) (sym (c .refuse .ensures))
     (record {
       received = subst (Judged b (textAt s) (bufferAt j)) (c .before .before .refusal .given .1) (judged j);
       settings = refl;

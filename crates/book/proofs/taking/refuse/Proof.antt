@@ -1,4 +1,4 @@
--- `refuse` meets its contract: all but how the book stands stays.
+-- `refuse` meets its contract: all but how the book stands stays, and no level is moved.
 use mathlib.Core.Path.{_≡_, ap}
 use Rattle.book.specs.declared.Header.{Header}
 use Rattle.lifecycle.specs.declared.Lifecycle.{Lifecycle}

@@ -1,5 +1,5 @@
 -- `try_entries` meets its contract: what the entries make of the sides, and then what the checks give.
-use mathlib.Core.Path.{_≡_, refl, sym, subst, _∙_}
+use mathlib.Core.Path.{_≡_, refl, sym, ap, subst, _∙_}
 use mathlib.Core.Bool.{true≢false}
 use mathlib.Core.List.{List}
 use Prim.Native.Nat.{ℕ, _+_}
@@ -8,6 +8,7 @@ use denote.Ref.{now}
 use Rattle.lifecycle.specs.Lifecycle.{judgedUpdate}
 use Rattle.settings.specs.Rules.{rulesOf}
 use Rattle.sides.specs.Worked.{SideAfter, sideAfter}
+use Rattle.answer.specs.Answers.{isTaken}
 use Rattle.edit.specs.declared.Side.the-variants.{Bids, Asks}
 use Rattle.layout.specs.declared.Outline.{Outline}
 use Rattle.message.specs.declared.Verdict.the-variants.{Passes}
@@ -15,6 +16,7 @@ use Rattle.book.specs.Shown.{bookOf, ReceivedAs}
 use Rattle.book.specs.Taking.{Passed, afterIn, refusedStep, keptStep}
 use Rattle.book.specs.declared.Book.{Book}
 use Rattle.book.specs.declared.Header.{Header}
+use Rattle.book.specs.declared.Answered.{Answered}
 use Rattle.book.proofs.Settling.{moved-small, kept-told, left-told}
 use borrow.Author.Needs.{needs}
 use Rattle.book.proofs.taking.try_entries.Statement.{statement}
@@ -81,9 +83,9 @@ returns-2 c =
     let answer = c .before .before .before .weigh .result in
     let is = sym (c .before .before .is-taken .ensures) ∙ c .before .if1 .left in
     record {
-      taken = λ t. absurd (true≢false (sym t ∙ is));
+      taken = λ t. absurd (true≢false (sym t ∙ ap (λ (r : Answered). isTaken (r .answer)) (c .refuse .ensures) ∙ is));
       refused = λ t.
-          subst (λ (h : Header). ReceivedAs (bookAt s) (afterIn (bookAt s) (outlineAt s) (bufferAt s)) (bookAt s .bids .words) (bookAt s .asks .words) (record { header = h; answer = answer; moved = 0 })) (sym (c .refuse .ensures))
+          subst (λ (r : Answered). ReceivedAs (bookAt s) (afterIn (bookAt s) (outlineAt s) (bufferAt s)) (bookAt s .bids .words) (bookAt s .asks .words) r) (sym (c .refuse .ensures))
           (record {
             received = left-told (bookAt s) (outlineAt s) (bufferAt s) (s .pre .0 .passed) (s .pre .0 .updates) (bidsOf n) (asksOf n) (n .enter .ensures .bids-worked) (n .enter .ensures .asks-worked) answer (c .before .before .before .weigh .ensures) is;
             settings = refl;

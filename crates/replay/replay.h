@@ -2,6 +2,8 @@
  *
  * settings: dialect, depth and product name, one blank between, as `M2 100 BTC-VND`; any that are bad open a shut book.
  * out: the replies are laid into it; its bytes are lent to the calls as their buffers.
+ *      A reply is seven words and the call's buffer: the answer, then six values; to a taken message the first value is
+ *      how many levels it moved.
  * Answers how many calls were made. No pointer may be null, also where its length is 0; `out` overlaps nothing else.
  */
 #ifndef HUURQAN_REPLAY_H

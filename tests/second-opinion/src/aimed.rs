@@ -10,6 +10,7 @@ use crate::linked;
 use crate::escapes::{misspell, misspelled, respell, respell_wholly, spelled, twice};
 use crate::making::{prices, prices_from, removal, set, sets, Making, AT, LARGEST, LARGEST_12};
 use crate::message::{Kind, Side, MAX_ENTRIES, MAX_MESSAGE};
+use crate::moved;
 use crate::random::Random;
 use crate::seen::{BLOCK, DEPTHS};
 use crate::session::{Call, Opening, Purpose, Session};
@@ -38,6 +39,7 @@ pub fn sessions(random: &mut Random, purpose: Purpose) -> Vec<Session> {
         }
         all.extend([true, false].map(|few| crossed::session(random, purpose, dialect, few)));
         all.push(twelve::session(random, purpose, dialect));
+        all.extend([true, false].map(|full| moved::session(random, purpose, dialect, full)));
         if dialect != Dialect::K {
             all.push(linked::session(random, purpose, dialect));
         }
@@ -51,7 +53,7 @@ pub fn sessions(random: &mut Random, purpose: Purpose) -> Vec<Session> {
 pub fn one(random: &mut Random, purpose: Purpose) -> Session {
     let dialect = random.pick(&Dialect::ALL);
     let m = random.pick(&[Dialect::M1, Dialect::M2]);
-    match random.below(10) {
+    match random.below(11) {
         0 => {
             let depth = random.between(10, 100) as u64;
             deep(random, purpose, depth)
@@ -70,6 +72,10 @@ pub fn one(random: &mut Random, purpose: Purpose) -> Session {
         }
         7 => linked::session(random, purpose, m),
         8 => twelve::session(random, purpose, dialect),
+        9 => {
+            let full = random.percent(50);
+            moved::session(random, purpose, dialect, full)
+        }
         _ => {
             let base = random.pick(&BASES);
             digits(random, purpose, dialect, base)

@@ -4,6 +4,7 @@
 use crate::crc::crc32;
 use crate::message::{self, Entry, Kind, Level, Message, Refusal, Side};
 use crate::settings::{Dialect, Settings};
+use crate::steps::{most_moved, steps, Step};
 use std::collections::HashMap;
 
 pub const MAX_LEVELS: usize = 100;
@@ -51,6 +52,30 @@ impl Sides {
         }
     }
 
+    /// The levels of a side that a message of this kind starts from.
+    pub fn found(&self, kind: Kind, side: Side) -> &[Level] {
+        match kind {
+            Kind::Snapshot => &[],
+            Kind::Update => self.side(side),
+        }
+    }
+
+    /// What the message does to a side, entry by entry.
+    pub fn steps(&self, message: &Message, side: Side) -> Vec<Step> {
+        steps(side, self.found(message.kind, side), &message.entries)
+    }
+
+    /// How many levels the message moves, entry by entry and before any cut; never more than its entries can.
+    pub fn moved(&self, message: &Message) -> u64 {
+        let on = |side: Side| {
+            let (found, steps) = (self.found(message.kind, side).len(), self.steps(message, side));
+            let moved: usize = steps.iter().map(|step| step.moved()).sum();
+            assert!(moved <= most_moved(steps.len(), found), "{} entries on {found} levels moved {moved}", steps.len());
+            moved as u64
+        };
+        Side::BOTH.map(on).iter().sum()
+    }
+
     /// These sides after `entries`, in their order; nothing is cut.
     pub fn with(&self, entries: &[Entry]) -> Sides {
         let side = |side: Side| -> HashMap<u128, Level> {
@@ -71,6 +96,14 @@ impl Sides {
         bids.sort_by_key(|level| std::cmp::Reverse(level.price.value()));
         asks.sort_by_key(|level| level.price.value());
         Sides { bids, asks }
+    }
+
+    /// These sides as the message leaves them, before any cut.
+    pub fn uncut(&self, message: &Message) -> Sides {
+        match message.kind {
+            Kind::Snapshot => Sides::default().with(&message.entries),
+            Kind::Update => self.with(&message.entries),
+        }
     }
 
     /// Both sides have levels, and the best bid is not below the best ask.
@@ -126,41 +159,44 @@ impl Book {
 
     /// The answer number; the book is changed as the table says.
     pub fn take(&mut self, text: &[u8]) -> u8 {
-        let Some(settings) = self.settings.clone() else { return 1 };
+        self.take_counting(text).0
+    }
+
+    /// As `take`, and how many levels the message moved: none if it is refused.
+    pub fn take_counting(&mut self, text: &[u8]) -> (u8, u64) {
+        let Some(settings) = self.settings.clone() else { return (1, 0) };
         self.take_read(&settings, &message::read(&settings, text))
     }
 
-    /// As `take`, of a message that was read with these settings.
-    pub fn take_read(&mut self, settings: &Settings, read: &Result<Message, Refusal>) -> u8 {
-        let refusal = match read {
+    /// As `take_counting`, of a message that was read with these settings.
+    pub fn take_read(&mut self, settings: &Settings, read: &Result<Message, Refusal>) -> (u8, u64) {
+        let outcome = match read {
             Ok(message) => self.apply(settings, message),
             Err(refusal) => Err(*refusal),
         };
-        match refusal {
-            Ok(()) => 0,
+        match outcome {
+            Ok(moved) => (0, moved),
             Err(number) => {
                 if number != 5 && number != 10 {
                     self.state = State::Waiting;
                 }
-                number
+                (number, 0)
             }
         }
     }
 
     /// The sides as the message leaves them, if nothing refuses it.
     pub fn after(&self, settings: &Settings, message: &Message) -> Sides {
-        let mut sides = match message.kind {
-            Kind::Snapshot => Sides::default().with(&message.entries),
-            Kind::Update => self.sides.with(&message.entries),
-        };
+        let mut sides = self.sides.uncut(message);
         if settings.dialect == Dialect::K {
             sides.cut(settings.depth as usize);
         }
         sides
     }
 
-    /// Checks 10 to 13 and 16, and the book after a taken message.
-    fn apply(&mut self, settings: &Settings, message: &Message) -> Result<(), Refusal> {
+    /// Checks 10 to 13 and 16, the book after a taken message, and how many levels it moved.
+    fn apply(&mut self, settings: &Settings, message: &Message) -> Result<u64, Refusal> {
+        let moved = self.sides.moved(message);
         let is_update = message.kind == Kind::Update;
         let is_m = settings.dialect != Dialect::K;
         if is_update && self.state != State::Live {
@@ -185,7 +221,7 @@ impl Book {
         self.count = if is_update { self.count.saturating_add(1) } else { 0 };
         self.state = State::Live;
         self.ever = true;
-        Ok(())
+        Ok(moved)
     }
 
     /// Whether a question about this book is refused.

@@ -188,7 +188,7 @@ fn refused(settings: &Settings, message: &Message, before: &Sides, after: &Sides
     if let Some(sum) = message.checksum {
         seen.push(if sum == after.checksum(settings.dialect) { RIGHT } else { WRONG });
     }
-    let uncut = if message.kind == Kind::Snapshot { Sides::default().with(&message.entries) } else { before.with(&message.entries) };
+    let uncut = before.uncut(message);
     for side in Side::BOTH {
         let (levels, opposite) = (uncut.side(side), after.side(other(side))[0].price.value());
         let reaches = |value: u128| if side == Side::Bid { value >= opposite } else { value <= opposite };
@@ -222,8 +222,7 @@ fn is_beside(bid: Decimal, ask: Decimal) -> bool {
 /// Whether the sides are crossed after some entry.
 fn crossed_midway(message: &Message, before: &Sides) -> bool {
     let values = |side: Side| -> BTreeSet<u128> {
-        let standing = if message.kind == Kind::Update { before.side(side) } else { &[] };
-        standing.iter().map(|level| level.price.value()).collect()
+        before.found(message.kind, side).iter().map(|level| level.price.value()).collect()
     };
     let (mut bids, mut asks) = (values(Side::Bid), values(Side::Ask));
     message.entries.iter().any(|Entry { side, level }| {

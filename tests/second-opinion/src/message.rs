@@ -72,15 +72,21 @@ struct Written<'a> {
 
 /// The message's meaning, or the first of checks 2 to 9 that refuses it.
 pub fn read(settings: &Settings, message: &[u8]) -> Result<Message, Refusal> {
+    let read = read_to_8(settings, message)?;
+    if read.kind == Kind::Snapshot && names_twice(&read.entries) {
+        return Err(9);
+    }
+    Ok(read)
+}
+
+/// The message's meaning, or the first of checks 2 to 8 that refuses it.
+pub fn read_to_8(settings: &Settings, message: &[u8]) -> Result<Message, Refusal> {
     let tree = tree(message)?;
     let layout = layout(settings, message, &tree)?;
     if layout.entries.iter().any(|entry| !entry.bad_texts(message, layout.kind).is_empty()) {
         return Err(8);
     }
     let entries: Vec<Entry> = layout.entries.iter().map(|written| written.meaning(message)).collect();
-    if layout.kind == Kind::Snapshot && names_twice(&entries) {
-        return Err(9);
-    }
     let Layout { kind, checksum, gsn, previous, .. } = layout;
     Ok(Message { kind, entries, checksum, gsn, previous })
 }

@@ -165,7 +165,10 @@ fn reply(book: &mut Book, header: &[u8], message: &[u8], room: &mut [u8]) -> (u8
     let scope = if word(header, 8) == 0 { Scope::Live } else { Scope::LastGood };
     let side = if word(header, 16) == 0 { Side::Bid } else { Side::Ask };
     match word(header, 0) {
-        0 => (book.take(message), [0; 6]),
+        0 => {
+            let (answer, moved) = book.take_counting(message);
+            (answer, [moved, 0, 0, 0, 0, 0])
+        }
         1 => {
             let (answer, bids, asks) = book.levels(scope);
             (answer, [bids as u64, asks as u64, 0, 0, 0, 0])

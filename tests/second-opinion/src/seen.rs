@@ -5,11 +5,12 @@ use crate::book::{Book, Scope, Sides};
 use crate::crossed;
 use crate::escapes;
 use crate::linked;
-use crate::message::{self, BadText, Entry, Kind, Level, Message, Side};
+use crate::message::{self, BadText, Level, Message, Side};
+use crate::moved;
 use crate::session::{Call, Session};
 use crate::settings::{Dialect, Settings};
 use crate::twelve;
-use std::collections::{BTreeMap, BTreeSet, HashSet};
+use std::collections::{BTreeMap, BTreeSet};
 
 pub const FULL_K: &str = "working side of 200 levels, K, taken";
 pub const FULL_M: &str = "working side of 200 levels, M, refused 12";
@@ -108,7 +109,7 @@ impl Seen {
     fn message(&mut self, book: &mut Book, settings: &Settings, text: &[u8]) {
         let read = message::read(settings, text);
         let (before, number) = (book.sides.clone(), book.number);
-        let answer = book.take_read(settings, &read);
+        let (answer, _) = book.take_read(settings, &read);
         self.texts(settings, text, answer);
         let Ok(message) = read else { return };
         // A refused message leaves the sides as they were.
@@ -116,6 +117,7 @@ impl Seen {
         self.causes(settings.dialect, crossed::seen(settings, &message, &before, &after, answer));
         self.causes(settings.dialect, twelve::seen(&message, &before, &after, answer));
         self.causes(settings.dialect, linked::seen(settings, &message, number, &before, &after, answer));
+        self.causes(settings.dialect, moved::seen(settings, &message, &before, &after, answer));
         for (most, end) in Side::BOTH.map(|side| worked(&before, &message, side)) {
             match (settings.dialect, answer) {
                 (Dialect::K, 0) => {
@@ -147,6 +149,7 @@ impl Seen {
         self.causes(settings.dialect, escapes::seen(settings, text, answer, bad));
         self.causes(settings.dialect, linked::seen_texts(settings, text, answer));
         self.causes(settings.dialect, twelve::seen_bad(bad));
+        self.causes(settings.dialect, moved::seen_twice(settings, text, answer));
     }
 
     /// Why a message got its answer, counted for each dialect.
@@ -206,7 +209,7 @@ impl Seen {
         }
         let mut missing: Vec<String> =
             wanted.iter().filter(|name| self.times(name) == 0).map(|name| name.to_string()).collect();
-        missing.extend(causes().into_iter().filter(|name| self.times(name) == 0));
+        missing.extend(causes(against.lines).into_iter().filter(|name| self.times(name) == 0));
         missing.extend(DEPTHS.filter(|depth| !self.depths.contains(depth)).map(|depth| format!("K depth {depth}")));
         missing
     }
@@ -223,10 +226,12 @@ fn of_dialect(dialect: Dialect, cause: &str) -> String {
     format!("{}: {cause}", dialect.name())
 }
 
-/// What every run has to bring up in each dialect.
-pub fn causes() -> Vec<String> {
+/// What a run has to bring up in each dialect; the line program shows no count of moved levels.
+pub fn causes(lines: bool) -> Vec<String> {
     let of = |dialect: Dialect| {
-        let all = [escapes::causes(dialect), crossed::causes(dialect), linked::causes(dialect), twelve::CAUSES.to_vec()].concat();
+        let moved = if lines { vec![] } else { moved::causes(dialect) };
+        let all =
+            [escapes::causes(dialect), crossed::causes(dialect), linked::causes(dialect), twelve::CAUSES.to_vec(), moved].concat();
         all.into_iter().map(move |cause| of_dialect(dialect, cause))
     };
     Dialect::ALL.into_iter().flat_map(of).collect()
@@ -234,16 +239,7 @@ pub fn causes() -> Vec<String> {
 
 /// The most levels that a side has while the message is worked, and how many before any cut.
 fn worked(before: &Sides, message: &Message, side: Side) -> (usize, usize) {
-    let standing: &[Level] = if message.kind == Kind::Update { before.side(side) } else { &[] };
-    let mut prices: HashSet<u128> = standing.iter().map(|level| level.price.value()).collect();
-    let mut most = prices.len();
-    for Entry { level, .. } in message.entries.iter().filter(|entry| entry.side == side) {
-        if level.size.is_zero() {
-            prices.remove(&level.price.value());
-        } else {
-            prices.insert(level.price.value());
-        }
-        most = most.max(prices.len());
-    }
-    (most, prices.len())
+    let found = before.found(message.kind, side).len();
+    let left: Vec<usize> = before.steps(message, side).iter().map(|step| step.left()).collect();
+    (left.iter().copied().fold(found, usize::max), left.last().copied().unwrap_or(found))
 }

@@ -36,7 +36,7 @@ fn everything_comes_up() {
         assert_eq!(seen.missing(against, &FIRST_LINES), Vec::<String>::new());
     }
     let nothing = Seen::default().missing(Against { lines: true, first_bad: true }, &FIRST_LINES);
-    assert_eq!(nothing.len(), 10 + 3 + 7 + FIRST_LINES.len() + 91 + seen::causes().len());
+    assert_eq!(nothing.len(), 10 + 3 + 7 + FIRST_LINES.len() + 91 + seen::causes(true).len());
 }
 
 /// An M message about bids alone, with the checksum of these levels, best first.

@@ -12,8 +12,8 @@ use Rattle.level.specs.declared.Level.{Level}
 use Rattle.edit.specs.Edit.{PriceLevel, shownPrice}
 use Rattle.level.specs.Words.{levelPrice, shown}
 use Rattle.edit.specs.Edit.{Edit, sets, removes}
-use Rattle.level.specs.Side.{nearer, without, apply, applyAll, place, ranked, crosses}
-use Rattle.level.specs.Ranked.{standing, afterMessage, replaces, replaced, mapEdit}
+use Rattle.level.specs.Side.{nearer, without, apply, applyAll, place, ranked, crosses, standing}
+use Rattle.level.specs.Ranked.{afterMessage, replaces, replaced, mapEdit}
 use Rattle.edit.specs.Edit.{named}
 
 map-take : {A B : Type 0} (f : A → B) (n : ℕ) (s : List A) → map f (take n s) ≡ take n (map f s)

@@ -11,8 +11,8 @@ use borrow.Author.Tests.{eqb-true, eqb-false, eq-eqb, ne-eqb}
 use Rattle.decimal.specs.Decimal.{Number, value}
 use Rattle.edit.specs.declared.Side.{Side}
 use Rattle.edit.specs.Edit.{Edit, sets, removes}
-use Rattle.level.specs.Side.{nearer, names, namesTwice, without, apply, place, ranked}
-use Rattle.level.specs.Ranked.{All, standing, replaces, replaced, IsSet}
+use Rattle.level.specs.Side.{nearer, names, namesTwice, without, apply, place, ranked, standing}
+use Rattle.level.specs.Ranked.{All, replaces, replaced, IsSet}
 use Rattle.edit.specs.Edit.{named}
 use Rattle.level.proofs.Ranking.{applyRanked, commute}
 

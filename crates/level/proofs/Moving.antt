@@ -11,8 +11,8 @@ use Rattle.edit.specs.declared.Side.{Side}
 use Rattle.edit.specs.Edit.{Edit, sets, removes, shownPrice}
 use Rattle.level.specs.declared.Level.{Level}
 use Rattle.level.specs.Words.{levelPrice, shown}
-use Rattle.level.specs.Side.{nearer, apply, place, ranked}
-use Rattle.level.specs.Ranked.{All, standing, mapEdit}
+use Rattle.level.specs.Side.{nearer, apply, place, ranked, standing}
+use Rattle.level.specs.Ranked.{All, mapEdit}
 use Rattle.level.specs.Moved.{placeOf, moves, moved, Moved-bound}
 use Rattle.level.proofs.Ranking.{applyRanked, commute}
 use Rattle.level.proofs.Lengths.{length-ranked, length-apply}

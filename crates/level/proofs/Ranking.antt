@@ -10,8 +10,8 @@ use borrow.Author.Tests.{eqb-true, eqb-false, eq-eqb, ne-eqb}
 use Rattle.decimal.specs.Decimal.{Number, value}
 use Rattle.edit.specs.declared.Side.{Side}
 use Rattle.edit.specs.Edit.{Edit, sets, removes}
-use Rattle.level.specs.Side.{nearer, names, namesTwice, without, apply, applyAll, place, ranked}
-use Rattle.level.specs.Ranked.{All, standing, afterMessage, rankedEach, Distinct, Sorted, IfSet}
+use Rattle.level.specs.Side.{nearer, names, namesTwice, without, apply, applyAll, place, ranked, standing}
+use Rattle.level.specs.Ranked.{All, afterMessage, rankedEach, Distinct, Sorted, IfSet}
 use Rattle.level.proofs.Order.{before-ne, before-trans, before-asym, before-or-after, not-before-trans}
 use Rattle.level.proofs.All.{all-map, all-cond, all-take}
 

@@ -8,8 +8,8 @@ use Rattle.decimal.specs.Words.{digitsNear, digitsPast, codeOf}
 use Rattle.edit.specs.declared.Side.the-variants.{Bids, Asks}
 use Rattle.edit.specs.Edit.{PriceLevel, shownPrice}
 use Rattle.edit.specs.Edit.{Edit, sets, removes}
-use Rattle.level.specs.Side.{names, namesTwice, without, apply, applyAll, place, ranked, crosses}
-use Rattle.level.specs.Ranked.{standing, afterMessage, replaces, replaced}
+use Rattle.level.specs.Side.{names, namesTwice, without, apply, applyAll, place, ranked, crosses, standing}
+use Rattle.level.specs.Ranked.{afterMessage, replaces, replaced}
 use Rattle.level.specs.Moved.{placeOf, moves, moved}
 use Rattle.level.specs.declared.Level.{Level}
 use Rattle.level.specs.Words.{packed, priceCode, sizeCode, levelPrice, levelSize, levelSum, levelLength, levelMade}

@@ -6,8 +6,7 @@ use lib.ListN.{length}
 use Rattle.decimal.specs.Decimal.{Number, value}
 use Rattle.edit.specs.Edit.{Edit, sets, removes}
 use Rattle.edit.specs.declared.Side.{Side}
-use Rattle.level.specs.Side.{nearer, valueAt, apply}
-use Rattle.level.specs.Ranked.{standing}
+use Rattle.level.specs.Side.{nearer, valueAt, standing, apply}
 
 module _ {A : Type 0} (priceOf : A → Number) (side : Side) where
   -- The place of a price on a side: how many levels stand nearer the top.

@@ -7,7 +7,7 @@ use lib.Dec.{eqb}
 use lib.ListN.{take}
 use Rattle.decimal.specs.Decimal.{Number, value}
 use Rattle.edit.specs.Edit.{Edit, sets, removes}
-use Rattle.level.specs.Side.{nearer, valueAt, apply, applyAll, ranked}
+use Rattle.level.specs.Side.{nearer, valueAt, standing, apply, applyAll, ranked}
 use Rattle.edit.specs.declared.Side.{Side}
 
 -- What holds of each element of a list.
@@ -18,11 +18,6 @@ All P (x ∷ s) = P x × All P s
 -- ---- sides: levels of any kind A that have a price
 
 module _ {A : Type 0} (priceOf : A → Number) where
-  -- Does a level stand at this price?
-  unfoldable pub standing : ℕ → List A → Bool
-  standing v [] = false
-  standing v (x ∷ s) = eqb (valueAt priceOf x) v || standing v s
-
   -- A side after a whole message: its entries applied, then the side ranked, then cut to the best `depth` levels.
   unfoldable pub afterMessage : Side → ℕ → List (Edit A) → List A → List A
   afterMessage side depth es s = take depth (ranked priceOf side (applyAll priceOf es s))
@@ -34,7 +29,7 @@ module _ {A : Type 0} (priceOf : A → Number) where
 
   -- Does some entry set a level at a price where one stands by then?
   unfoldable pub replaces : Edit A → List A → Bool
-  replaces (sets x) s = standing (valueAt priceOf x) s
+  replaces (sets x) s = standing priceOf (valueAt priceOf x) s
   replaces (removes p) s = false
 
   unfoldable pub replaced : List (Edit A) → List A → Bool

@@ -30,6 +30,11 @@ module _ {A : Type 0} (priceOf : A → Number) where
   abbrev pub valueAt : A → ℕ
   valueAt x = value (priceOf x)
 
+  -- Does a level stand at this price?
+  unfoldable pub standing : ℕ → List A → Bool
+  standing v [] = false
+  standing v (x ∷ s) = eqb (valueAt x) v || standing v s
+
   -- The levels that are not at this price.
   unfoldable pub without : ℕ → List A → List A
   without v [] = []

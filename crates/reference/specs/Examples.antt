@@ -29,7 +29,6 @@ use Rattle.message.specs.Meaning as w·
 use Rattle.settings.specs.Settings as s·
 use Rattle.settings.specs.Rules as u·
 use Rattle.level.specs.Side as side·
-use Rattle.level.specs.Ranked as g·
 use Rattle.level.specs.Moved as v·
 use Rattle.crc32_spec.specs.Crc as crc·
 use Rattle.checksum.specs.Text as c·
@@ -104,5 +103,5 @@ table =
     ∷ []
 
 examples : All Holds table
-unfolding table Holds All calls shown m-book k-book answerNumber repliesTo final opened x·.isDigit d·.leading d·.valueFrom d·.fixed d·.significantIn d·.significant d·.written d2·.isWhole d2·.fractional d2·.pointed d2·.prefix d2·.read d2·.isZero d2·.text d2·.afterPoint d2·.value d3·.readWhole d3·.atMost d3·.readChecksum x·.byteAt t1·.blank t1·.hexDigit t1·.escaped t2·.andThen t2·.skipWhile t2·.blanks t2·.digits t2·.someDigits t2·.closing t2·.separator t2·.stringRest t2·.string t2·.minus t2·.sign t2·.int t2·.fraction t2·.exponent t2·.jsonNumber t2·.startsWith t2·.literal t2·.scalar t2·.ended t2·.chars t2·.escape t2·.hexes j1·.next j1·.prepended j1·.onward j1·.list j1·.listOf j1·.itemsEnd j1·.element j1·.member j1·.elements j1·.members j1·.value j1·.text j2·.part j2·.shortMeaning j2·.hexValue j2·.longMeaning j2·.escapeMeaning j2·.escapeLength j2·.meaning j2·.inner j2·.means p·.andThen p·.all p·.top p·.isString p·.contents p·.arrayAt p·.objectAt p·.valuesOf p·.only p·.wholeAt p·.checksumAt p·.quotedChecksumAt r·.entriesAt k·.frameOf k·.oursK k·.times k·.together k·.isSnapshot k·.eachHasOne k·.lastOf k·.isUpdate r·.rowK k·.entriesK k·.objectsLayout k·.layoutK k·.envelopeK l·.memberEntries l·.entriesIn l·.laid l·.isSnapshot m·.someMeans m·.oursM r·.rowM r·.entryOf m·.kindAt m·.layoutM m·.layoutIn m·.envelopeM r·.badPrice r·.badSize r·.badTexts w·.bad r·.numberAt r·.numbersAt r·.sidedAt p·.andAlso e·.forSide e·.isSame e·.editOf w·.sidedEdit w·.decimals w·.tooMany w·.counted w·.laidOut w·.addressed w·.envelopeIn w·.framed w·.alsoDecimals w·.checked w·.messageOf w·.decodedOf w·.decode s·.goodDepth s·.nameByte s·.nameBytes s·.goodName s·.good s·.kept side·.names side·.namesTwice side·.without side·.apply side·.applyAll side·.place side·.ranked side·.crosses crc·.bit crc·.bits crc·.step crc·.run crc·.crc c·.interleaved c·.colonJoined c·.mLevel c·.mChecksumText x·.joined c·.kLevel c·.kChecksumText d2·.withoutPoint d2·.withoutZeros d2·.stripped b·.isShut b·.isLive b·.editsFor b·.afterEdits e·.named b·.sidesAfter b·.levelsMoved v·.placeOf v·.moves v·.moved g·.standing u·.summedIn u·.isLinked u·.rulesOf b·.checksumText b·.checksumOf b·.namesPriceTwice b·.lacksSnapshot b·.isOld b·.hasTooMany b·.hasCrossed b·.differs b·.hasWrongChecksum b·.verdict b·.oneMore b·.taken a·.leavesStatus a·.oneOf b·.withStatus b·.refusedBy a·.isTaken b·.answered b·.received b·.receive b·.stands b·.sideOf b·.respond b·.refusal b·.zeros b·.replied b·.does b·.textIn b·.snapshotText n·.quoted n·.commaJoined n·.array n·.kEntry n·.kSnapshot n·.mEntry n·.mSnapshot
+unfolding table Holds All calls shown m-book k-book answerNumber repliesTo final opened x·.isDigit d·.leading d·.valueFrom d·.fixed d·.significantIn d·.significant d·.written d2·.isWhole d2·.fractional d2·.pointed d2·.prefix d2·.read d2·.isZero d2·.text d2·.afterPoint d2·.value d3·.readWhole d3·.atMost d3·.readChecksum x·.byteAt t1·.blank t1·.hexDigit t1·.escaped t2·.andThen t2·.skipWhile t2·.blanks t2·.digits t2·.someDigits t2·.closing t2·.separator t2·.stringRest t2·.string t2·.minus t2·.sign t2·.int t2·.fraction t2·.exponent t2·.jsonNumber t2·.startsWith t2·.literal t2·.scalar t2·.ended t2·.chars t2·.escape t2·.hexes j1·.next j1·.prepended j1·.onward j1·.list j1·.listOf j1·.itemsEnd j1·.element j1·.member j1·.elements j1·.members j1·.value j1·.text j2·.part j2·.shortMeaning j2·.hexValue j2·.longMeaning j2·.escapeMeaning j2·.escapeLength j2·.meaning j2·.inner j2·.means p·.andThen p·.all p·.top p·.isString p·.contents p·.arrayAt p·.objectAt p·.valuesOf p·.only p·.wholeAt p·.checksumAt p·.quotedChecksumAt r·.entriesAt k·.frameOf k·.oursK k·.times k·.together k·.isSnapshot k·.eachHasOne k·.lastOf k·.isUpdate r·.rowK k·.entriesK k·.objectsLayout k·.layoutK k·.envelopeK l·.memberEntries l·.entriesIn l·.laid l·.isSnapshot m·.someMeans m·.oursM r·.rowM r·.entryOf m·.kindAt m·.layoutM m·.layoutIn m·.envelopeM r·.badPrice r·.badSize r·.badTexts w·.bad r·.numberAt r·.numbersAt r·.sidedAt p·.andAlso e·.forSide e·.isSame e·.editOf w·.sidedEdit w·.decimals w·.tooMany w·.counted w·.laidOut w·.addressed w·.envelopeIn w·.framed w·.alsoDecimals w·.checked w·.messageOf w·.decodedOf w·.decode s·.goodDepth s·.nameByte s·.nameBytes s·.goodName s·.good s·.kept side·.names side·.namesTwice side·.without side·.apply side·.applyAll side·.place side·.ranked side·.crosses crc·.bit crc·.bits crc·.step crc·.run crc·.crc c·.interleaved c·.colonJoined c·.mLevel c·.mChecksumText x·.joined c·.kLevel c·.kChecksumText d2·.withoutPoint d2·.withoutZeros d2·.stripped b·.isShut b·.isLive b·.editsFor b·.afterEdits e·.named b·.sidesAfter b·.levelsMoved v·.placeOf v·.moves v·.moved side·.standing u·.summedIn u·.isLinked u·.rulesOf b·.checksumText b·.checksumOf b·.namesPriceTwice b·.lacksSnapshot b·.isOld b·.hasTooMany b·.hasCrossed b·.differs b·.hasWrongChecksum b·.verdict b·.oneMore b·.taken a·.leavesStatus a·.oneOf b·.withStatus b·.refusedBy a·.isTaken b·.answered b·.received b·.receive b·.stands b·.sideOf b·.respond b·.refusal b·.zeros b·.replied b·.does b·.textIn b·.snapshotText n·.quoted n·.commaJoined n·.array n·.kEntry n·.kSnapshot n·.mEntry n·.mSnapshot
 examples = (refl, (refl, (refl, (refl, (refl, (refl, (refl, tt)))))))

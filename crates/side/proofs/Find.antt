@@ -11,8 +11,8 @@ use lib.Seq.{length-take-le, take-suc, drop-cons, split-at, set-split, take-set-
 use Rattle.decimal.specs.Decimal.{Number, value}
 use Rattle.edit.specs.declared.Side.{Side}
 use Rattle.edit.specs.Edit.{sets, removes}
-use Rattle.level.specs.Side.{nearer, without, place}
-use Rattle.level.specs.Ranked.{All, standing, Sorted}
+use Rattle.level.specs.Side.{nearer, without, place, standing}
+use Rattle.level.specs.Ranked.{All, Sorted}
 use Rattle.level.specs.Moved.{placeOf}
 use Rattle.level.proofs.Order.{before-ne, before-trans, before-or-after, after-not-before}
 use Rattle.level.proofs.All.{all-map, all-append, all-at}

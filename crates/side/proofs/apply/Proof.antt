@@ -20,8 +20,8 @@ use Rattle.level.specs.Words.{levelPrice}
 use Rattle.edit.specs.Edit.{Edit, sets, removes, Numbers, isSame, sideOf}
 use Rattle.edit.specs.Buffer.{entriesIn, noNumbers}
 use Rattle.edit.specs.declared.Side.{Side}
-use Rattle.level.specs.Side.{nearer, without, applyAll}
-use Rattle.level.specs.Ranked.{All, standing, afterMessage, replaces, replaced, Sorted, mapEdit, IfSet}
+use Rattle.level.specs.Side.{nearer, without, applyAll, standing}
+use Rattle.level.specs.Ranked.{All, afterMessage, replaces, replaced, Sorted, mapEdit, IfSet}
 use Rattle.edit.specs.Edit.{named}
 use Rattle.level.specs.Moved.{moves, moved}
 use Rattle.level.specs.Words.{levelsIn, wordsPast, noLevel, edit, levelPlain, changeOf}

@@ -20,7 +20,7 @@ low m x y h = add-mul-mod-self-left x m y ∙ mod-eq-of-lt h
 pub high : (m : ℕ) (x y : ℕ) → 0 < m → x < m → (x + m * y) / m ≡ y
 high m x y p h = add-mul-div-left x y p ∙ ap (λ (n : ℕ). n + y) (div-eq-of-lt h) ∙ zero-add y
 
-side-out : (side : Side) → sideIn (sideNumber side) ≡ side
+pub side-out : (side : Side) → sideIn (sideNumber side) ≡ side
 unfolding sideIn sideNumber
 side-out Bids = refl
 side-out Asks = refl

@@ -84,7 +84,8 @@ pub fn is_same(a: Side, b: Side) -> bool
     }
 }
 
-fn side_number(side: Side) -> u64
+// A side as a number, and the side that a number stands for: 0 the bids, any other the asks.
+pub fn side_number(side: Side) -> u64
     ensures { λ r. ⌜ r ≡ sideNumber side ⌝ }
 {
     match side {
@@ -93,7 +94,7 @@ fn side_number(side: Side) -> u64
     }
 }
 
-fn side_in(n: u64) -> Side
+pub fn side_in(n: u64) -> Side
     ensures { λ r. ⌜ r ≡ sideIn n ⌝ }
 {
     if n == 0 {

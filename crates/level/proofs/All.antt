@@ -1,9 +1,11 @@
 -- Laws of `All`. Assumes nothing.
-use Prim.Native.Nat.{ℕ, zero, suc, _<_}
+use Prim.Native.Nat.{ℕ, zero, suc, _+_, _<_}
 use mathlib.Core.Bool.{Bool, true, false, cond}
 use mathlib.Core.List.{List, [], _∷_, _++_}
+use native.Mathlib.Numerals.{add-one}
 use native.Mathlib.Nat.{le-of-suc-le-suc, not-suc-le-zero}
 use lib.ListN.{length, getD, take}
+use lib.Seq.{take-suc}
 use Rattle.level.specs.Ranked.{All}
 
 module _ {A : Type 0} where
@@ -33,3 +35,19 @@ module _ {A : Type 0} where
   all-at P [] k d h a = absurd (not-suc-le-zero h)
   all-at P (x ∷ s) zero d h a = a .0
   all-at P (x ∷ s) (suc k) d h a = all-at P s k d (le-of-suc-le-suc h) (a .1)
+
+  -- one more from the front
+  pub all-next : (P : A → Type 0) (s : List A) (k : ℕ) (d : A) → k < length s → All P (take k s) → P (getD s k d) → All P (take (k + 1) s)
+  unfolding All
+  all-next P s k d h a p = rw (add-one k, take-suc s k d h) (all-append P (take k s) (getD s k d ∷ []) a (p, tt))
+
+  -- what two hold together
+  pub all-both : (P Q R : A → Type 0) → ((x : A) → P x → Q x → R x) → (s : List A) → All P s → All Q s → All R s
+  unfolding All
+  all-both P Q R f [] a b = tt
+  all-both P Q R f (x ∷ s) a b = (f x (a .0) (b .0), all-both P Q R f s (a .1) (b .1))
+
+  pub all-true : (P : A → Type 0) → ((x : A) → P x) → (s : List A) → All P s
+  unfolding All
+  all-true P f [] = tt
+  all-true P f (x ∷ s) = (f x, all-true P f s)

@@ -1,4 +1,4 @@
--- Laws of the definitions: the order of prices; what holds of all; ranking and applying; levels seen in another way; prices met; what an entry does; the words.
+-- Laws of the definitions: the order of prices; what holds of all; ranking and applying; levels seen in another way; prices met; what an entry does; the words; shifts of an array.
 pub mod Order
 pub mod All
 pub mod Ranking
@@ -11,3 +11,4 @@ pub mod Packing
 pub mod Stored
 pub mod Held
 pub mod Determined
+pub mod Shift

@@ -48,6 +48,11 @@ not-before-trans Asks x y z h k = not-true (nearer Asks x z) (λ q. omega (arith
 pub after-not-before : (side : Side) (x y z : ℕ) → nearer side x y ≡ true → nearer side x z ≡ false → nearer side y z ≡ false
 after-not-before side x y z h k = not-before-trans side y x z (before-asym side x y h) k
 
+-- what is not before y is behind what is before y
+pub before-through : (side : Side) (x y z : ℕ) → nearer side x y ≡ true → nearer side z y ≡ false → nearer side x z ≡ true
+before-through Bids x y z h k = not-false (nearer Bids x z) (λ q. omega (arith, ltb-true, ltb-false))
+before-through Asks x y z h k = not-false (nearer Asks x z) (λ q. omega (arith, ltb-true, ltb-false))
+
 -- ---- the answer of a comparison
 
 ahead-at : (side : Side) (x y : ℕ) (o : Order) → Holds o x y → aheadOf side o ≡ nearer side x y

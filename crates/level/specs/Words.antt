@@ -9,6 +9,7 @@ use Rattle.decimal.specs.Decimal.{Number, number, numberOf, isZero}
 use Rattle.decimal.specs.Words.{digitsNear, codeOf}
 use Rattle.edit.specs.Buffer.{byThrees}
 use Rattle.level.specs.declared.Level.{Level}
+use Rattle.level.specs.declared.Parts.{Parts}
 use Rattle.level.specs.declared.Change.{Change}
 use Rattle.level.specs.declared.Change.the-variants.{Set, Remove}
 use Rattle.level.specs.declared.Entry.{Entry}
@@ -59,6 +60,10 @@ shown level = record { price = levelPrice level; size = levelSize level }
 -- The level that three words hold.
 abbrev pub levelOf : ℕ → ℕ → ℕ → Level
 levelOf price size rest = record { price = price; size = size; rest = rest }
+
+-- The words of a level.
+abbrev pub partsOf : Level → Parts
+partsOf level = record { price = level .price; size = level .size; rest = level .rest }
 
 -- How many words a level takes.
 abbrev pub levelWords : ℕ

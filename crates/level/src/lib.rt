@@ -13,7 +13,7 @@ ghost use Rattle.decimal.specs.Decimal.{number};
 ghost use Rattle.decimal.specs.Limits.{Within};
 ghost use Rattle.edit.specs.Edit.{named};
 ghost use Rattle.level.specs.Order.{aheadOf, equalOf};
-ghost use Rattle.level.specs.Words.{maxLength, levelMade, levelPrice, levelSize, levelSum, levelLength, edit, EntryOf};
+ghost use Rattle.level.specs.Words.{maxLength, levelMade, levelOf, partsOf, levelPrice, levelSize, levelSum, levelLength, edit, EntryOf};
 ghost use Rattle.level.specs.Kept.{maxLevels, held, levelAt, Empty};
 use decimal::Decimal;
 use decimal::Order;
@@ -37,6 +37,13 @@ pub struct Level {
     price: u64,
     size: u64,
     rest: u64,
+}
+
+// The words of a level, for whoever keeps it in words of their own.
+pub struct Parts {
+    pub price: u64,
+    pub size: u64,
+    pub rest: u64,
 }
 
 pub enum Change {
@@ -126,6 +133,23 @@ pub fn length_of(level: Level) -> u16
     ensures { λ r. ⌜ r ≡ levelLength level ⌝ }
 {
     (level.rest / words::LENGTH % 256) as u16
+}
+
+// The words of a level, and the level that words are. Any three words are a level.
+pub fn parts_of(level: Level) -> Parts
+    ensures { λ r. ⌜ r ≡ partsOf level ⌝ }
+{
+    Parts {
+        price: level.price,
+        size: level.size,
+        rest: level.rest,
+    }
+}
+
+pub fn of_parts(price: u64, size: u64, rest: u64) -> Level
+    ensures { λ r. ⌜ r ≡ levelOf price size rest ⌝ }
+{
+    Level { price, size, rest }
 }
 
 // The entry of a side, a price and a size: a size of zero removes the price. A level that it sets has no sum yet.

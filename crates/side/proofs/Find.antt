@@ -19,7 +19,7 @@ use Rattle.level.proofs.All.{all-map, all-append, all-at}
 use Rattle.level.proofs.Ranking.{applyRanked, without-new, without-same, placed}
 use Rattle.level.proofs.Meeting.{standing-none}
 use Rattle.level.proofs.Moving.{place-at}
-use Rattle.side.proofs.Shift.{up, up-end, down, down-end}
+use Rattle.level.proofs.Shift.{up, up-end, down, down-end}
 
 module _ {A : Type 0} (priceOf : A → Number) (side : Side) where
   abbrev key : A → ℕ

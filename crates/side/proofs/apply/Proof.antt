@@ -31,7 +31,7 @@ use Rattle.level.proofs.All.{all-take, all-at}
 use Rattle.level.proofs.Ranking.{applyRanked, sorted-take}
 use Rattle.level.proofs.Meeting.{standing-at}
 use Rattle.level.proofs.Moving.{moves-replaced, moves-inserted, moves-removed, moves-absent}
-use Rattle.side.proofs.Shift.{up, up-start, up-turn, length-up, down, down-start, down-turn, length-down}
+use Rattle.level.proofs.Shift.{up, up-start, up-turn, length-up, down, down-start, down-turn, length-down}
 use Rattle.level.proofs.Stored.{length-levels, past-more}
 use Rattle.side.proofs.Find.{Bracket, bracket-start, bracket-up, bracket-down, past, past-same, past-none, bracket-head, bracket-place, set-new, set-same, remove-same, remove-none, none-standing}
 use Rattle.side.proofs.Entries.{Sound, given-length, does, does-named, summed-does, plain-within, Turn, turn-start, turn-pass, turn-room, turn-step, turn-levels, turn-count, turn-moved, turn-met, key, sound-at, ahead-at, same-at, other-at, copied, cut-short, cut-whole}

@@ -6,7 +6,7 @@ use mathlib.Core.List.{List, [], _∷_, _++_, append-assoc, append-nil}
 use native.Mathlib.Omega.{arith}
 use native.Mathlib.Numerals.{add-one}
 use lib.ListN.{length, getD, set, take, drop, length-append, length-drop, length-set, take-append-drop, drop-of-length-le, List·getD-append}
-use lib.Seq.{length-take-le, take-suc, drop-cons, take-at, drop-at, getD-at, set-at, take-take, drop-append-le, getD-take, getD-drop, getD-append-add, append-snoc, drop-length}
+use lib.Seq.{length-take-le, take-suc, take-suc-set, drop-cons, drop-drop, take-at, drop-at, getD-at, set-at, take-take, drop-append-le, getD-take, getD-drop, getD-append-add, append-snoc, drop-length}
 
 module _ {A : Type 0} where
   -- up from `at`: slots above j have what stood one below them
@@ -107,3 +107,14 @@ module _ {A : Type 0} where
   pub down-turn : (a v : List A) (at j : ℕ) (d : A) → at ≤ j → j + 1 < length a → v ≡ down a at j → set v j (getD v (j + 1) d) ≡ down a at (j + 1)
   down-turn a v at j d h k e =
       rw (e, down-read a at j d h (omega arith)) (rw add-one (down-step a at j d h (omega arith)))
+
+  -- ---- copying from one list to another, one element a turn
+
+  pub copied : (a c : List A) (i : ℕ) (d : A) → i < length a → i < length c → take i c ≡ take i a → take (i + 1) (set c i (getD a i d)) ≡ take (i + 1) a
+  copied a c i d h l e =
+      rw add-one
+      (take-suc-set c i (getD a i d) l ∙ (ap (λ r. r ++ getD a i d ∷ []) e ∙ sym (take-suc a i d h)))
+
+  -- what is equal from n on is equal from further on
+  pub drop-on : (a c : List A) (n m : ℕ) → drop n a ≡ drop n c → drop (n + m) a ≡ drop (n + m) c
+  drop-on a c n m e = sym (drop-drop m n a) ∙ ap (drop m) e ∙ drop-drop m n c

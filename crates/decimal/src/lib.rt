@@ -95,7 +95,7 @@ enum Part {
 pub struct Tail {
     digits: u64,
     decimals: u64,
-    past: u64,
+    past: u16,
     part: Part,
 }
 

@@ -68,7 +68,7 @@ pub fn text_tail(a: Decimal) -> Tail
     Tail {
         digits: a.digits,
         decimals: NEAR,
-        past: tidy(a.code),
+        past: tidy(a.code) as u16,
         part: Part::Fraction,
     }
 }
@@ -86,7 +86,7 @@ pub fn stripped_tail(a: Decimal) -> Tail
     Tail {
         digits: a.digits,
         decimals: 0,
-        past: tidy(a.code),
+        past: tidy(a.code) as u16,
         part: Part::Higher,
     }
 }
@@ -121,7 +121,7 @@ impl Tail {
         ensures { λ r. ⌜ Stepped self r ⌝ }
     {
         if 9 < self.past {
-            return Step::Byte(last_digit(self.past), before_past(self));
+            return Step::Byte(last_past(self.past), before_past(self));
         }
         let part = self.part;
         match part {
@@ -161,6 +161,14 @@ fn before_past(t: Tail) -> Tail
         past: t.past / 10,
         part,
     }
+}
+
+// The last digit of those past the ninth decimal. It has a type of its own, so that the compiler does not make one division of
+// this and of `last_digit`, which then would share none with the division by ten beside it.
+fn last_past(n: u16) -> u8
+    ensures { λ r. ⌜ r ≡ 48 + n % 10 ⌝ }
+{
+    48 + (n % 10) as u8
 }
 
 fn last_digit(n: u64) -> u8

@@ -2,7 +2,7 @@
 -- Assumes nothing.
 use mathlib.Core.Path.{_≡_, refl, sym, ap, ap₂, _∙_}
 use mathlib.Core.List.{List, [], _∷_}
-use mathlib.Core.Bool.{Bool, true, false, _&&_, _||_, cond, true≢false, and-eq-true-iff}
+use mathlib.Core.Bool.{Bool, true, false, _&&_, _||_, not, cond, true≢false, and-eq-true-iff}
 use Prim.Native.Nat.{ℕ, zero, suc, _+_, _-_, _≤_, _<_}
 use native.Mathlib.Omega.{arith}
 use native.Mathlib.Numerals.{add-one}
@@ -15,7 +15,7 @@ use Rattle.json_tokens.specs.Bytes.{backslash}
 use Rattle.json_tokens.proofs.Laws.{here}
 use Rattle.json.specs.Json.{Span}
 use Rattle.json.specs.Names.{part, shortMeaning, hexValue, longMeaning, escapeMeaning, escapeLength, meaning, inner, same, means}
-use Rattle.json.specs.Escapes.{PastEscape, Spelled}
+use Rattle.json.specs.Escapes.{PastEscape, Spelled, beginsOtherwise}
 use Rattle.json.specs.Claims.{holds, Plain-text}
 
 -- a part from a place to the end
@@ -209,6 +209,19 @@ same-over t name i k l h = rw (drop-of-length-le name h) (at (eqb (byteAt t i) 9
     at true p = rw (meaning-escape t i l (eqb-true (byteAt t i) 92 p))
     at false p = rw (meaning-plain t i l (λ e. true≢false (sym (eq-eqb (byteAt t i) 92 e) ∙ p)))
 
+-- a string that begins with another byte, and no escape
+other-first : (t : List ℕ) (n : ℕ) (name : List ℕ) → (length name ≡ 0 → ⊥) → (byteAt t 0 ≡ getD name 0 0 → ⊥) → (byteAt t 0 ≡ 92 → ⊥) → same (meaning 0 (take n t)) name ≡ false
+unfolding meaning byteAt
+other-first t n [] h d b = absurd (h refl)
+other-first t zero (d ∷ name) h o b = refl
+other-first [] (suc n) (d ∷ name) h o b = refl
+other-first (c ∷ t) (suc n) (d ∷ name) h o b = rw (ne-eqb c 92 b, ne-eqb c d o)
+
+-- what is not so is not so
+refuted : (b : Bool) → not b ≡ true → b ≡ true → ⊥
+refuted true h e = true≢false (sym h)
+refuted false h e = true≢false (sym e)
+
 -- ---- names
 
 module _ (s : List ℕ) (from to : ℕ) (name : List ℕ) where
@@ -217,35 +230,47 @@ module _ (s : List ℕ) (from to : ℕ) (name : List ℕ) where
   means-no-quote n = rw (ne-eqb (byteAt s from) 34 n)
 
   module _ (q : byteAt s from ≡ 34) where
-    pub means-quoted : means s (record { from = from; to = to }) name ≡ same (meaning 0 (take (to - from - 2) (drop (from + 1) s))) name
-    unfolding means inner
-    means-quoted = rw (eq-eqb (byteAt s from) 34 q)
-
-    -- nothing stands between the quotes
-    pub means-empty : to ≤ from + 1 → eqb (length name) 0 ≡ means s (record { from = from; to = to }) name
-    unfolding meaning
-    means-empty h = let z : to - from - 2 ≡ 0 = omega arith in sym (means-quoted ∙ rw z (none name))
-      where
-        none : (n : List ℕ) → same [] n ≡ eqb (length n) 0
-        none [] = refl
-        none (d ∷ n) = sym (ne-eqb (suc (length n)) 0 (λ e. omega arith))
-
-    -- too little stands there
-    pub means-short : to - 1 - (from + 1) < length name → false ≡ means s (record { from = from; to = to }) name
-    means-short h =
-        let t = take (to - from - 2) (drop (from + 1) s) in
-        let a = meaning-length 0 t in
-        let b = length-take (to - from - 2) (drop (from + 1) s) in
-        sym (means-quoted ∙ same-longer (meaning 0 t) name (omega arith))
-
-    -- what stands there, up to the end of the text or to the last quote
-    pub means-cut : length s < to - 1 → same (meaning 0 (drop (from + 1) s)) name ≡ means s (record { from = from; to = to }) name
-    means-cut h =
-        let b = length-drop (from + 1) s in
-        sym (means-quoted ∙ ap (λ (x : List ℕ). same (meaning 0 x) name) (take-all (to - from - 2) (drop (from + 1) s) (omega arith)))
-
     pub means-between : same (meaning 0 (take (to - 1 - (from + 1)) (drop (from + 1) s))) name ≡ means s (record { from = from; to = to }) name
-    means-between = let e : to - from - 2 ≡ to - 1 - (from + 1) = omega arith in sym (means-quoted ∙ ap (λ (k : ℕ). same (meaning 0 (take k (drop (from + 1) s))) name) e)
+    unfolding means inner
+    means-between = let e : to - from - 2 ≡ to - 1 - (from + 1) = omega arith in rw (eq-eqb (byteAt s from) 34 q, e)
+
+    pub means-otherwise : beginsOtherwise (byteAt s (from + 1)) name ≡ true → means s (record { from = from; to = to }) name ≡ false
+    unfolding beginsOtherwise byteAt
+    means-otherwise h =
+        let c = byteAt s (from + 1) in
+        let p = and-eq-true-iff (not (eqb (length name) 0)) (not (eqb c (getD name 0 0)) && not (eqb c 92)) .0 h in
+        let q = and-eq-true-iff (not (eqb c (getD name 0 0))) (not (eqb c 92)) .0 (p .1) in
+        let e : byteAt (drop (from + 1) s) 0 ≡ c = getD-drop (from + 1) s 0 0 ∙ ap (λ (k : ℕ). getD s k 0) (omega arith) in
+        sym means-between
+        ∙ other-first (drop (from + 1) s) (to - 1 - (from + 1)) name
+        (λ z. refuted (eqb (length name) 0) (p .0) (eq-eqb (length name) 0 z))
+        (λ z. refuted (eqb c (getD name 0 0)) (q .0) (eq-eqb c (getD name 0 0) (sym e ∙ z)))
+        (λ z. refuted (eqb c 92) (q .1) (eq-eqb c 92 (sym e ∙ z)))
+
+-- what stands between the quotes of a string that ends at `to`, from past the first on
+module _ (s : List ℕ) (first to : ℕ) (name : List ℕ) where
+  -- nothing
+  pub between-empty : to ≤ first → eqb (length name) 0 ≡ same (meaning 0 (take (to - 1 - first) (drop first s))) name
+  unfolding meaning
+  between-empty h = let z : to - 1 - first ≡ 0 = omega arith in sym (rw z (none name))
+    where
+      none : (n : List ℕ) → same [] n ≡ eqb (length n) 0
+      none [] = refl
+      none (d ∷ n) = sym (ne-eqb (suc (length n)) 0 (λ e. omega arith))
+
+  -- too little
+  pub between-short : to - 1 - first < length name → false ≡ same (meaning 0 (take (to - 1 - first) (drop first s))) name
+  between-short h =
+      let t = take (to - 1 - first) (drop first s) in
+      let a = meaning-length 0 t in
+      let b = length-take (to - 1 - first) (drop first s) in
+      sym (same-longer (meaning 0 t) name (omega arith))
+
+  -- all up to the end of the text
+  pub between-cut : length s < to - 1 → same (meaning 0 (drop first s)) name ≡ same (meaning 0 (take (to - 1 - first) (drop first s))) name
+  between-cut h =
+      let b = length-drop first s in
+      sym (ap (λ (x : List ℕ). same (meaning 0 x) name) (take-all (to - 1 - first) (drop first s) (omega arith)))
 
 -- a string means one name at the most
 pub means-meaning : (s : List ℕ) (a : Span) (name : List ℕ) → means s a name ≡ true → meaning 0 (inner s a) ≡ name

@@ -34,13 +34,13 @@ use text::wide;
 ghost use mathlib.Core.Path.{_≡_};
 ghost use mathlib.Core.Bool.{cond};
 ghost use lib.Dec.{eqb};
-ghost use Prim.Native.Nat.{_≤_, _<_};
-ghost use lib.ListN.{length, drop};
+ghost use Prim.Native.Nat.{_-_, _≤_, _<_};
+ghost use lib.ListN.{length, take, drop};
 ghost use Rattle.json_tokens.specs.Ends.{endOf};
 ghost use Rattle.json.specs.Json.{itemsEnd, elements, members, value};
 ghost use Rattle.json.specs.Ends.{memberEnd};
 ghost use Rattle.json.specs.Names.{shortMeaning, hexValue, escapeMeaning, meaning, same, means};
-ghost use Rattle.json.specs.Escapes.{PastEscape, Spelled, PlainEnd};
+ghost use Rattle.json.specs.Escapes.{PastEscape, Spelled, beginsOtherwise, PlainEnd};
 
 // How deep arrays and objects may nest in a text, the outermost counting as one.
 pub const MAX_DEPTH: usize = 16;
@@ -127,8 +127,8 @@ pub fn object_end(s: &[u8], at: usize, depth: usize) -> usize
     }
 }
 
-// Whether the string from `from` to `to`, quotes included, means the name. What it means is no longer than its bytes, so most strings that
-// do not are told by their length or their first byte.
+// Whether the string from `from` to `to`, quotes included, means the name. Most strings that do not are told by their first byte, before
+// any call is made.
 pub fn is_name(s: &[u8], from: usize, to: usize, name: &[u8]) -> bool
     ensures { λ r. ⌜ r ≡ means (now (s .entry)) (record { from = from; to = to }) (now (name .entry)) ⌝ }
 {
@@ -136,6 +136,31 @@ pub fn is_name(s: &[u8], from: usize, to: usize, name: &[u8]) -> bool
         return false;
     }
     let first = from + 1;
+    if begins_otherwise(byte_at(s, first), name) {
+        return false;
+    }
+    is_between(s, first, to, name)
+}
+
+// Whether a string that begins with this byte cannot mean the name: it begins neither with the name's first byte nor with an escape.
+fn begins_otherwise(c: u8, name: &[u8]) -> bool
+    ensures { λ r. ⌜ r ≡ beginsOtherwise c (now (name .entry)) ⌝ }
+{
+    if name.len() == 0 {
+        return false;
+    }
+    if c == name[0] {
+        return false;
+    }
+    c != BACKSLASH
+}
+
+// Whether the bytes from past the first quote of a string that ends at `to` mean the name. What they mean is no longer than they are, so
+// that a length tells of some that they do not.
+fn is_between(s: &[u8], first: usize, to: usize, name: &[u8]) -> bool
+    requires { ⌜ first ≤ length (now s) ⌝ }
+    ensures { λ r. ⌜ r ≡ same (meaning 0 (take (to - 1 - first) (drop first (now (s .entry))))) (now (name .entry)) ⌝ }
+{
     if to <= first {
         return name.len() == 0;
     }

@@ -11,9 +11,8 @@ ghost use mathlib.Core.Path.{_≡_};
 ghost use Prim.Native.Nat.{_≤_};
 ghost use Rattle.decimal.specs.Decimal.{number};
 ghost use Rattle.decimal.specs.Limits.{Within};
-ghost use Rattle.edit.specs.Edit.{named};
 ghost use Rattle.level.specs.Order.{aheadOf, equalOf};
-ghost use Rattle.level.specs.Words.{maxLength, levelMade, levelOf, partsOf, levelPrice, levelSize, levelSum, levelLength, edit, EntryOf};
+ghost use Rattle.level.specs.Words.{maxLength, levelMade, levelOf, partsOf, levelPrice, levelSize, levelSum, levelLength, EntryOf};
 ghost use Rattle.level.specs.Kept.{maxLevels, held, levelAt, Empty};
 use decimal::Decimal;
 use decimal::Order;
@@ -166,16 +165,6 @@ pub fn entry_of(side: Side, price: Decimal, size: Decimal) -> Entry
     Entry {
         side,
         change: Change::Set(make(price, size, 0, 0)),
-    }
-}
-
-// The price that a change names.
-pub fn price_named(change: Change) -> Decimal
-    ensures { λ r. ⌜ number r ≡ named levelPrice (edit change) ⌝ }
-{
-    match change {
-        Change::Set(level) => price_of(level),
-        Change::Remove(price) => price,
     }
 }
 

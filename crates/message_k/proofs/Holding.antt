@@ -74,6 +74,9 @@ pub record Going (s : List ℕ) (at : ℕ) (t₀ : Members) (first : List ℕ) (
   pub room : length buffer ≡ 600
   pub holding : (x₀ : Reading (List Entry)) → Tells s x₀ (t₀ .tally) → Kept s x₀ first → Holding s (t .tally) i buffer (heldAll s x₀ at)
 
+pub going-as : {s : List ℕ} {at : ℕ} {t₀ : Members} {first : List ℕ} {t r : Members} {i : ℕ} {buffer : List ℕ} → r ≡ t → Going s at t₀ first t i buffer → Going s at t₀ first r i buffer
+going-as {s} {at} {t₀} {first} {t} {r} {i} {buffer} e g = subst (λ (x : Members). Going s at t₀ first x i buffer) (sym e) g
+
 -- the value of a member of the object was read
 module _ {s : List ℕ} {t : Members} {i k j : ℕ} {before after : List ℕ} {r : Members}
     (h : MemberRead s t (record { from = i; to = k }) j before after r) (v : value 14 s j ≡ At (r .end)) where

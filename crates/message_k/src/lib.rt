@@ -271,7 +271,7 @@ fn k_object(s: &[u8], before: Members, at: usize, buffer: &mut [u64; BUFFER_WORD
             }
             return closed(more, end);
         }
-        members = more;
+        members = by_fields(more);
         i = j;
     }
 }
@@ -416,10 +416,39 @@ fn no_members(end: usize) -> Members
 fn closed(members: Members, end: usize) -> Members
     ensures { λ r. ⌜ r ≡ closedAt end members ⌝ }
 {
-    let mut next = members;
+    let mut next = by_fields(members);
     next.end = end;
     next.is_object = true;
     next
+}
+
+// The same, made of its fields: a copy of the whole carries what lies between them too, and a load of that waits for the stores before it.
+fn by_fields(members: Members) -> Members
+    ensures { λ r. ⌜ r ≡ members ⌝ }
+{
+    let checksum = members.checksum;
+    let mark = checksum.mark;
+    let tally = members.tally;
+    Members {
+        end: members.end,
+        snapshot_asks: members.snapshot_asks,
+        snapshot_bids: members.snapshot_bids,
+        asks: members.asks,
+        bids: members.bids,
+        checksum: Sum {
+            mark,
+            sum: checksum.sum,
+            well_formed: checksum.well_formed,
+        },
+        tally: Tally {
+            bids: tally.bids,
+            asks: tally.asks,
+            broken_at: tally.broken_at,
+            strict_at: tally.strict_at,
+            well_formed: tally.well_formed,
+        },
+        is_object: members.is_object,
+    }
 }
 
 // The layout of a message of one object; `whole` is whether its first element is a whole number.

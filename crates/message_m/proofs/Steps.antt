@@ -177,6 +177,10 @@ added-as {s} {a} {t} {u} {f} {g} {before} {after} h same =
           (subst (λ (y : Reading (List Entry)). Tells s y u) (same x) (p .0), subst (λ (y : Reading (List Entry)). Kept s y after) (same x) (p .1));
     }
 
+-- .. and where the same is told
+pub added-told : {s : List ℕ} {a : Span} {t u v : Tally} {f : Reading (List Entry) → Reading (List Entry)} {before after : List ℕ} → v ≡ u → Added s a t u f before after → Added s a t v f before after
+added-told {s} {a} {t} {u} {v} {f} {before} {after} e h = subst (λ (x : Tally). Added s a t x f before after) (sym e) h
+
 -- nothing is added by a value that is passed over
 pub added-none : (s : List ℕ) (d : ℕ) (at : ℕ) (t : Tally) (buffer : List ℕ) → count t ≤ at → length buffer ≡ 600
     → Added s (record { from = at; to = endOf (value d s at) }) t t (λ x. x) buffer buffer

@@ -284,14 +284,33 @@ fn more_body(
         return Body {
             end: data.end,
             mark: with_member_span(body.mark, from, data.end),
-            last: data,
+            last: by_fields(data),
         };
     }
     let mark = body.mark;
     Body {
         end: value_end(s, from, ITEM_DEPTH),
         mark,
-        last,
+        last: by_fields(last),
+    }
+}
+
+// The same, made of its fields: a copy of the whole carries what lies between them too, and a load of that waits for the stores before it.
+fn by_fields(data: Data) -> Data
+    ensures { λ r. ⌜ r ≡ «data» ⌝ }
+{
+    let tally = data.tally;
+    Data {
+        end: data.end,
+        bids: data.bids,
+        asks: data.asks,
+        tally: Tally {
+            bids: tally.bids,
+            asks: tally.asks,
+            broken_at: tally.broken_at,
+            strict_at: tally.strict_at,
+            well_formed: tally.well_formed,
+        },
     }
 }
 

@@ -4,25 +4,25 @@
 //     let applied = side::apply(&mut bids, count, Side::Bids, 10, SumText::Stripped, &buffer, entries, table);
 //     level::level_at(Levels { words: bids, count: applied.left }, 0)        // the best bid now
 ghost use mathlib.Core.Path.{_≡_};
-ghost use Prim.Native.Nat.{_≤_, _<_};
-ghost use lib.ListN.{length, take, getD};
+ghost use Prim.Native.Nat.{_≤_};
+ghost use lib.ListN.{take};
 ghost use Rattle.crc32.specs.Table.{ShiftTable};
-ghost use Rattle.edit.specs.Buffer.{maxBuffered, bufferWords, entriesIn, noNumbers};
+ghost use Rattle.edit.specs.Buffer.{entriesIn};
 ghost use Rattle.level.specs.Ranked.{mapEdit, IfSet};
-ghost use Rattle.level.specs.Words.{edit, EntryOf};
+ghost use Rattle.level.specs.Words.{edit};
 ghost use Rattle.level.specs.Kept.{maxLevels, keptIn, Good};
-ghost use Rattle.side.specs.Applying.{EntryWithin, LevelWithin, withSum, Given, changesFor, AfterEntries};
+ghost use Rattle.side.specs.Applying.{LevelWithin, withSum, Given, changesFor, AfterEntries};
 use edit::BUFFER_WORDS;
 use edit::Side;
+use edit::entry_in;
 use edit::is_same;
 use level::Change;
 use level::EMPTY;
-use level::Entry;
 use level::MAX_WORDS;
+use level::entry_of;
 use level::is_ahead;
 use level::is_equal;
 use level::level_in;
-use level::price_named;
 use level::price_of;
 use level::put_level;
 use level::size_of;
@@ -69,15 +69,16 @@ pub fn apply(
     let mut replaced = false;
     let mut k = 0;
     'entry: while k < entries {
-        let entry = entry_at(buffer, k);
+        let numbers = entry_in(buffer, k);
         k += 1;
-        let entry_side = entry.side;
+        let entry_side = numbers.side;
         if !is_same(entry_side, side) {
             continue;
         }
+        let price = numbers.price;
+        let entry = entry_of(entry_side, price, numbers.size);
         let plain = entry.change;
         let change = with_sum(text, plain, table);
-        let price = price_named(change);
         // the levels before `low` stand nearer the top than the price, and those from `high` on do not
         let mut low = 0;
         let mut high = count;
@@ -138,16 +139,6 @@ pub fn apply(
         moved: moved,
         replaced: replaced,
     }
-}
-
-// The entry at place k of a buffer.
-fn entry_at(buffer: &[u64; BUFFER_WORDS], k: usize) -> Entry
-    requires { ⌜ (k < maxBuffered) × (length (now buffer) ≡ bufferWords) × EntryWithin (getD (entriesIn (now buffer)) k noNumbers) ⌝ }
-    ensures { λ r. ⌜ EntryOf (getD (entriesIn (now (buffer .entry))) k noNumbers) r ⌝ }
-{
-    let numbers = edit::entry_in(buffer, k);
-    let side = numbers.side;
-    level::entry_of(side, numbers.price, numbers.size)
 }
 
 // The change with the sum of the level that it sets.

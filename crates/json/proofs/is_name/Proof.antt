@@ -1,14 +1,13 @@
--- `json::is_name` meets its contract: a string begins with a quote, and what it means is no longer than what stands between its quotes.
+-- `json::is_name` meets its contract: a string begins with a quote, and then with what its name begins with, or with an escape.
 -- Assumes nothing.
-use mathlib.Core.Path.{_≡_, sym, ap, _∙_}
-use mathlib.Core.List.{List}
-use Prim.Native.Nat.{ℕ, _+_, _-_}
+use mathlib.Core.Path.{sym, ap, _∙_}
+use mathlib.Core.Bool.{Bool}
+use Prim.Native.Nat.{ℕ}
 use native.Mathlib.Omega.{arith}
 use denote.Ref.{now}
-use lib.ListN.{length, take, drop}
 use Rattle.json_tokens.proofs.Laws.{in-byte}
-use Rattle.json.specs.Names.{meaning, same}
-use Rattle.json.proofs.Names.{part-all, means-no-quote, means-empty, means-short, means-cut, means-between}
+use Rattle.json.specs.Escapes.{beginsOtherwise}
+use Rattle.json.proofs.Names.{means-no-quote, means-otherwise, means-between}
 use borrow.Author.Needs.{needs}
 use Rattle.json.proofs.is_name.Statement.{statement}
 use Rattle.json.proofs.is_name.Tie as tie
@@ -26,39 +25,32 @@ add-first c =
 
 returns-2 : tie.Need-returns-2
 returns-2 c =
-    let a = c .before .before .before .before .before .args in
-    means-empty (now (a .s)) (a .from) (a .to) (now (a .name)) (sym (c .before .before .byte-at .ensures) ∙ c .before .if1 .left) (c .if2 .taken)
+    let a = c .before .before .before .before .before .before .before .args in
+    sym
+    (means-otherwise (now (a .s)) (a .from) (a .to) (now (a .name)) (sym (c .before .before .before .before .byte-at .ensures) ∙ c .before .before .before .if1 .left)
+    (ap (λ (x : ℕ). beginsOtherwise x (now (a .name))) (sym (c .before .before .byte-at2 .ensures)) ∙ sym (c .before .begins-otherwise .ensures) ∙ c .if2 .taken))
+
+is-between-requires : tie.Need-is-between-requires
+is-between-requires c κs =
+    let a = c .before .before .before .before .before .before .before .args in
+    let h = in-byte (now (a .s)) (a .from) 34 (omega arith) (sym (c .before .before .before .before .byte-at .ensures) ∙ c .before .before .before .if1 .left) in
+    omega arith
 
 returns-3 : tie.Need-returns-3
 returns-3 c =
-    let a = c .before .before .before .before .before .before .args in
-    means-short (now (a .s)) (a .from) (a .to) (now (a .name)) (sym (c .before .before .before .byte-at .ensures) ∙ c .before .before .if1 .left) (c .if3 .taken)
-
-sub-spells : tie.Need-sub-spells
-sub-spells c =
-    let a = c .before .before .before .before .before .before .before .args in
-    let h = in-byte (now (a .s)) (a .from) 34 (omega arith) (sym (c .before .before .before .before .byte-at .ensures) ∙ c .before .before .before .if1 .left) in
-    omega arith
-
-part-spells-start : tie.Need-part-spells-start
-part-spells-start c =
-    let a = c .before .before .before .before .before .before .before .args in
-    let h = in-byte (now (a .s)) (a .from) 34 (omega arith) (sym (c .before .before .before .before .byte-at .ensures) ∙ c .before .before .before .if1 .left) in
-    omega arith
-
-returns-4 : tie.Need-returns-4
-returns-4 c =
-    let a = c .before .before .before .before .before .before .before .before .before .args in
-    c .spells .ensures ∙ ap (λ (x : List ℕ). same (meaning 0 x) (now (a .name))) (part-all (now (a .s)) (a .from + 1)) ∙ means-cut (now (a .s)) (a .from) (a .to) (now (a .name)) (sym (c .before .before .before .before .before .before .byte-at .ensures) ∙ c .before .before .before .before .before .if1 .left) (c .before .before .if4 .taken)
-
-returns-5 : tie.Need-returns-5
-returns-5 c =
-    let a = c .before .before .before .before .before .before .before .before .before .args in
-    c .spells2 .ensures ∙ means-between (now (a .s)) (a .from) (a .to) (now (a .name)) (sym (c .before .before .before .before .before .before .byte-at .ensures) ∙ c .before .before .before .before .before .if1 .left)
+    let a = c .before .before .before .before .before .before .before .before .args in
+    c .is-between .ensures
+    ∙ means-between (now (a .s)) (a .from) (a .to) (now (a .name)) (sym (c .before .before .before .before .before .byte-at .ensures) ∙ c .before .before .before .before .if1 .left)
 
 pub is-name-spec : {M : Type 1} → statement M
 is-name-spec =
     tie.close
     (tie.spec
-    (λ c κs. search needs) returns add-first returns-2 (λ c. search needs) (λ c. search needs) returns-3 sub-spells part-spells-start (λ c. search needs) (λ c κs. search needs) returns-4
-    (λ c. search needs) (λ c. search needs) (λ c. search needs) (λ c κs. search needs) returns-5)
+    (λ c κs. search needs)
+    returns
+    add-first
+    (λ c κs. search needs)
+    (λ c κs. search needs)
+    returns-2
+    is-between-requires
+    returns-3)

@@ -22,7 +22,7 @@ use Rattle.entries.specs.Tally.{met, Tells, Kept}
 use Rattle.message_k.specs.MembersK.{withMember, noMembers, closedAt, membersAt}
 use Rattle.message_k.specs.declared.Members.{Members}
 use Rattle.message_k.proofs.Objects.{no-object, object-fold}
-use Rattle.message_k.proofs.Holding.{overTold, overHeld, heldAll, Holding, Going, holding-on, holding-last, object-none, object-broken, object-read}
+use Rattle.message_k.proofs.Holding.{overTold, overHeld, heldAll, Holding, Going, going-as, holding-on, holding-last, object-none, object-broken, object-read}
 use Rattle.message_k.proofs.k_object.Statement.{statement}
 use Rattle.message_k.proofs.k_object.Tie as tie
 
@@ -193,22 +193,25 @@ returns-7 c =
 
 loop-less : tie.Need-loop-less Inv-loop μ-loop
 loop-less c =
-    let m = c .before .before .before in
-    let f = fold-further (overTold (text (at m))) (at m .loop .members) (at m .loop .inv .told) (stands m (c .before .before .if5 .left)) (c .before .comma-end .result) (c .before .comma-end .ensures) (c .if6 .left) in
+    let m = c .before .before .before .before in
+    let comma = c .before .before .comma-end in
+    let f = fold-further (overTold (text (at m))) (at m .loop .members) (at m .loop .inv .told) (stands m (c .before .before .before .if5 .left)) (comma .result) (comma .ensures) (c .before .if6 .left) in
     omega arith
 
 loop-again : tie.Need-loop-again Inv-loop μ-loop
 loop-again c =
-    let m = c .before .before .before in
-    let some = c .before .before .if5 .left in
-    let f = fold-further (overTold (text (at m))) (at m .loop .members) (at m .loop .inv .told) (stands m some) (c .before .comma-end .result) (c .before .comma-end .ensures) (c .if6 .left) in
+    let m = c .before .before .before .before in
+    let some = c .before .before .before .if5 .left in
+    let comma = c .before .before .comma-end in
+    let f = fold-further (overTold (text (at m))) (at m .loop .members) (at m .loop .inv .told) (stands m some) (comma .result) (comma .ensures) (c .before .if6 .left) in
     let few = m .k-member .ensures .few some in
-    record {
-      told = fold-on (overTold (text (at m))) (at m .loop .members) (at m .loop .inv .told) (stands m some) (c .before .comma-end .result) (c .before .comma-end .ensures) (c .if6 .left) (steps m some);
+    going-as (c .by-fields .ensures)
+    (record {
+      told = fold-on (overTold (text (at m))) (at m .loop .members) (at m .loop .inv .told) (stands m some) (comma .result) (comma .ensures) (c .before .if6 .left) (steps m some);
       few = omega arith;
       room = m .k-member .ensures .added .room;
-      holding = λ x w k. holding-on (m .k-member .ensures) (is-value m some) (at m .loop .inv .holding x w k) (stands m some) (c .before .comma-end .result) (c .before .comma-end .ensures) (c .if6 .left);
-    }
+      holding = λ x w k. holding-on (m .k-member .ensures) (is-value m some) (at m .loop .inv .holding x w k) (stands m some) (comma .result) (comma .ensures) (c .before .if6 .left);
+    })
 
 pub k-object-spec : {M : Type 1} → statement M
 k-object-spec =
@@ -217,4 +220,4 @@ k-object-spec =
     Inv-loop μ-loop (λ c κs. search needs) (λ c κs. search needs) (λ c κs. search needs) returns add-object-close-end (λ c κs. search needs) (λ c κs. search needs) returns-2
     add-skip-blanks (λ c κs. search needs) loop-holds (λ c κs. search needs) (λ c κs. search needs) returns-3 (λ c κs. search needs) (λ c κs. search needs) returns-4
     k-member-requires (λ c κs. search needs) returns-5 (λ c κs. search needs) (λ c κs. search needs) (λ c κs. search needs) returns-6 (λ c κs. search needs) returns-7
-    loop-less loop-again)
+    (λ c. search needs) loop-less loop-again)

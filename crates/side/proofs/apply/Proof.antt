@@ -18,7 +18,7 @@ use Rattle.level.specs.declared.Change.{Change}
 use Rattle.level.specs.declared.Change.the-variants.{Set, Remove}
 use Rattle.level.specs.Words.{levelPrice}
 use Rattle.edit.specs.Edit.{Edit, sets, removes, Numbers, isSame, sideOf}
-use Rattle.edit.specs.Buffer.{entriesIn, noNumbers}
+use Rattle.edit.specs.Buffer.{entriesIn, numbersOf, noNumbers}
 use Rattle.edit.specs.declared.Side.{Side}
 use Rattle.level.specs.Side.{nearer, without, applyAll, standing}
 use Rattle.level.specs.Ranked.{All, afterMessage, replaces, replaced, Sorted, mapEdit, IfSet}
@@ -45,10 +45,10 @@ abbrev μ-load : tie.MeasureT-load
 μ-load words kept side depth text buffer entries table levels₀ count i₀ levels i = count - i
 
 abbrev Inv-find : tie.InvT-find
-Inv-find words kept side depth text buffer entries table levels count i moved replaced k change price low₀ high₀ low high = Bracket levelPrice side (take count levels) (value (number price)) low high × (high ≤ count)
+Inv-find words kept side depth text buffer entries table levels count i moved replaced k price change low₀ high₀ low high = Bracket levelPrice side (take count levels) (value (number price)) low high × (high ≤ count)
 
 abbrev μ-find : tie.MeasureT-find
-μ-find words kept side depth text buffer entries table levels count i moved replaced k change price low₀ high₀ low high = high - low
+μ-find words kept side depth text buffer entries table levels count i moved replaced k price change low₀ high₀ low high = high - low
 
 abbrev Inv-down : tie.InvT-down
 Inv-down words kept side depth text buffer entries table levels₀ count i moved replaced k low high j₀ levels j = (levels ≡ down levels₀ low j) × (low ≤ j) × (j ≤ count)
@@ -119,12 +119,12 @@ tested : (c : tie.After-is-same Inv-load μ-load Inv-find μ-find Inv-down μ-do
 tested c =
     let E = c .before .before .before in
     c .is-same .ensures
-    ∙ ap (λ (x : Side). isSame x (St E .args .side)) (c .before .entry-at .ensures .for-side ∙ sym (ap sideOf (in-buffer E (c .before .before .entry-test .taken))))
+    ∙ ap (λ (x : Side). isSame x (St E .args .side)) (ap sideOf (c .before .entry-in .ensures ∙ sym (in-buffer E (c .before .before .entry-test .taken))))
 
 -- in a turn, once the price of the entry is had
-module _ (v : tie.After-price-named Inv-load μ-load Inv-find μ-find Inv-down μ-down Inv-up μ-up Inv-entry μ-entry Inv-cut μ-cut) where
+module _ (v : tie.After-with-sum Inv-load μ-load Inv-find μ-find Inv-down μ-down Inv-up μ-up Inv-entry μ-entry Inv-cut μ-cut) where
   abbrev E : tie.At-entry Inv-load μ-load Inv-find μ-find Inv-down μ-down Inv-up μ-up Inv-entry μ-entry Inv-cut μ-cut
-  E = v .before .before .before .before .before .before
+  E = v .before .before .before .before .before .before .before
 
   abbrev s : tie.Start Inv-load μ-load Inv-find μ-find Inv-down μ-down Inv-up μ-up Inv-entry μ-entry Inv-cut μ-cut
   s = St E
@@ -136,7 +136,7 @@ module _ (v : tie.After-price-named Inv-load μ-load Inv-find μ-find Inv-down �
   K = E .entry .k
 
   abbrev below : K < s .args .entries
-  below = v .before .before .before .before .before .entry-test .taken
+  below = v .before .before .before .before .before .before .entry-test .taken
 
   -- the entries, the one at hand, and the side as it was loaded
   abbrev es : List Numbers
@@ -161,17 +161,20 @@ module _ (v : tie.After-price-named Inv-load μ-load Inv-find μ-find Inv-down �
   G = E .entry .moved
 
   -- the value of the price, the entry's change, and what the definition has there
+  abbrev price : Decimal
+  price = v .before .before .before .before .before .entry-in .result .price
+
   abbrev P : ℕ
-  P = value (number (v .price-named .result))
+  P = value (number price)
 
   abbrev change : Change
-  change = v .before .with-sum .result
+  change = v .with-sum .result
 
   abbrev this : Edit Level
   this = does (s .args .text) e
 
   own : isSame (e .side) (s .args .side) ≡ true
-  own = sym (tested (v .before .before .before)) ∙ not-false _ (v .before .before .if1 .left)
+  own = sym (tested (v .before .before .before .before)) ∙ not-false _ (v .before .before .before .if1 .left)
 
   long : length A ≡ 200
   long = E .entry .inv .long
@@ -188,17 +191,20 @@ module _ (v : tie.After-price-named Inv-load μ-load Inv-find μ-find Inv-down �
   side-long : length S ≡ N
   side-long = length-take-le N A room
 
+  is-entry : numbersOf (v .before .before .before .before .before .entry-in .result) ≡ e
+  is-entry = v .before .before .before .before .before .entry-in .ensures ∙ sym (in-buffer E below)
+
   is-edit : edit change ≡ this
   is-edit =
-      v .before .with-sum .ensures
-      ∙ ap (mapEdit (withSum (s .args .text))) (v .before .before .before .before .entry-at .ensures .says ∙ sym (ap (changeOf levelPlain) (in-buffer E below)))
+      v .with-sum .ensures
+      ∙ ap (mapEdit (withSum (s .args .text))) (v .before .entry-of .ensures .says ∙ ap (changeOf levelPlain) is-entry)
       ∙ summed-does (s .args .text) e (entry-within E below)
 
-  named-is : number (v .price-named .result) ≡ named levelPrice this
-  named-is = v .price-named .ensures ∙ ap (named levelPrice) is-edit
+  named-is : number price ≡ named levelPrice this
+  named-is = ap (λ (x : Numbers). x .price) is-entry ∙ sym (does-named (s .args .text) e (entry-within E below))
 
-  sound-price : Within (number (v .price-named .result))
-  sound-price = subst Within (sym (named-is ∙ does-named (s .args .text) e (entry-within E below))) (entry-within E below .0)
+  sound-price : Within (number price)
+  sound-price = subst (λ (x : Numbers). Within (x .price)) (sym is-entry) (entry-within E below .0)
 
   stepped : (c : List Level) (m by : ℕ) (now : Bool) → length c ≡ 200 → m ≤ N + 1 → take m c ≡ applyRanked levelPrice (s .args .side) this S
       → by ≡ moves levelPrice (s .args .side) this S → now ≡ (E .entry .replaced || replaces levelPrice this S)
@@ -261,7 +267,7 @@ behind-all c =
     let lt : p .low < length (S v) = omega (arith, side-long v, w .0 .taken) in
     past levelPrice (s v .args .side) (S v) (P v) (E v .entry .inv .sorted) (p .low) noLevel lt
     (bracket-head levelPrice (s v .args .side) (S v) (P v) (p .low) (p .high) noLevel (p .inv .0) out lt)
-    (other-at (A v) (N v) (p .low) (w .0 .taken) (w .2 .result) (v .price-named .result) (w .3 .result) (w .2 .ensures) (w .3 .ensures) (w .4 .result) (w .4 .ensures) (w .5 .left)))
+    (other-at (A v) (N v) (p .low) (w .0 .taken) (w .2 .result) (price v) (w .3 .result) (w .2 .ensures) (w .3 .ensures) (w .4 .result) (w .4 .ensures) (w .5 .left)))
     (λ w. past-none levelPrice (s v .args .side) (S v) (P v) (p .low) (omega (arith, side-long v, w .left)))
     (c .if3 .came)
 
@@ -307,10 +313,8 @@ entry-holds c =
     turn-start (s .args .text) (s .args .side) (take (s .args .entries) (entriesIn (s .args .buffer .now))) (take (s .args .kept) (c .before .load .levels)) (s .args .kept) (s .pre .0 .few) (s .pre .1 .own)
     (c .before .load .levels) (c .before .load .inv .0) refl (rw (loaded c) (s .pre .0 .sorted)) (rw (loaded c) (s .pre .0 .within))
 
-entry-at-requires : tie.Need-entry-at-requires Inv-load μ-load Inv-find μ-find Inv-down μ-down Inv-up μ-up Inv-entry μ-entry Inv-cut μ-cut
-entry-at-requires c κs =
-    let g = St (c .before) .pre .1 in
-    (omega (arith, g .few, c .entry-test .taken), g .room, subst EntryWithin (in-buffer (c .before) (c .entry-test .taken)) (entry-within (c .before) (c .entry-test .taken)))
+entry-in-requires : tie.Need-entry-in-requires Inv-load μ-load Inv-find μ-find Inv-down μ-down Inv-up μ-up Inv-entry μ-entry Inv-cut μ-cut
+entry-in-requires c κs = let g = St (c .before) .pre .1 in (omega (arith, g .few, c .entry-test .taken), g .room)
 
 entry-again : tie.Need-entry-again Inv-load μ-load Inv-find μ-find Inv-down μ-down Inv-up μ-up Inv-entry μ-entry Inv-cut μ-cut
 entry-again c =
@@ -320,11 +324,18 @@ entry-again c =
     turn-pass (s .args .text) (s .args .side) (entries E h) (take (s .args .kept) (E .before .before .load .levels)) (s .args .kept) (s .pre .0 .few) (s .pre .1 .own)
     (E .entry .levels) (E .entry .count) (E .entry .moved) (E .entry .k) (E .entry .replaced) (E .entry .inv) (in-message E h) (sym (tested (c .before)) ∙ not-true _ (c .if1 .taken))
 
+entry-of-requires : tie.Need-entry-of-requires Inv-load μ-load Inv-find μ-find Inv-down μ-down Inv-up μ-up Inv-entry μ-entry Inv-cut μ-cut
+entry-of-requires c κs =
+    let E = c .before .before .before .before .before in
+    let h = c .before .before .before .before .entry-test .taken in
+    subst EntryWithin (in-buffer E h ∙ sym (c .before .before .before .entry-in .ensures)) (entry-within E h)
+
 with-sum-requires : tie.Need-with-sum-requires Inv-load μ-load Inv-find μ-find Inv-down μ-down Inv-up μ-up Inv-entry μ-entry Inv-cut μ-cut
 with-sum-requires c κs =
-    let E = c .before .before .before .before in
-    let h = c .before .before .before .entry-test .taken in
-    (subst (IfSet LevelWithin) (sym (c .before .before .entry-at .ensures .says ∙ sym (ap (changeOf levelPlain) (in-buffer E h)))) (plain-within (numbers E h) (entry-within E h)), St E .pre .3)
+    let E = c .before .before .before .before .before .before in
+    let h = c .before .before .before .before .before .entry-test .taken in
+    let same = c .before .before .before .before .entry-in .ensures ∙ sym (in-buffer E h) in
+    (subst (IfSet LevelWithin) (sym (c .entry-of .ensures .says ∙ ap (changeOf levelPlain) same)) (plain-within (numbers E h) (entry-within E h)), St E .pre .3)
 
 find-holds : tie.Need-find-holds Inv-load μ-load Inv-find μ-find Inv-down μ-down Inv-up μ-up Inv-entry μ-entry Inv-cut μ-cut
 find-holds c = (bracket-start levelPrice (s c .args .side) (S c) (P c) (N c) (side-long c), omega arith)
@@ -342,7 +353,7 @@ find-again c =
     let lt : p .low < p .high = c .before .before .before .before .before .find-test .taken in
     let m = p .low + (p .high - p .low) / 2 in (
       bracket-up levelPrice (s v .args .side) (S v) (P v) (E v .entry .inv .sorted) m noLevel (omega (arith, side-long v)) (p .low) (p .high) (p .inv .0) (omega arith)
-          (ahead-at (A v) (N v) m (omega arith) (c .before .before .before .price-of .result) (v .price-named .result) (c .before .before .compare .result) (c .before .before .before .price-of .ensures) (c .before .before .compare .ensures) (s v .args .side) (c .before .is-ahead .result) true (c .before .is-ahead .ensures) (c .if2 .taken)),
+          (ahead-at (A v) (N v) m (omega arith) (c .before .before .before .price-of .result) (price v) (c .before .before .compare .result) (c .before .before .before .price-of .ensures) (c .before .before .compare .ensures) (s v .args .side) (c .before .is-ahead .result) true (c .before .is-ahead .ensures) (c .if2 .taken)),
       omega arith,
     )
 
@@ -353,7 +364,7 @@ find-again-2 c =
     let lt : p .low < p .high = c .before .before .before .before .before .find-test .taken in
     let m = p .low + (p .high - p .low) / 2 in (
       bracket-down levelPrice (s v .args .side) (S v) (P v) (E v .entry .inv .sorted) m noLevel (omega (arith, side-long v)) (p .low) (p .high) (p .inv .0) (omega arith)
-          (ahead-at (A v) (N v) m (omega arith) (c .before .before .before .price-of .result) (v .price-named .result) (c .before .before .compare .result) (c .before .before .before .price-of .ensures) (c .before .before .compare .ensures) (s v .args .side) (c .before .is-ahead .result) false (c .before .is-ahead .ensures) (c .if2 .left)),
+          (ahead-at (A v) (N v) m (omega arith) (c .before .before .before .price-of .result) (price v) (c .before .before .compare .result) (c .before .before .before .price-of .ensures) (c .before .before .compare .ensures) (s v .args .side) (c .before .is-ahead .result) false (c .before .is-ahead .ensures) (c .if2 .left)),
       omega arith,
     )
 
@@ -388,7 +399,7 @@ entry-again-2 c =
     let p = c .before .before .before .before .before .before .before .before .before .before .find in
     let lt : p .low < N v = c .before .before .before .before .before .before .before .before .if3 .taken in
     let ls : p .low < length (S v) = omega (arith, side-long v) in
-    let same : key (getD (S v) (p .low) noLevel) ≡ P v = same-at (A v) (N v) (p .low) lt (c .before .before .before .before .before .before .price-of2 .result) (v .price-named .result) (c .before .before .before .before .before .compare2 .result) (c .before .before .before .before .before .before .price-of2 .ensures) (c .before .before .before .before .before .compare2 .ensures) (c .before .before .before .before .is-equal .result) (c .before .before .before .before .is-equal .ensures) (c .before .before .before .if4 .taken) in
+    let same : key (getD (S v) (p .low) noLevel) ≡ P v = same-at (A v) (N v) (p .low) lt (c .before .before .before .before .before .before .price-of2 .result) (price v) (c .before .before .before .before .before .compare2 .result) (c .before .before .before .before .before .before .price-of2 .ensures) (c .before .before .before .before .before .compare2 .ensures) (c .before .before .before .before .is-equal .result) (c .before .before .before .before .is-equal .ensures) (c .before .before .before .if4 .taken) in
     let high = past-same levelPrice (s v .args .side) (S v) (P v) (E v .entry .inv .sorted) (p .low) noLevel ls same in
     let new = c .before .change .given .0 .0 in
     let is = c .before .change .given .1 in
@@ -404,7 +415,7 @@ entry-again-3 c =
     let p = c .before .before .before .before .before .before .before .before .before .before .before .find in
     let lt : p .low < N v = c .before .before .before .before .before .before .before .before .before .if3 .taken in
     let ls : p .low < length (S v) = omega (arith, side-long v) in
-    let same : key (getD (S v) (p .low) noLevel) ≡ P v = same-at (A v) (N v) (p .low) lt (c .before .before .before .before .before .before .before .price-of2 .result) (v .price-named .result) (c .before .before .before .before .before .before .compare2 .result) (c .before .before .before .before .before .before .before .price-of2 .ensures) (c .before .before .before .before .before .before .compare2 .ensures) (c .before .before .before .before .before .is-equal .result) (c .before .before .before .before .before .is-equal .ensures) (c .before .before .before .before .if4 .taken) in
+    let same : key (getD (S v) (p .low) noLevel) ≡ P v = same-at (A v) (N v) (p .low) lt (c .before .before .before .before .before .before .before .price-of2 .result) (price v) (c .before .before .before .before .before .before .compare2 .result) (c .before .before .before .before .before .before .before .price-of2 .ensures) (c .before .before .before .before .before .before .compare2 .ensures) (c .before .before .before .before .before .is-equal .result) (c .before .before .before .before .before .is-equal .ensures) (c .before .before .before .before .if4 .taken) in
     let high = past-same levelPrice (s v .args .side) (S v) (P v) (E v .entry .inv .sorted) (p .low) noLevel ls same in
     let q = c .before .down in
     let j : q .j ≡ N v - 1 = omega (arith, q .inv .2, c .down-test .left) in
@@ -559,13 +570,13 @@ apply-spec =
     (λ c. omega arith)
     load-again
     entry-holds
-    entry-at-requires
+    entry-in-requires
     (λ c. omega arith)
     (λ c κs. search needs)
     (λ c. omega arith)
     entry-again
+    entry-of-requires
     with-sum-requires
-    (λ c κs. search needs)
     find-holds
     (λ c. omega arith)
     (λ c. omega arith)

@@ -12,7 +12,7 @@ use Rattle.decimal.proofs.Tail.step.Tie as tie
 returns : tie.Need-returns
 returns c =
     tail-past (c .before .before .before .before .args .self) (c .before .before .if1 .taken)
-    ∙ ap₂ (λ (l : List ℕ) (b : ℕ). l ++ (b ∷ [])) (sym (c .before-past .ensures)) (sym (c .before .last-digit .ensures))
+    ∙ ap₂ (λ (l : List ℕ) (b : ℕ). l ++ (b ∷ [])) (sym (c .before-past .ensures)) (sym (c .before .last-past .ensures))
 
 returns-2 : tie.Need-returns-2
 returns-2 c =
@@ -27,17 +27,17 @@ unfolding remaining
 returns-4 c =
     let t = c .before .before .before .before .before .before .before .before .before .args .self in
     tail-fraction t (c .before .before .before .before .before .enum-told .given .1) (c .before .before .before .before .before .before .before .if1 .left) (c .before .before .before .if2 .left)
-    ∙ ap (λ (b : ℕ). (frontOf Fraction (t .digits / 10) (t .decimals - 1) ++ pastFirst 0) ++ (b ∷ [])) (sym (c .before .before .last-digit2 .ensures))
+    ∙ ap (λ (b : ℕ). (frontOf Fraction (t .digits / 10) (t .decimals - 1) ++ pastFirst 0) ++ (b ∷ [])) (sym (c .before .before .last-digit .ensures))
 
 returns-5 : tie.Need-returns-5
 returns-5 c =
     tail-units (c .before .before .before .before .before .before .before .args .self) (c .before .before .before .enum-told2 .given .1) (c .before .before .before .before .before .if1 .left)
-    ∙ ap₂ (λ (l : List ℕ) (b : ℕ). l ++ (b ∷ [])) (sym (c .digits-tail .ensures)) (sym (c .before .before .last-digit3 .ensures))
+    ∙ ap₂ (λ (l : List ℕ) (b : ℕ). l ++ (b ∷ [])) (sym (c .digits-tail .ensures)) (sym (c .before .before .last-digit2 .ensures))
 
 returns-6 : tie.Need-returns-6
 returns-6 c =
     tail-higher (c .before .before .before .before .before .before .before .before .before .args .self) (c .before .before .before .before .before .enum-told3 .given .1) (c .before .before .before .before .before .before .before .if1 .left) (c .before .before .before .if3 .left)
-    ∙ ap₂ (λ (l : List ℕ) (b : ℕ). l ++ (b ∷ [])) (sym (c .digits-tail2 .ensures)) (sym (c .before .before .last-digit4 .ensures))
+    ∙ ap₂ (λ (l : List ℕ) (b : ℕ). l ++ (b ∷ [])) (sym (c .digits-tail2 .ensures)) (sym (c .before .before .last-digit3 .ensures))
 
 pub step-spec : {M : Type 1} → statement M
 step-spec =

@@ -2,6 +2,7 @@
 use Prim.Native.Nat.{ℕ}
 use mathlib.Core.Path.{sym, ap, _∙_}
 use mathlib.Core.List.{List, _++_}
+use native.Mathlib.Omega.{arith}
 use Rattle.decimal.specs.Digits.{significant}
 use Rattle.decimal.specs.Decimal.{number}
 use Rattle.decimal.specs.Tail.{remaining, frontOf}
@@ -27,6 +28,9 @@ returns-3 c =
     ap (λ (l : List ℕ). significant (a .digits) ++ l) (past-tidied (a .code) (c .tidy .result) (c .tidy .ensures) (c .before .before .before .if1 .left))
     ∙ sym (stripped-far (a .digits) (a .code) (c .before .if2 .left))
 
+cast : tie.Need-cast-t5
+cast c = omega (arith, c .tidy .ensures .low)
+
 pub stripped-tail-spec : {M : Type 1} → statement M
 stripped-tail-spec =
     tie.close
@@ -37,4 +41,5 @@ stripped-tail-spec =
     (λ c κs. search needs)
     returns-2
     (λ c κs. search needs)
+    cast
     returns-3)

@@ -33,5 +33,8 @@ returns-3 c =
     ap (λ (l : List ℕ). frontOf Fraction (a .digits) near ++ l) (past-tidied (a .code) (c .tidy .result) (c .tidy .ensures) (c .before .if2 .left))
     ∙ sym (text-far (a .digits) (a .code) (c .before .if2 .left))
 
+cast : tie.Need-cast-t5
+cast c = omega (arith, c .tidy .ensures .low)
+
 pub text-tail-spec : {M : Type 1} → statement M
-text-tail-spec = tie.close (tie.spec (λ c κs. search needs) returns returns-2 (λ c κs. search needs) returns-3)
+text-tail-spec = tie.close (tie.spec (λ c κs. search needs) returns returns-2 (λ c κs. search needs) cast returns-3)

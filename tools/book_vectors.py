@@ -32,7 +32,7 @@ class Book:
     def __init__(self, dialect, depth, name):
         self.settings = dialect, depth, name
         self.status = "waiting" if message.good_settings(dialect, depth, name) else "shut"
-        self.sides, self.number, self.updates, self.ever = ({}, {}), 0, 0, False
+        self.sides, self.number, self.updates, self.ever, self.moved = ({}, {}), 0, 0, False, 0
 
     def ranked(self, side, levels):
         return [levels[price] for price in sorted(levels, reverse=side == 0)]
@@ -72,7 +72,20 @@ class Book:
             sides.append(levels)
         return tuple(sides)
 
+    def moves(self, said):
+        """How many levels the entries move: for each that comes or goes, those that stand and are worse."""
+        count = 0
+        for side, rows in enumerate(said.rows):
+            prices = set() if said.snapshot else set(self.sides[side])
+            for price, size in rows:
+                value = Decimal(price.inside().decode())
+                if (value in prices) == message.zero(size.inside()):
+                    prices ^= {value}
+                    count += sum(other < value if side == 0 else other > value for other in prices)
+        return count
+
     def take(self, text):
+        self.moved = 0
         if self.status == "shut":
             return 1
         try:
@@ -95,6 +108,7 @@ class Book:
             return self.refuse(16)
         if said.checksum is not None and said.checksum != self.checksum(sides):
             return self.refuse(13)
+        self.moved = self.moves(said)
         self.sides, self.status, self.number = sides, "live", said.number
         self.updates = 0 if said.snapshot else min(self.updates + 1, MAX_UPDATES)
         self.ever = self.ever or said.snapshot
@@ -134,7 +148,7 @@ class Files:
         text = text if isinstance(text, bytes) else text.encode()
         number = self.book.take(text)
         assert expected in (None, number), (expected, number, text)
-        self.say(b"< " + text, b"%d" % number)
+        self.say(b"< " + text, b"%d %d" % (number, self.book.moved))
 
     def ask(self, letter, i=None):
         last, kind = letter.isupper(), letter.lower()
@@ -169,7 +183,7 @@ class Files:
         told = b"%d" % number
         if number == 0:
             new = Book(*self.book.settings)
-            told += b" %d" % new.take(text)
+            told += b" %d %d" % (new.take(text), new.moved)
             assert [new.shown(side) for side in (0, 1)] == [self.book.shown(side) for side in (0, 1)] and new.number == self.book.number
             self.book = new
         self.say(b"r", told)

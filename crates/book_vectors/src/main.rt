@@ -287,6 +287,7 @@ fn hand(book: Book, text: &[u8]) -> Book
 {
     let step = book.take(text);
     let answer = step.answer;
-    say(number_of(answer));
+    tell_answer(answer);
+    say(step.moved as u64);
     step.book
 }

@@ -200,7 +200,10 @@ fn told(book: &mut Book, case: &[u8]) -> Vec<u8> {
     let scope = if letter.is_ascii_uppercase() { Scope::LastGood } else { Scope::Live };
     let text = said(case);
     let line = match letter.to_ascii_lowercase() {
-        b'<' => book.take(text).to_string(),
+        b'<' => {
+            let (answer, moved) = book.take_counting(text);
+            format!("{answer} {moved}")
+        }
         b'c' => {
             let (answer, bids, asks) = book.levels(scope);
             format!("{answer} {bids} {asks}")
@@ -225,7 +228,8 @@ fn told(book: &mut Book, case: &[u8]) -> Vec<u8> {
             match book.write(&mut room) {
                 (0, length) => {
                     *book = Book::open(book.settings.clone());
-                    format!("0 {}", book.take(&room[..length]))
+                    let (answer, moved) = book.take_counting(&room[..length]);
+                    format!("0 {answer} {moved}")
                 }
                 (answer, _) => answer.to_string(),
             }

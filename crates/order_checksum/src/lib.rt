@@ -28,12 +28,7 @@ pub fn checksum_of<'a>(
     requires { ⌜ Good Bids (now bids) b × Good Asks (now asks) a × ShiftTable (now table) ⌝ }
     ensures { λ r. ⌜ r ≡ crc (orderChecksumText (map shown (held (now (bids .entry)) b)) (map shown (held (now (asks .entry)) a))) ⌝ }
 {
-    let after_asks = sum_orders(
-        crc32::START,
-        asks,
-        count_summed(asks, a, Side::Asks),
-        table,
-    );
+    let after_asks = sum_orders(crc32::START, asks, count_summed(asks, a, Side::Asks), table);
     sum_orders(after_asks, bids, count_summed(bids, b, Side::Bids), table) ^ crc32::START
 }
 

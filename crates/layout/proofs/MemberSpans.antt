@@ -5,13 +5,15 @@ use mathlib.Core.List.{List, [], _∷_}
 use mathlib.Core.Bool.{Bool, true, false, cond}
 use Prim.Native.Nat.{ℕ, zero, suc, _+_, _≤_}
 use native.Mathlib.Omega.{arith}
+use borrow.Author.Tests.{eq-eqb, ne-eqb, eqb-true, eqb-false}
+use lib.Dec.{eqb}
 use lib.ListN.{length}
-use Rattle.decimal.specs.Digits.{reads, refused}
+use Rattle.decimal.specs.Digits.{Reading, reads, refused}
 use Rattle.json.specs.Json.{Span, Pair}
 use Rattle.json.specs.Names.{means}
-use Rattle.entries.specs.Places.{valuesOf, only}
+use Rattle.entries.specs.Places.{andThen, valuesOf, only}
 use Rattle.json.specs.Fold.{foldFrom}
-use Rattle.layout.specs.MemberSpans.{few, fewMore, noMemberSpan, withMemberSpan, memberSpanOf}
+use Rattle.layout.specs.MemberSpans.{few, fewMore, noMemberSpan, withMemberSpan, memberSpanOf, onceAt, onHit, onMember}
 use Rattle.layout.specs.declared.MemberSpan.{MemberSpan}
 
 -- ---- counting up to two
@@ -110,3 +112,52 @@ module _ {S A : Type 0} (s name : List ℕ) (step : S → Pair → S) (get : S �
           → get (foldFrom step (step st m) ms) ≡ foldFrom add (get st) (cond b (m .value ∷ valuesOf s name ms) (valuesOf s name ms))
       at true h k = k ∙ ap (λ x. foldFrom add x (valuesOf s name ms)) (hit st m h)
       at false h k = k ∙ ap (λ x. foldFrom add x (valuesOf s name ms)) (miss st m h)
+
+-- ---- what follows the members of one name
+module _ {A : Type 0} (hit : Bool) (add : A → Span → A) (x : A) (a : Span) where
+  pub hit-yes : hit ≡ true → onHit hit add x a ≡ add x a
+  unfolding onHit
+  hit-yes h = rw (h, onHit)
+
+  pub hit-no : hit ≡ false → onHit hit add x a ≡ x
+  unfolding onHit
+  hit-no h = rw (h, onHit)
+
+-- a component that follows the members of one name
+pub on-fold : {S A : Type 0} (s name : List ℕ) (step : S → Pair → S) (get : S → A) (add : A → Span → A)
+    → ((st : S) (m : Pair) → get (step st m) ≡ onMember s name add (get st) m)
+    → (st : S) (ms : List Pair) → get (foldFrom step st ms) ≡ foldFrom add (get st) (valuesOf s name ms)
+on-fold s name step get add is =
+    values-fold s name step get add
+    (λ st m h. is st m ∙ hit-yes (means s (m .name) name) add (get st) (m .value) h)
+    (λ st m h. is st m ∙ hit-no (means s (m .name) name) add (get st) (m .value) h)
+
+-- ---- the value of a name that was met once
+
+abbrev pub placeOf : MemberSpan → Span
+placeOf m = record { from = m .from; to = m .to }
+
+module _ (m : MemberSpan) where
+  pub once-yes : m .times ≡ 1 → onceAt m ≡ reads (placeOf m)
+  unfolding onceAt
+  once-yes h = rw (eq-eqb (m .times) 1 h)
+
+  pub once-no : (m .times ≡ 1 → ⊥) → onceAt m ≡ refused
+  unfolding onceAt
+  once-no h = rw (ne-eqb (m .times) 1 h)
+
+  module _ {A : Type 0} (f : Span → Reading A) where
+    pub then-yes : m .times ≡ 1 → andThen (onceAt m) f ≡ f (placeOf m)
+    unfolding andThen
+    then-yes h = rw (once-yes h)
+
+    pub then-no : (m .times ≡ 1 → ⊥) → andThen (onceAt m) f ≡ refused
+    unfolding andThen
+    then-no h = rw (once-no h)
+
+pub only-is : (l : List Span) (m : MemberSpan) → m ≡ memberSpanOf l → only l ≡ onceAt m
+only-is l m h = go (eqb (memberSpanOf l .times) 1) refl ∙ ap onceAt (sym h)
+  where
+    go : (b : Bool) → eqb (memberSpanOf l .times) 1 ≡ b → only l ≡ onceAt (memberSpanOf l)
+    go true q = let y = eqb-true (memberSpanOf l .times) 1 q in only-once l y ∙ sym (once-yes (memberSpanOf l) y)
+    go false q = let n = eqb-false (memberSpanOf l .times) 1 q in only-other l n ∙ sym (once-no (memberSpanOf l) n)

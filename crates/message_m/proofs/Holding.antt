@@ -15,8 +15,8 @@ use Rattle.entries.specs.Places.{contents, objectAt}
 use Rattle.entries.specs.Rows.{Entry}
 use Rattle.entries.specs.Tally.{Tells, Kept}
 use Rattle.entries.specs.declared.Tally.{Tally}
+use Rattle.layout.proofs.Objects.{object-yes}
 use Rattle.message_m.specs.Collected.{Added}
-use Rattle.message_m.proofs.Objects.{object-yes}
 
 pub no-reads : {A B : Type 0} {b : B} → _≡_ {A = Reading B} refused (reads b) → A
 no-reads {A} {B} h = absurd (true≢false (sym (ap (λ (y : Reading B). elim y [ reads k ↦ true | refused ↦ false ]) h)))

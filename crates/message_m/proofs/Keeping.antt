@@ -1,5 +1,5 @@
 -- What the buffer has once `data`, and once the message, was read. Assumes nothing.
-use Prim.Native.Nat.{ℕ, _+_, _≤_, _<_}
+use Prim.Native.Nat.{ℕ, _+_, _≤_}
 use mathlib.Core.Path.{_≡_, refl, sym, ap, _∙_, subst}
 use mathlib.Core.Bool.{Bool, true, false, cond}
 use mathlib.Core.List.{List, [], _∷_}
@@ -7,7 +7,7 @@ use native.Mathlib.Omega.{arith}
 use lib.ListN.{length}
 use Rattle.text.specs.Text.{ascii, byteAt}
 use Rattle.decimal.specs.Digits.{Reading, reads, refused}
-use Rattle.json_tokens.specs.Tokens.{End, At, Broken}
+use Rattle.json_tokens.specs.Tokens.{At}
 use Rattle.json_tokens.specs.Ends.{endOf}
 use Rattle.json_tokens.proofs.Bounds.{bounds}
 use Rattle.json.specs.Json.{Span, Pair, Items, items, noItems, itemsEnd, members, value}
@@ -16,24 +16,23 @@ use Rattle.json.specs.Fold.{foldFrom}
 use Rattle.json.proofs.Laws.{value-object}
 use Rattle.json.proofs.Bounds.{value-in}
 use Rattle.json.proofs.Fold.{Left}
-use Rattle.entries.specs.Places.{andThen, contents, objectAt, valuesOf, only, wholeAt, checksumAt}
+use Rattle.entries.specs.Places.{andThen, contents, objectAt, valuesOf, only, wholeAt}
 use Rattle.entries.specs.Rows.{Entry}
-use Rattle.entries.specs.Tally.{noneYet, met as count, Tells, Kept}
+use Rattle.entries.specs.Tally.{met as count, Tells, Kept}
 use Rattle.entries.specs.declared.Form.the-variants as forms
 use Rattle.entries.specs.declared.Tally.{Tally}
 use Rattle.entries.proofs.Tallies.{none-also}
-use Rattle.layout.specs.Layout.{isSnapshot, printed, Layout, Envelope, entriesIn, laid}
+use Rattle.layout.specs.Layout.{isSnapshot, printed, Layout, Envelope, entriesIn}
 use Rattle.layout.specs.Scan.{notFramed, scanOf, scanAt, Scanned}
 use Rattle.layout.specs.declared.Scan.{Scan}
-use Rattle.layout.specs.declared.Kind.{Kind}
 use Rattle.layout.proofs.Laws.{laid-entries}
 use Rattle.layout.proofs.MemberSpans.{values-fold}
-use Rattle.message_m.specs.LayoutM.{kindAt, layoutM, linkedTo, layoutIn, envelopeM}
-use Rattle.message_m.specs.Collected.{withHeld, heldOf, noData, dataOf, Added, DataRead, bodyHeld}
+use Rattle.layout.proofs.Objects.{object-yes, object-no}
+use Rattle.message_m.specs.LayoutM.{layoutM, linkedTo, layoutIn, envelopeM}
+use Rattle.message_m.specs.Collected.{withHeld, heldOf, Added, DataRead, bodyHeld}
 use Rattle.message_m.specs.declared.Data.{Data}
 use Rattle.message_m.specs.declared.Members.{Members}
 use Rattle.message_m.proofs.Steps.{added-as, added-none, data-end}
-use Rattle.message_m.proofs.Objects.{object-yes, object-no}
 use Rattle.message_m.proofs.Holding.{no-reads, same-reads, heldAll, held-total, Holding}
 use Rattle.message_m.proofs.Whole.{dataLoop, dataAt, held-are, messageLoop, Marked}
 

@@ -18,32 +18,12 @@ use Rattle.layout.specs.declared.Outline.{Outline}
 use Rattle.layout.specs.declared.Scan.{Scan}
 use Rattle.layout.specs.declared.Kind.{Kind}
 use Rattle.layout.specs.declared.Kind.the-variants.{Snapshot, Update}
+use Rattle.layout.specs.MemberSpans.{onceAt}
+use Rattle.layout.proofs.MemberSpans.{then-no, once-no, once-yes, placeOf, then-yes}
 use Rattle.message_m.specs.LayoutM.{kindAt}
-use Rattle.message_m.specs.Collected.{onceAt, outlineWhere, numbersIn, sidesIn, bodyIn, outlineIn, linkedOutline, scanIn}
+use Rattle.message_m.specs.Collected.{outlineWhere, numbersIn, sidesIn, bodyIn, outlineIn, linkedOutline, scanIn}
 use Rattle.message_m.specs.declared.Data.{Data}
 use Rattle.message_m.specs.declared.Members.{Members}
-
-abbrev pub placeOf : MemberSpan → Span
-placeOf m = record { from = m .from; to = m .to }
-
--- ---- met once
-module _ (m : MemberSpan) where
-  pub once-yes : m .times ≡ 1 → onceAt m ≡ reads (placeOf m)
-  unfolding onceAt
-  once-yes h = rw (eq-eqb (m .times) 1 h)
-
-  pub once-no : (m .times ≡ 1 → ⊥) → onceAt m ≡ refused
-  unfolding onceAt
-  once-no h = rw (ne-eqb (m .times) 1 h)
-
-  module _ {A : Type 0} (f : Span → Reading A) where
-    pub then-yes : m .times ≡ 1 → andThen (onceAt m) f ≡ f (placeOf m)
-    unfolding andThen
-    then-yes h = rw (once-yes h)
-
-    pub then-no : (m .times ≡ 1 → ⊥) → andThen (onceAt m) f ≡ refused
-    unfolding andThen
-    then-no h = rw (once-no h)
 
 -- ---- where something is read, or not
 module _ {A : Type 0} (f : A → Outline) where

@@ -2,7 +2,7 @@
 -- Assumes nothing.
 use mathlib.Core.Path.{_≡_, refl, sym, ap, _∙_, subst}
 use mathlib.Core.List.{List, [], _∷_}
-use mathlib.Core.Bool.{Bool, true, false, _&&_, _||_, or-false, cond}
+use mathlib.Core.Bool.{Bool, true, false, _&&_, _||_, cond}
 use Prim.Native.Nat.{ℕ, suc, _+_, _≤_}
 use native.Mathlib.Omega.{arith}
 use borrow.Author.Tests.{eq-eqb, ne-eqb, eqb-true}
@@ -16,34 +16,26 @@ use Rattle.json_tokens.specs.Tokens.{End, At, Broken}
 use Rattle.json_tokens.specs.Ends.{endOf}
 use Rattle.json_tokens.proofs.Laws.{end-at}
 use Rattle.json_tokens.proofs.Bounds.{bounds}
-use Rattle.json.specs.Json.{Span, Pair, Items, items, noItems, itemsEnd, elements, value}
+use Rattle.json.specs.Json.{Span, Pair, elements, value}
 use Rattle.json.specs.Names.{means}
 use Rattle.json.proofs.Bounds.{value-in}
 use Rattle.json.proofs.Laws.{value-array}
 use Rattle.json.proofs.Which.{numbered, meant, one-meant, which-meant}
-use Rattle.entries.specs.Places.{andAlso, contents, isString, arrayAt, objectAt}
+use Rattle.entries.specs.Places.{andAlso, contents, arrayAt, objectAt}
 use Rattle.entries.specs.Rows.{Entry, sidedAt}
 use Rattle.entries.specs.Tally.{met as count, toldNot, toldAt, spansTally, arrayTally, Tells, Kept, Met}
 use Rattle.entries.specs.declared.Form.the-variants as forms
 use Rattle.entries.specs.declared.Entries.{Entries}
 use Rattle.entries.specs.declared.Tally.{Tally}
 use Rattle.entries.proofs.Tallies.{tells-more, kept-more}
-use Rattle.layout.specs.MemberSpans.{fewMore, withMemberSpan}
+use Rattle.layout.specs.MemberSpans.{fewMore, withMemberSpan, onHit}
 use Rattle.layout.specs.declared.MemberSpan.{MemberSpan}
-use Rattle.message_m.specs.Collected.{onHit, withHeld, tallyWith, noData, moreData, dataFrom, dataOf, Added, ourNames, keyOf, heldOf, bodyHeld, moreBody, moreMembers, Placed}
+use Rattle.layout.proofs.MemberSpans.{hit-no, hit-yes}
+use Rattle.layout.proofs.Objects.{contents-broken}
+use Rattle.message_m.specs.Collected.{withHeld, tallyWith, moreData, dataFrom, dataOf, Added, ourNames, keyOf, heldOf, bodyHeld, moreBody, moreMembers, Placed}
 use Rattle.message_m.specs.declared.Data.{Data}
 use Rattle.message_m.specs.declared.Body.{Body}
 use Rattle.message_m.specs.declared.Members.{Members}
-
--- ---- what follows the members of one name
-module _ {A : Type 0} (hit : Bool) (add : A → Span → A) (x : A) (a : Span) where
-  pub hit-yes : hit ≡ true → onHit hit add x a ≡ add x a
-  unfolding onHit
-  hit-yes h = rw (h, onHit)
-
-  pub hit-no : hit ≡ false → onHit hit add x a ≡ x
-  unfolding onHit
-  hit-no h = rw (h, onHit)
 
 -- ---- which of our names it is
 -- the tests by number are the tests by name
@@ -113,11 +105,6 @@ pub and-no : (x : Bool) (k n : ℕ) → (k ≡ n → ⊥) → false ≡ (eqb k n
 and-no x k n h = sym (rw (ne-eqb k n h))
 
 -- ---- a side of `data`
-
-pub contents-broken : {A : Type 0} (x : Items A) → itemsEnd x ≡ Broken → contents x ≡ refused
-unfolding contents itemsEnd
-contents-broken (items l e) h = let z : _≡_ {A = ℕ} 0 1 = cc in absurd (omega arith)
-contents-broken noItems h = refl
 
 array-broken : (d : ℕ) (s : List ℕ) (a : Span) → value (suc d) s (a .from) ≡ Broken → arrayAt (suc d) s a ≡ refused
 unfolding arrayAt

@@ -2,10 +2,9 @@
 -- Assumes nothing.
 use mathlib.Core.Path.{_≡_, refl, sym, ap, ap₂, _∙_, subst}
 use mathlib.Core.List.{List, [], _∷_}
-use mathlib.Core.Bool.{Bool, true, false, _&&_, _||_, cond, or-assoc, or-false, or-true}
+use mathlib.Core.Bool.{Bool, true, false, _&&_, _||_, cond, or-assoc, or-false}
 use Prim.Native.Nat.{ℕ, _+_, _≤_, _<_}
 use native.Mathlib.Omega.{arith}
-use borrow.Author.Tests.{eqb-true, eqb-false}
 use lib.Dec.{eqb}
 use lib.ListN.{length}
 use Rattle.text.specs.Text.{ascii, byteAt}
@@ -24,30 +23,19 @@ use Rattle.entries.specs.declared.Form.the-variants as forms
 use Rattle.entries.specs.declared.Tally.{Tally}
 use Rattle.entries.proofs.Tallies.{none-also, also-none, also-assoc, tells-none, tells-more}
 use Rattle.layout.specs.Layout.{isSnapshot, printed, Layout, Envelope, memberEntries, entriesIn, laid}
-use Rattle.layout.specs.MemberSpans.{few, fewMore, withMemberSpan, memberSpanOf}
+use Rattle.layout.specs.MemberSpans.{few, fewMore, withMemberSpan, memberSpanOf, onceAt}
 use Rattle.layout.specs.Scan.{noOutline, notFramed, following, outlineOf, outlineFrom, isPrinted, sumOf, scanOf, scanAt}
-use Rattle.layout.specs.declared.MemberSpan.{MemberSpan}
 use Rattle.layout.specs.declared.Outline.{Outline}
 use Rattle.layout.specs.declared.Scan.{Scan}
 use Rattle.layout.proofs.Laws.{outline-of, outline-reads, outline-kind}
-use Rattle.layout.proofs.MemberSpans.{values-fold, only-once, only-other, count-times}
+use Rattle.layout.proofs.MemberSpans.{count-times, only-is, on-fold}
 use Rattle.layout.specs.declared.Kind.{Kind}
+use Rattle.layout.proofs.Objects.{object-broken, made-other, made-empty, made-start}
 use Rattle.message_m.specs.LayoutM.{someMeans, oursM, kindAt, layoutM, linkedTo, layoutIn, envelopeM}
-use Rattle.message_m.specs.Collected.{onMember, withHeld, tallyWith, noData, dataEnd, moreData, dataFrom, dataOf, moreBody, noMembers, moreMembers, onceAt, outlineWhere, numbersIn, sidesIn, bodyIn, outlineIn, linkedOutline, scanIn, Placed}
+use Rattle.message_m.specs.Collected.{withHeld, tallyWith, noData, dataEnd, moreData, dataFrom, dataOf, moreBody, noMembers, moreMembers, outlineWhere, numbersIn, sidesIn, bodyIn, outlineIn, linkedOutline, scanIn, Placed}
 use Rattle.message_m.specs.declared.Data.{Data}
 use Rattle.message_m.specs.declared.Members.{Members}
-use Rattle.message_m.proofs.Steps.{hit-yes, hit-no, placed-more}
-use Rattle.message_m.proofs.Outlines.{once-yes, once-no}
-use Rattle.message_m.proofs.Objects.{object-broken, made-other, made-empty, made-start}
-
--- a component that follows the members of one name
-on-fold : {S A : Type 0} (s name : List ℕ) (step : S → Pair → S) (get : S → A) (add : A → Span → A)
-    → ((st : S) (m : Pair) → get (step st m) ≡ onMember s name add (get st) m)
-    → (st : S) (ms : List Pair) → get (foldFrom step st ms) ≡ foldFrom add (get st) (valuesOf s name ms)
-on-fold s name step get add is =
-    values-fold s name step get add
-    (λ st m h. is st m ∙ hit-yes (means s (m .name) name) add (get st) (m .value) h)
-    (λ st m h. is st m ∙ hit-no (means s (m .name) name) add (get st) (m .value) h)
+use Rattle.message_m.proofs.Steps.{placed-more}
 
 -- ---- the sides of `data`
 pub data-folds : (s : List ℕ) (t : Tally) (e : ℕ) (ms : List Pair) → dataFrom s e t (reads ms) ≡ dataEnd e (foldFrom (moreData s) (noData 0 t) ms)
@@ -140,13 +128,6 @@ flag-from step get one some is none withMemberSpan st (m ∷ ms) =
     ∙ ap (λ (b : Bool). get st || b) (withMemberSpan m ms)
 
 -- ---- the layout
-
-only-is : (l : List Span) (m : MemberSpan) → m ≡ memberSpanOf l → only l ≡ onceAt m
-only-is l m h = go (eqb (memberSpanOf l .times) 1) refl ∙ ap onceAt (sym h)
-  where
-    go : (b : Bool) → eqb (memberSpanOf l .times) 1 ≡ b → only l ≡ onceAt (memberSpanOf l)
-    go true q = let y = eqb-true (memberSpanOf l .times) 1 q in only-once l y ∙ sym (once-yes (memberSpanOf l) y)
-    go false q = let n = eqb-false (memberSpanOf l .times) 1 q in only-other l n ∙ sym (once-no (memberSpanOf l) n)
 
 -- what is read twice, one after the other, is read at once
 then-assoc : {A B C : Type 0} (x : Reading A) (f : A → Reading B) (g : B → Reading C) → andThen x (λ a. andThen (f a) g) ≡ andThen (andThen x f) g

@@ -10,18 +10,17 @@ use Rattle.text.specs.Text.{ascii}
 use Rattle.decimal.specs.Digits.{Reading, reads, refused}
 use Rattle.edit.specs.Buffer.{bufferWords}
 use Rattle.edit.specs.declared.Side.the-variants.{Bids, Asks}
-use Rattle.json_tokens.specs.Ends.{endOf}
 use Rattle.json.specs.Json.{Span, Pair, value}
 use Rattle.json.specs.Which.{which}
 use Rattle.json.specs.Names.{means}
 use Rattle.json.specs.Fold.{foldFrom}
-use Rattle.entries.specs.Places.{andThen, andAlso, isString, objectAt, wholeAt, checksumAt}
+use Rattle.entries.specs.Places.{andThen, andAlso, objectAt, wholeAt, checksumAt}
 use Rattle.entries.specs.Rows.{Entry, sidedAt}
 use Rattle.entries.specs.Tally.{noneYet, met as count, arrayTally, Tells, Kept}
 use Rattle.entries.specs.declared.Form.the-variants as forms
 use Rattle.entries.specs.declared.Tally.{Tally}
 use Rattle.layout.specs.Depths.{itemDepth, sideDepth}
-use Rattle.layout.specs.MemberSpans.{fewMore, noMemberSpan, withMemberSpan}
+use Rattle.layout.specs.MemberSpans.{fewMore, noMemberSpan, withMemberSpan, onceAt, onHit, onMember}
 use Rattle.layout.specs.Scan.{noOutline, outlineFrom, following}
 use Rattle.layout.specs.Layout.{isSnapshot}
 use Rattle.layout.specs.declared.MemberSpan.{MemberSpan}
@@ -32,17 +31,6 @@ use Rattle.message_m.specs.LayoutM.{kindAt}
 use Rattle.message_m.specs.declared.Data.{Data}
 use Rattle.message_m.specs.declared.Body.{Body}
 use Rattle.message_m.specs.declared.Members.{Members}
-
--- What follows the members of one name: `add` takes the value of one more, if it is one of them.
-unfoldable pub onHit : {A : Type 0} → Bool → (A → Span → A) → A → Span → A
-onHit hit add x a = cond hit (add x a) x
-
-abbrev pub onMember : {A : Type 0} → List ℕ → List ℕ → (A → Span → A) → A → Pair → A
-onMember s name add x m = onHit (means s (m .name) name) add x (m .value)
-
--- The member whose name lies from `first` to `past`, and whose value begins at `from`; it ends at 0 where it is not JSON.
-abbrev pub memberAt : ℕ → List ℕ → ℕ → ℕ → ℕ → Pair
-memberAt depth s first past from = record { name = record { from = first; to = past }; value = record { from = from; to = endOf (value depth s from) } }
 
 -- ---- the value of a member `data`
 
@@ -180,10 +168,6 @@ pub record MoreMembers (name s : List ℕ) (met : Members) (m : Pair) (before af
   pub added : Added s (m .value) (met .body .last .tally) (r .body .last .tally) (λ x. bodyHeld s (means s (m .name) (ascii "data")) x (m .value)) before after
 
 -- ---- the layout, once all members were met
-
--- The value of a name that was met once.
-unfoldable pub onceAt : MemberSpan → Reading Span
-onceAt m = cond (eqb (m .times) 1) (reads (record { from = m .from; to = m .to })) refused
 
 unfoldable pub outlineWhere : {A : Type 0} → Reading A → (A → Outline) → Outline
 outlineWhere (reads a) outline = outline a

@@ -1,12 +1,12 @@
 -- Dialect M, as document 01 has it under "Messages". Assumes nothing: these are definitions.
 use Prim.Native.Nat.{ℕ}
-use mathlib.Core.Bool.{Bool, true, false, _&&_, _||_, cond}
+use mathlib.Core.Bool.{Bool, false, _&&_, _||_, cond}
 use mathlib.Core.List.{List, [], _∷_}
 use Rattle.text.specs.Text.{ascii}
 use Rattle.decimal.specs.Digits.{Reading, reads, refused}
 use Rattle.json.specs.Json.{Span, Pair, maxDepth}
 use Rattle.json.specs.Names.{means}
-use Rattle.entries.specs.Places.{andThen, isString, objectAt, valuesOf, only, wholeAt, checksumAt}
+use Rattle.entries.specs.Places.{andThen, objectAt, valuesOf, only, wholeAt, checksumAt}
 use Rattle.entries.specs.declared.Form.the-variants as forms
 use Rattle.layout.specs.Depths.{itemDepth, sideDepth}
 use Rattle.layout.specs.Layout.{isSnapshot, printed, Layout, Envelope, entriesIn, laid}

@@ -38,7 +38,7 @@ use text::both;
 use text::byte_at;
 use text::either;
 ghost use mathlib.Core.Path.{_≡_};
-ghost use mathlib.Core.Bool.{_&&_, _||_};
+ghost use mathlib.Core.Bool.{_&&_};
 ghost use lib.Dec.{eqb};
 ghost use Rattle.text.specs.Text.{ascii};
 ghost use Rattle.decimal.specs.Reads.{parsedChecksum, parsedWhole};
@@ -47,14 +47,14 @@ ghost use Rattle.json.specs.Json.{value};
 ghost use Rattle.json.specs.Names.{means};
 ghost use Rattle.entries.specs.Places.{andThen, wholeAt, checksumAt};
 ghost use Rattle.layout.specs.Depths.{itemDepth, sideDepth};
-ghost use Rattle.layout.specs.MemberSpans.{withMemberSpan};
+ghost use Rattle.layout.specs.MemberSpans.{withMemberSpan, onHit, memberAt, onceAt};
 ghost use Prim.Native.Nat.{_≤_};
 ghost use lib.ListN.{length};
 ghost use Rattle.edit.specs.Buffer.{bufferWords};
 ghost use Rattle.entries.specs.Tally.{met as count};
 ghost use Rattle.layout.specs.Scan.{Scanned, following};
 ghost use Rattle.message_m.specs.LayoutM.{envelopeM};
-ghost use Rattle.message_m.specs.Collected.{onHit, memberAt, noData, dataEnd, MoreData, DataRead, channelKey, productKey, dataKey, keyOf, MoreBody, noMembers, MoreMembers, onceAt, numbersIn, bodyIn, outlineIn, linkedOutline, scanIn, Placed};
+ghost use Rattle.message_m.specs.Collected.{noData, dataEnd, MoreData, DataRead, channelKey, productKey, dataKey, keyOf, MoreBody, noMembers, MoreMembers, numbersIn, bodyIn, outlineIn, linkedOutline, scanIn, Placed};
 
 // Which of our names a member of the message has.
 const OTHER: usize = 0;

@@ -1,14 +1,15 @@
 -- Laws of ids: which are the same, and that the words of an id hold its bytes. Assumes nothing.
-use Prim.Native.Nat.{ℕ, zero, suc, _+_, _*_, _/_, _%_, _≤_}
+use Prim.Native.Nat.{ℕ, zero, suc, _+_, _*_, _/_, _%_, _≤_, _<_}
 use mathlib.Core.Path.{_≡_, refl, sym, ap, _∙_}
 use mathlib.Core.Bool.{Bool, true, false, _&&_, cond}
 use mathlib.Core.List.{List, [], _∷_, _++_}
-use native.Mathlib.Nat.{not-suc-le-zero}
+use native.Mathlib.Nat.{not-suc-le-zero, add-zero, add-suc}
 use native.Mathlib.Omega.{arith}
 use lib.Dec.{eqb, leb}
 use lib.ListN.{length, getD, take, drop, take-append-drop, length-take, length-drop}
-use lib.Seq.{drop-drop, take-all}
-use borrow.Author.Tests.{eqb-true, eqb-false, eq-eqb, ne-eqb, leb-true}
+use lib.Seq.{drop-drop, take-all, take-nil}
+use borrow.Author.Tests.{eqb-true, eqb-false, eq-eqb, ne-eqb, leb-true, le-leb, lt-leb}
+use Rattle.text.specs.Text.{byteAt}
 use Rattle.text.specs.Words.{word, wordAt}
 use Rattle.settings.specs.Settings.{nameByte, nameBytes}
 use Rattle.order_edit.specs.declared.Id.{Id}
@@ -128,6 +129,39 @@ id-bytes id i =
     ∙ ap (λ (r : List ℕ). take 8 id ++ r) (take-append-drop 8 (drop 8 id))
     ∙ take-append-drop 8 id
 
+-- ---- eight bytes by number, zeros past the end
+
+next-byte : (s : List ℕ) (j n : ℕ) → word (take (suc n) (drop j s)) ≡ word (take n (drop (suc j) s)) * 256 + byteAt s j
+unfolding word byteAt
+next-byte [] zero n = rw (take-nil n)
+next-byte [] (suc j) n = rw (take-nil n)
+next-byte (c ∷ s) zero n = refl
+next-byte (c ∷ s) (suc j) n = next-byte s j n
+
+pub bytes-from : (s : List ℕ) (i : ℕ) → wordAt s i ≡
+    byteAt s i + byteAt s (i + 1) * 256 + byteAt s (i + 2) * 65536 + byteAt s (i + 3) * 16777216 + byteAt s (i + 4) * 4294967296
+    + byteAt s (i + 5) * 1099511627776 + byteAt s (i + 6) * 281474976710656 + byteAt s (i + 7) * 72057594037927936
+unfolding wordAt word
+bytes-from s i =
+    let step : (n k : ℕ) → word (take (suc n) (drop (i + k) s)) ≡ word (take n (drop (i + suc k) s)) * 256 + byteAt s (i + k) =
+    λ n k. next-byte s (i + k) n ∙ ap (λ (j : ℕ). word (take n (drop j s)) * 256 + byteAt s (i + k)) (sym (add-suc i k)) in
+    let e0 : word (take 8 (drop i s)) ≡ word (take 7 (drop (i + 1) s)) * 256 + byteAt s i = rw add-zero at (step 7 0) in
+    omega (arith, e0, step 6 1, step 5 2, step 4 3, step 3 4, step 2 5, step 1 6, step 0 7)
+
 pub id-packed : (id : List ℕ) → isId id ≡ true → Packed (idOf id)
 unfolding Packed
 id-packed id i = ap idOf (id-bytes id i)
+
+-- ---- whether a text is an id
+
+pub no-bytes : (id : List ℕ) → length id < 1 → isId id ≡ false
+unfolding isId
+no-bytes id h = rw (lt-leb 1 (length id) h)
+
+pub many-bytes : (id : List ℕ) → 1 ≤ length id → maxId < length id → isId id ≡ false
+unfolding isId
+many-bytes id l h = rw (le-leb 1 (length id) l, lt-leb (length id) maxId h)
+
+pub few-bytes : (id : List ℕ) → 1 ≤ length id → length id ≤ maxId → isId id ≡ nameBytes id
+unfolding isId
+few-bytes id l h = rw (le-leb 1 (length id) l, le-leb (length id) maxId h)

@@ -3,6 +3,8 @@
 //
 //     order_edit::put(&mut buffer, 0, Buffered { side: Side::Bids, event: Event::Add, id, price, size });
 //     order_edit::entry_in(&buffer, 0).price
+mod id_text;
+
 ghost use mathlib.Core.Path.{_≡_};
 ghost use Prim.Native.Nat.{_<_};
 ghost use lib.ListN.{length, getD};
@@ -12,6 +14,8 @@ ghost use Rattle.order_edit.specs.Ids.{sameId, idWords};
 ghost use Rattle.order_edit.specs.Buffer.{maxBuffered, bufferWords, entriesIn, noEntry, orderEntry, Put, eventNumber, eventIn};
 use decimal::Decimal;
 use edit::Side;
+pub use id_text::id_of;
+pub use id_text::is_id;
 
 // What an entry does to an order: puts it last at its price, changes its size, or removes it.
 pub enum Event {

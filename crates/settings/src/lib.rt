@@ -172,6 +172,13 @@ fn is_good_name(name: &[u8]) -> bool
     if MAX_NAME < name.len() {
         return false;
     }
+    are_name_bytes(name)
+}
+
+// Whether each of these bytes may stand in a name.
+pub fn are_name_bytes(name: &[u8]) -> bool
+    ensures { λ r. ⌜ r ≡ nameBytes (now (name .entry)) ⌝ }
+{
     let mut i = 0;
     while i < name.len() {
         if is_name_byte(name[i]) {

@@ -4,8 +4,8 @@ use denote.Ref.{now}
 use mathlib.Core.Path.{_∙_, sym}
 use Rattle.json.specs.Names.{part}
 use Rattle.entries.specs.Places.{wholeAt}
-use Rattle.message_m.proofs.Outlines.{then-no, then-yes}
 use borrow.Author.Needs.{needs}
+use Rattle.layout.proofs.MemberSpans.{then-no, then-yes}
 use Rattle.message_m.proofs.gsn_of.Statement.{statement}
 use Rattle.message_m.proofs.gsn_of.Tie as tie
 

@@ -2,7 +2,7 @@
 -- the entries of those that were read.
 -- Assumes nothing.
 use borrow.Author.Needs.{needs}
-use Prim.Native.Nat.{ℕ, _+_, _-_, _≤_}
+use Prim.Native.Nat.{ℕ, _+_, _-_}
 use denote.Ref.{now}
 use lib.ListN.{length}
 use native.Mathlib.Omega.{arith}
@@ -10,17 +10,17 @@ use Rattle.text.specs.Text.{byteAt}
 use Rattle.decimal.specs.Digits.{Reading}
 use Rattle.json_tokens.proofs.Laws.{end-at, in-byte}
 use Rattle.json_tokens.proofs.Bounds.{bounds, blanks-in, closing-in, separator-in, string-in}
-use mathlib.Core.Path.{_≡_, _∙_, refl, sym, ap, subst}
+use mathlib.Core.Path.{_≡_, _∙_, sym, ap, subst}
 use mathlib.Core.List.{List}
 use Rattle.json_tokens.specs.Tokens.{closing, separator, string}
 use Rattle.json_tokens.specs.Ends.{endOf}
 use Rattle.json.specs.Json.{Pair, wrong, member, members, value}
-use Rattle.json.proofs.Fold.{Left, Stands, pairAt, no-name, no-colon, no-value, member-stands, fold-empty, fold-start, fold-wrong, fold-further, fold-on, fold-last, fold-broken}
+use Rattle.json.proofs.Fold.{Stands, pairAt, no-name, no-colon, no-value, member-stands, fold-empty, fold-start, fold-wrong, fold-further, fold-on, fold-last, fold-broken}
 use Rattle.entries.specs.Rows.{Entry}
 use Rattle.entries.specs.Tally.{met as count, Tells, Kept}
+use Rattle.layout.proofs.Objects.{value-ends, next-is}
 use Rattle.message_m.specs.Collected.{withHeld, noData, moreData, Added, DataRead}
 use Rattle.message_m.specs.declared.Data.{Data}
-use Rattle.message_m.proofs.Objects.{value-ends, next-is}
 use Rattle.message_m.proofs.Holding.{overHeld, heldAll, holding-on, holding-last}
 use Rattle.message_m.proofs.Whole.{dataLoop, dataAt, data-ends, data-none, data-empty, data-start}
 use Rattle.message_m.proofs.Keeping.{toEnd, DataGoing, data-passed, data-broken, data-read}

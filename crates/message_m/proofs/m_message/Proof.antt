@@ -9,23 +9,22 @@ use native.Mathlib.Omega.{arith}
 use Rattle.text.specs.Text.{byteAt}
 use Rattle.decimal.specs.Digits.{reads}
 use Rattle.json_tokens.proofs.Laws.{end-at, in-byte}
-use Rattle.json_tokens.proofs.Bounds.{bounds, blanks-in, separator-in, string-in}
+use Rattle.json_tokens.proofs.Bounds.{bounds, separator-in, string-in}
 use mathlib.Core.Path.{_≡_, _∙_, ap, refl, sym, subst}
 use mathlib.Core.Bool.{Bool}
 use mathlib.Core.List.{List, []}
 use Rattle.json_tokens.specs.Tokens.{separator, string}
 use Rattle.json_tokens.specs.Ends.{endOf}
 use Rattle.json.specs.Json.{Pair, wrong, member, members, value}
-use Rattle.json.proofs.Fold.{Left, Stands, pairAt, no-name, no-colon, no-value, member-places, member-stands, fold-empty, fold-start, fold-wrong, fold-further, fold-on, fold-last, fold-broken}
-use Rattle.entries.specs.Tally.{met as count, Kept}
+use Rattle.json.proofs.Fold.{Stands, pairAt, no-name, no-colon, no-value, member-places, member-stands, fold-empty, fold-start, fold-wrong, fold-further, fold-on, fold-last, fold-broken}
 use Rattle.entries.proofs.Tallies.{tells-none, kept-none}
 use Rattle.layout.specs.Scan.{notFramed, scanAt, Scanned}
 use Rattle.layout.specs.declared.Scan.{Scan}
+use Rattle.layout.proofs.Objects.{value-ends, next-is}
 use Rattle.message_m.specs.LayoutM.{envelopeM}
 use Rattle.message_m.specs.Collected.{moreMembers, scanIn, Added}
 use Rattle.message_m.specs.declared.Members.{Members}
-use Rattle.message_m.proofs.Objects.{value-ends, next-is}
-use Rattle.message_m.proofs.Holding.{overHeld, heldAll, holding-on, holding-last}
+use Rattle.message_m.proofs.Holding.{overHeld, holding-on, holding-last}
 use Rattle.message_m.proofs.Whole.{messageLoop, members-end, Marked, marked-more, unmarked-placed, told-none, told-empty, told-start}
 use Rattle.message_m.proofs.Keeping.{bodyStep, MessageGoing, message-other, message-broken, message-read}
 use Rattle.message_m.proofs.m_message.Statement.{statement}

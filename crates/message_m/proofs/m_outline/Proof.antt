@@ -2,7 +2,8 @@
 -- Assumes nothing.
 use denote.Ref.{now}
 use mathlib.Core.Path.{_∙_, sym}
-use Rattle.message_m.proofs.Outlines.{placeOf, outline-no-channel, outline-no-product, outline-no-type, outline-snapshot, outline-update, outline-neither}
+use Rattle.layout.proofs.MemberSpans.{placeOf}
+use Rattle.message_m.proofs.Outlines.{outline-no-channel, outline-no-product, outline-no-type, outline-snapshot, outline-update, outline-neither}
 use borrow.Author.Needs.{needs}
 use Rattle.message_m.proofs.m_outline.Statement.{statement}
 use Rattle.message_m.proofs.m_outline.Tie as tie

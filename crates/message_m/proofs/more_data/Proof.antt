@@ -1,11 +1,11 @@
 -- `message_m::more_data` meets its contract: the name says which side takes the entries, if any.
 -- Assumes nothing.
 use denote.Ref.{now}
-use mathlib.Core.Path.{_∙_, refl, sym}
+use mathlib.Core.Path.{_∙_, sym}
 use native.Mathlib.Omega.{arith}
 use Rattle.json.specs.Json.{Pair}
 use Rattle.edit.specs.declared.Side.the-variants.{Bids, Asks}
-use Rattle.message_m.specs.Collected.{memberAt}
+use Rattle.layout.specs.MemberSpans.{memberAt}
 use Rattle.message_m.proofs.Steps.{entries-end, entries-tally, entries-added, added-as, added-none, data-bids, data-asks, data-other, held-bids, held-asks, held-other}
 use borrow.Author.Needs.{needs}
 use Rattle.message_m.proofs.more_data.Statement.{statement}

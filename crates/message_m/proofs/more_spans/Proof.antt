@@ -4,8 +4,8 @@ use borrow.Author.Tests.{eq-eqb, ne-eqb}
 use lib.Dec.{eqb}
 use mathlib.Core.Path.{_∙_, sym}
 use Rattle.layout.specs.MemberSpans.{withMemberSpan}
-use Rattle.message_m.proofs.Steps.{hit-yes, hit-no}
 use borrow.Author.Needs.{needs}
+use Rattle.layout.proofs.MemberSpans.{hit-yes, hit-no}
 use Rattle.message_m.proofs.more_spans.Statement.{statement}
 use Rattle.message_m.proofs.more_spans.Tie as tie
 

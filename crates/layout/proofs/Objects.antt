@@ -16,8 +16,12 @@ use Rattle.json.proofs.Laws.{value-object}
 use Rattle.entries.specs.Places.{contents, objectAt}
 use Rattle.json.specs.Fold.{foldFrom, foldedIn}
 use Rattle.json.proofs.Fold.{overMembers, Left, fold-empty, fold-start, pairAt}
-use Rattle.message_m.specs.Collected.{memberAt}
-use Rattle.message_m.proofs.Steps.{contents-broken}
+use Rattle.layout.specs.MemberSpans.{memberAt}
+
+pub contents-broken : {A : Type 0} (x : Items A) → itemsEnd x ≡ Broken → contents x ≡ refused
+unfolding contents itemsEnd
+contents-broken (items l e) h = let z : _≡_ {A = ℕ} 0 1 = cc in absurd (omega arith)
+contents-broken noItems h = refl
 
 module _ (d : ℕ) (s : List ℕ) (a : Span) where
   pub object-yes : byteAt s (a .from) ≡ 123 → objectAt (suc d) s a ≡ contents (members (value d s) s (a .from + 1))

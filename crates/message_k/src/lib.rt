@@ -180,17 +180,25 @@ fn pass(s: &[u8], outer: Outer, from: usize, to: usize) -> Outer
     requires { ⌜ value itemDepth (now s) from ≡ At to ⌝ }
     ensures { λ r. ⌜ r ≡ withOuter (now (s .entry)) outer (record { from = from; to = to }) ⌝ }
 {
-    let mut next = outer;
-    next.count = up_to_six(outer.count);
-    next.channel_from = outer.pair_from;
-    next.channel_to = outer.pair_to;
-    next.pair_from = from;
-    next.pair_to = to;
+    let count = up_to_six(outer.count);
     if outer.count == 0 {
-        next.whole = is_whole(s, from, to);
-        return next;
+        return Outer {
+            count,
+            channel_from: outer.pair_from,
+            channel_to: outer.pair_to,
+            pair_from: from,
+            pair_to: to,
+            whole: is_whole(s, from, to),
+        };
     }
-    next
+    Outer {
+        count,
+        channel_from: outer.pair_from,
+        channel_to: outer.pair_to,
+        pair_from: from,
+        pair_to: to,
+        whole: outer.whole,
+    }
 }
 
 fn up_to_six(n: usize) -> usize

@@ -2,13 +2,14 @@
 -- Assumes nothing.
 use mathlib.Core.Path.{_≡_, refl, _∙_}
 use mathlib.Core.List.{List}
-use mathlib.Core.Bool.{true, false}
+use mathlib.Core.Bool.{true, false, and-eq-true-iff}
 use Prim.Native.Nat.{ℕ, zero, suc, _+_}
 use native.Mathlib.Omega.{arith}
-use borrow.Author.Tests.{ne-eqb}
-use Rattle.text.specs.Text.{byteAt}
-use Rattle.json_tokens.specs.Tokens.{End, At, Broken, andThen, blanks, closing, separator, string, scalar, ended}
-use Rattle.json_tokens.proofs.Laws.{scalar-string}
+use lib.Dec.{leb}
+use borrow.Author.Tests.{ne-eqb, leb-true}
+use Rattle.text.specs.Text.{byteAt, isDigit}
+use Rattle.json_tokens.specs.Tokens.{End, At, Broken, andThen, blanks, closing, separator, string, jsonNumber, scalar, ended}
+use Rattle.json_tokens.proofs.Laws.{scalar-string, scalar-number}
 use Rattle.json.specs.Json.{Next, item, ends, wrong, Items, items, noItems, next, prepended, itemsEnd, element, member, elements, members, value, text}
 use Rattle.json.specs.Ends.{memberEnd}
 
@@ -34,6 +35,14 @@ module _ (s : List ℕ) (i : ℕ) where
   -- strings come first in the code
   pub value-string : (d : ℕ) → byteAt s i ≡ 34 → value d s i ≡ string s i
   value-string d h = value-scalar d (λ e. omega arith) (λ e. omega arith) ∙ scalar-string s i h
+
+  pub value-number : (d : ℕ) → isDigit (byteAt s i) ≡ true → value d s i ≡ jsonNumber s i
+  unfolding isDigit
+  value-number d h =
+      let p = and-eq-true-iff (leb 48 (byteAt s i)) (leb (byteAt s i) 57) .0 h in
+      let low = leb-true 48 (byteAt s i) (p .0) in
+      let high = leb-true (byteAt s i) 57 (p .1) in
+      value-scalar d (λ e. omega arith) (λ e. omega arith) ∙ scalar-number s i (λ e. omega arith) (λ e. omega arith) (λ e. omega arith) (λ e. omega arith)
 
 -- ---- what is found in a list of items
 module _ {A : Type 0} (one : ℕ → Next A) (close : ℕ) (s : List ℕ) (i : ℕ) where

@@ -24,6 +24,7 @@ use json_tokens::QUOTE;
 use json_tokens::array_close_end;
 use json_tokens::colon_end;
 use json_tokens::comma_end;
+use json_tokens::number_end;
 use json_tokens::object_close_end;
 use json_tokens::scalar_end;
 use json_tokens::skip_blanks;
@@ -66,6 +67,20 @@ pub fn value_end(s: &[u8], at: usize, depth: usize) -> usize
     } else {
         scalar_end(s, at)
     }
+}
+
+// Past the value at `at`, as `value_end` has it. It is inlined, so that a string or a number costs one call.
+pub fn item_end(s: &[u8], at: usize, depth: usize) -> usize
+    ensures { λ r. ⌜ r ≡ endOf (value depth (now (s .entry)) at) ⌝ }
+{
+    let c = byte_at(s, at);
+    if c == QUOTE {
+        return string_end(s, at);
+    }
+    if is_digit(c) {
+        return number_end(s, at);
+    }
+    value_end(s, at, depth)
 }
 
 // Past an array, from past its bracket.

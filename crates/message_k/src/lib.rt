@@ -17,6 +17,7 @@ use entries::entries_at;
 use entries::none_yet;
 use json::MAX_DEPTH;
 use json::is_name;
+use json::item_end;
 use json::value_end;
 use json_tokens::OPEN_ARRAY;
 use json_tokens::OPEN_OBJECT;
@@ -157,7 +158,7 @@ fn k_parts(s: &[u8], at: usize, buffer: &mut [u64; BUFFER_WORDS]) -> Parts
             parts.two = k_object(s, parts.one, i, buffer);
             parts.two.end
         } else {
-            value_end(s, i, ITEM_DEPTH)
+            item_end(s, i, ITEM_DEPTH)
         };
         if past == 0 {
             return no_parts(0);
@@ -180,17 +181,25 @@ fn pass(s: &[u8], outer: Outer, from: usize, to: usize) -> Outer
     requires { ⌜ value itemDepth (now s) from ≡ At to ⌝ }
     ensures { λ r. ⌜ r ≡ withOuter (now (s .entry)) outer (record { from = from; to = to }) ⌝ }
 {
-    let mut next = outer;
-    next.count = up_to_six(outer.count);
-    next.channel_from = outer.pair_from;
-    next.channel_to = outer.pair_to;
-    next.pair_from = from;
-    next.pair_to = to;
+    let count = up_to_six(outer.count);
     if outer.count == 0 {
-        next.whole = is_whole(s, from, to);
-        return next;
+        return Outer {
+            count,
+            channel_from: outer.pair_from,
+            channel_to: outer.pair_to,
+            pair_from: from,
+            pair_to: to,
+            whole: is_whole(s, from, to),
+        };
     }
-    next
+    Outer {
+        count,
+        channel_from: outer.pair_from,
+        channel_to: outer.pair_to,
+        pair_from: from,
+        pair_to: to,
+        whole: outer.whole,
+    }
 }
 
 fn up_to_six(n: usize) -> usize
@@ -353,7 +362,7 @@ fn with_checksum(s: &[u8], members: Members, from: usize) -> Members
     ensures { λ r. ⌜ SumRead (now (s .entry)) members from r ⌝ }
 {
     let mut next = members;
-    let end = value_end(s, from, SIDE_DEPTH);
+    let end = item_end(s, from, SIDE_DEPTH);
     next.end = end;
     if end == 0 {
         return next;

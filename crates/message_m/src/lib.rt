@@ -14,6 +14,7 @@ use entries::entries_at;
 use entries::none_yet;
 use json::MAX_DEPTH;
 use json::is_name;
+use json::item_end;
 use json::value_end;
 use json_tokens::OPEN_OBJECT;
 use json_tokens::colon_end;
@@ -289,7 +290,7 @@ fn more_body(
     }
     let mark = body.mark;
     Body {
-        end: value_end(s, from, ITEM_DEPTH),
+        end: item_end(s, from, ITEM_DEPTH),
         mark,
         last: by_fields(last),
     }
@@ -404,7 +405,7 @@ fn more_data(
         };
     }
     let mut next = met;
-    next.end = value_end(s, from, SIDE_DEPTH);
+    next.end = item_end(s, from, SIDE_DEPTH);
     next
 }
 

@@ -41,8 +41,8 @@ returns-2 c =
     let n = c .before .before .before .if1 .left in
     record {
       told =
-          ap (λ (x : Data). record { end = c .before .value-end .result; mark = a .body .mark; last = x }) (c .by-fields2 .ensures)
-          ∙ body-other s (a .body) v (a .key) 4 n (c .before .value-end .ensures);
+          ap (λ (x : Data). record { end = c .before .item-end .result; mark = a .body .mark; last = x }) (c .by-fields2 .ensures)
+          ∙ body-other s (a .body) v (a .key) 4 n (c .before .item-end .ensures);
       added =
           added-told (ap (λ (x : Data). x .tally) (c .by-fields2 .ensures))
           (added-as (added-none s 15 (a .from) (a .body .last .tally) (now (a .buffer)) (b .pre .0) (b .pre .1)) (λ x. body-passed s (eqb (a .key) 4) x v (ne-eqb (a .key) 4 n)));

@@ -51,7 +51,7 @@ returns-3 c =
     let n = sym (c .before .before .before .before .before .is-name .ensures) ∙ c .before .before .before .before .if1 .left in
     let o = sym (c .before .before .is-name2 .ensures) ∙ c .before .if2 .left in
     record {
-      told = data-other s (a .met) m (c .value-end .ensures) n o;
+      told = data-other s (a .met) m (c .item-end .ensures) n o;
       added = added-as (added-none s 14 (a .from) (a .met .tally) (now (a .buffer)) (b .pre .0) (b .pre .1)) (λ x. held-other s x m n o);
     }
 

@@ -1,4 +1,4 @@
--- The queue at a price: `add` puts an id at its end, `modify` leaves it as it is, and the cut keeps it whole or not at all. Assumes nothing.
+-- The queue at a price: `add` puts an id at its end, `modify` leaves it as it is, `delete` takes its id out, and the cut keeps it whole or not at all. Assumes nothing.
 use Prim.Native.Nat.{ℕ}
 use mathlib.Core.Path.{_≡_, refl, sym, ap, _∙_}
 use mathlib.Core.Bool.{Bool, true, false, cond}
@@ -11,8 +11,10 @@ use Rattle.edit.specs.declared.Side.{Side}
 use Rattle.level.specs.Ranked.{All}
 use Rattle.level.specs.Side.{nearer}
 use Rattle.order_edit.specs.Ids.{sameId}
-use Rattle.orders.specs.Orders.{View, among, place, changed, prices, atPrices, bestPrices, BestFirst, queue, plain, QueueOrder}
+use Rattle.orders.specs.Orders.{View, among, place, changed, prices, atPrices, bestPrices, BestFirst, queue, plain, stands, without, exceptId, IdsOnce, QueueOrder}
+use Rattle.order_edit.proofs.Ids.{sameId-true}
 use Rattle.level.proofs.Order.{before-ne, before-through}
+use Rattle.orders.proofs.Once.{or-left, or-right}
 use Rattle.level.proofs.All.{all-map, all-true}
 
 module _ {A : Type 0} (v : View A) where
@@ -103,11 +105,47 @@ module _ {A : Type 0} (v : View A) where
     queue-add [] o = refl
     queue-add (y ∷ s) o = add-cond y s (nearer side (key x) (key y)) refl (o .0) (queue-add s (o .1))
 
+  -- ---- `delete`
+
+  -- an id that does not stand on a side is in no queue of it
+  queue-absent : (p : ℕ) (id : List ℕ) (s : List A) → stands v id s ≡ false → exceptId id (queue v p s) ≡ queue v p s
+  unfolding stands queue exceptId
+  queue-absent p id [] h = refl
+  queue-absent p id (x ∷ s) h =
+      absent-cond (eqb (key x) p) (v .id x) (queue v p s) id (or-left (sameId (v .id x) id) (stands v id s) h) (queue-absent p id s (or-right (sameId (v .id x) id) (stands v id s) h))
+    where
+      absent-cond : (t : Bool) (i : List ℕ) (q : List (List ℕ)) (id : List ℕ) → sameId i id ≡ false → exceptId id q ≡ q → exceptId id (cond t (i ∷ q) q) ≡ cond t (i ∷ q) q
+      absent-cond true i q id n e = simp (n, e)
+      absent-cond false i q id n e = e
+
+  delete-cond : (p : ℕ) (id : List ℕ) (y : A) (s : List A) (t : Bool) → sameId (v .id y) id ≡ t → stands v (v .id y) s ≡ false
+      → queue v p (without v id s) ≡ exceptId id (queue v p s) → queue v p (cond t s (y ∷ without v id s)) ≡ exceptId id (queue v p (y ∷ s))
+  unfolding queue exceptId
+  delete-cond p id y s true e n h =
+      let same : v .id y ≡ id = sameId-true (v .id y) id e in
+      let none : exceptId id (queue v p s) ≡ queue v p s = queue-absent p id s (ap (λ (i : List ℕ). stands v i s) (sym same) ∙ n) in
+      sym (gone (eqb (key y) p) ∙ none)
+    where
+      gone : (t : Bool) → exceptId id (cond t (v .id y ∷ queue v p s) (queue v p s)) ≡ exceptId id (queue v p s)
+      gone true = simp e
+      gone false = refl
+  delete-cond p id y s false e n h = rw h (kept (eqb (key y) p))
+    where
+      kept : (t : Bool) → cond t (v .id y ∷ exceptId id (queue v p s)) (exceptId id (queue v p s)) ≡ exceptId id (cond t (v .id y ∷ queue v p s) (queue v p s))
+      kept true = sym (simp e)
+      kept false = refl
+
+  pub queue-delete : (p : ℕ) (id : List ℕ) (s : List A) → IdsOnce v s → queue v p (without v id s) ≡ exceptId id (queue v p s)
+  unfolding queue without exceptId IdsOnce
+  queue-delete p id [] o = refl
+  queue-delete p id (y ∷ s) o = delete-cond p id y s (sameId (v .id y) id) refl (o .0) (queue-delete p id s (o .1))
+
 -- ---- all of it, of orders as they are shown
 
 pub queue-order : (side : Side) (p : ℕ) → QueueOrder plain side p
 queue-order side p = record {
   modified = λ x s. queue-modify plain (λ y. Unit) (λ y z a b. refl) (λ y z. refl) p x tt s (all-true (λ y. Unit) (λ y. tt) s);
   added = λ x s o. queue-add plain side p x s o;
+  deleted = λ id s o. queue-delete plain p id s o;
   cut = λ depth s. queue-cut plain p depth s;
 }

@@ -58,7 +58,7 @@ pub data Sides (A : Type 0) : Type 0 where
   both : List A → List A → Sides A
   clashed : Sides A
 
--- ---- lists of prices
+-- ---- lists of prices and of ids
 
 -- Is this price one of these?
 unfoldable pub among : ℕ → List ℕ → Bool
@@ -69,6 +69,11 @@ among p (q ∷ ps) = eqb p q || among p ps
 unfoldable pub except : ℕ → List ℕ → List ℕ
 except p [] = []
 except p (q ∷ ps) = cond (eqb p q) (except p ps) (q ∷ except p ps)
+
+-- These ids but this one.
+unfoldable pub exceptId : List ℕ → List (List ℕ) → List (List ℕ)
+exceptId id [] = []
+exceptId id (i ∷ ids) = cond (sameId i id) (exceptId id ids) (i ∷ exceptId id ids)
 
 module _ {A : Type 0} (v : View A) where
   -- The price of an order, by value.
@@ -211,11 +216,12 @@ module _ {A : Type 0} (v : View A) where
         → (bids′ asks′ : List A) → afterUpdate depth bidEntries askEntries bids asks ≡ both bids′ asks′ → Once bids′ asks′
     pub snapshot : (bids asks bids′ asks′ : List A) → afterSnapshot depth bids asks ≡ both bids′ asks′ → Once bids′ asks′
 
-  -- What each step does to the queue at a price: `modify` moves none, `add` goes last at its own price and touches no other, and the cut keeps a price's
-  -- orders whole or none.
+  -- What each step does to the queue at a price: `modify` moves none, `add` goes last at its own price and touches no other, `delete` takes its own id out,
+  -- and the cut keeps a price's orders whole or none.
   pub record QueueOrder (side : Side) (p : ℕ) : Type 0 where
     pub modified : (x : A) (s : List A) → queue p (changed x s) ≡ queue p s
     pub added : (x : A) (s : List A) → BestFirst side s → queue p (place side x s) ≡ cond (eqb (priced x) p) (queue p s ++ v .id x ∷ []) (queue p s)
+    pub deleted : (id : List ℕ) (s : List A) → IdsOnce s → queue p (without id s) ≡ exceptId id (queue p s)
     pub cut : (depth : ℕ) (s : List A) → queue p (bestPrices depth s) ≡ cond (among p (take depth (prices s))) (queue p s) []
 
 -- ---- orders seen in another way

@@ -18,7 +18,7 @@ use Rattle.layout.proofs.MemberSpans.{placeOf, once-yes, once-no}
 use Rattle.order_edit.specs.Ids.{isId}
 use Rattle.order_edit.specs.declared.Event.the-variants.{Add, Modify, Delete}
 use Rattle.order_entries.specs.Rows.{OrderRow, stringAt, eventAt, rowOf}
-use Rattle.order_entries.specs.Collected.{maybeEvent, orderPlaceOf, onceString, eventOf, placeIn}
+use Rattle.order_entries.specs.Collected.{maybeEvent, orderPlaceOf, onceString, eventOf, placeIn, Laid}
 use Rattle.order_entries.specs.declared.MaybeEvent.{MaybeEvent}
 use Rattle.order_entries.specs.declared.MaybeEvent.the-variants.{Is, Missing}
 use Rattle.order_entries.specs.declared.OrderPlace.{OrderPlace}
@@ -125,3 +125,11 @@ module _ (s : List ℕ) (at end : ℕ) (met : OrderMembers) where
       }) (placeIn s at end met)
   unfolding placeIn orderPlaceOf eventOf
   place-order h i event e = sym (rw (row-cond, h, i, e))
+
+-- ---- where its texts lie
+
+pub none-laid : (s : List ℕ) (end : ℕ) (f : OrderPlace) → f ≡ orderPlaceOf end refused → Laid s f
+unfolding orderPlaceOf
+none-laid s end f e =
+    rw e
+    (record { id = (omega arith, omega arith); price = (omega arith, omega arith); size = (omega arith, omega arith) })

@@ -3,6 +3,7 @@ use Prim.Native.Nat.{ℕ, suc, _+_, _<_, _≤_}
 use mathlib.Core.Path.{_≡_, refl, sym, ap, _∙_}
 use mathlib.Core.Bool.{Bool, true, false}
 use mathlib.Core.List.{List}
+use native.Mathlib.Omega.{arith}
 use lib.ListN.{length}
 use Rattle.text.specs.Text.{ascii, byteAt}
 use Rattle.decimal.specs.Digits.{Reading, reads, refused}
@@ -18,7 +19,7 @@ use Rattle.layout.specs.declared.MemberSpan.{MemberSpan}
 use Rattle.layout.proofs.MemberSpans.{on-fold, only-is}
 use Rattle.layout.proofs.Objects.{object-broken, made-other, made-empty, made-start}
 use Rattle.order_entries.specs.Rows.{rowOf, rowIn, orderRow}
-use Rattle.order_entries.specs.Collected.{orderPlaceOf, orderPlaceAt, noMembers, moreMembers, placeIn, Placed}
+use Rattle.order_entries.specs.Collected.{orderPlaceOf, orderPlaceAt, noMembers, moreMembers, placeIn, Placed, Inside}
 use Rattle.order_entries.specs.declared.OrderPlace.{OrderPlace}
 use Rattle.order_entries.specs.declared.OrderMembers.{OrderMembers}
 
@@ -82,13 +83,22 @@ module _ (s : List ℕ) (at : ℕ) where
       place-start z k b =
           rw told-is at (made-start told d s at opens (moreMembers s) (placeIn s at) noMembers (λ x ms. told-folds ms x) e h z k b)
 
--- ---- the place of the id
+-- ---- the places of the texts
 
-placed-hit : (s : List ℕ) (hit : Bool) (m : MemberSpan) (a : Span) → Placed s m → a .from ≤ a .to → a .to ≤ length s → Placed s (onHit hit withMemberSpan m a)
+placed-hit : (s : List ℕ) (hit : Bool) (m : MemberSpan) (a : Span) → Placed s (m .from) (m .to) → a .from ≤ a .to → a .to ≤ length s
+    → Placed s (onHit hit withMemberSpan m a .from) (onHit hit withMemberSpan m a .to)
 unfolding onHit withMemberSpan
 placed-hit s true m a p l h = (l, h)
 placed-hit s false m a p l h = p
 
-pub placed-more : (s : List ℕ) (met : OrderMembers) (m : Pair) → Placed s (met .id) → m .value .from ≤ m .value .to → m .value .to ≤ length s → Placed s (moreMembers s met m .id)
+pub none-inside : (s : List ℕ) → Inside s noMembers
+none-inside s = record { id = (omega arith, omega arith); price = (omega arith, omega arith); size = (omega arith, omega arith) }
+
+pub inside-more : (s : List ℕ) (met : OrderMembers) (m : Pair) → Inside s met → m .value .from ≤ m .value .to → m .value .to ≤ length s → Inside s (moreMembers s met m)
 unfolding moreMembers
-placed-more s met m p l h = placed-hit s (means s (m .name) (ascii "order_id")) (met .id) (m .value) p l h
+inside-more s met m p l h =
+    record {
+      id = placed-hit s (means s (m .name) (ascii "order_id")) (met .id) (m .value) (p .id) l h;
+      price = placed-hit s (means s (m .name) (ascii "limit_price")) (met .price) (m .value) (p .price) l h;
+      size = placed-hit s (means s (m .name) (ascii "order_qty")) (met .size) (m .value) (p .size) l h;
+    }

@@ -1,5 +1,6 @@
 -- What one walk over an order collects, member by member, and what is told of it in the end, in numbers. Assumes nothing: these are definitions.
 use Prim.Native.Nat.{ℕ, _≤_}
+use mathlib.Core.Path.{_≡_}
 use mathlib.Core.Bool.{Bool, true, false, _&&_}
 use mathlib.Core.List.{List}
 use lib.Dec.{eqb}
@@ -7,7 +8,7 @@ use lib.ListN.{length}
 use Rattle.text.specs.Text.{ascii}
 use Rattle.decimal.specs.Digits.{Reading, reads, refused}
 use Rattle.json_tokens.specs.Tokens.{At, Broken}
-use Rattle.json.specs.Json.{Pair, value}
+use Rattle.json.specs.Json.{Span, Pair, value}
 use Rattle.entries.specs.Places.{andThen, isString}
 use Rattle.layout.specs.MemberSpans.{noMemberSpan, withMemberSpan, onceAt, onMember}
 use Rattle.layout.specs.declared.MemberSpan.{MemberSpan}
@@ -72,6 +73,33 @@ eventOf s m = maybeEvent (andThen (onceAt m) (eventAt s))
 unfoldable pub placeIn : List ℕ → ℕ → ℕ → OrderMembers → OrderPlace
 placeIn s at end met = orderPlaceOf end (rowOf s (record { from = at; to = end }) (onceAt (met .id)) (onceAt (met .price)) (onceAt (met .size)) (onceAt (met .event)))
 
--- A value's place lies in the text.
-abbrev pub Placed : List ℕ → MemberSpan → Type 0
-Placed s m = (m .from ≤ m .to) × (m .to ≤ length s)
+-- A part that lies in the text.
+abbrev pub Placed : List ℕ → ℕ → ℕ → Type 0
+Placed s from to = (from ≤ to) × (to ≤ length s)
+
+-- The values of the three texts that were met last lie in the text.
+pub record Inside (s : List ℕ) (met : OrderMembers) : Type 0 where
+  pub id : Placed s (met .id .from) (met .id .to)
+  pub price : Placed s (met .price .from) (met .price .to)
+  pub size : Placed s (met .size .from) (met .size .to)
+
+-- The texts of an order lie in the text.
+pub record Laid (s : List ℕ) (f : OrderPlace) : Type 0 where
+  pub id : Placed s (f .«id_from») (f .«id_to»)
+  pub price : Placed s (f .«price_from») (f .«price_to»)
+  pub size : Placed s (f .«size_from») (f .«size_to»)
+
+-- What is found, and that it lies in the text.
+pub record Found (s : List ℕ) (told f : OrderPlace) : Type 0 where
+  pub is : f ≡ told
+  pub laid : Laid s f
+
+-- The texts of what was found at a position.
+abbrev pub idSpan : OrderPlace → Span
+idSpan f = record { from = f .«id_from»; to = f .«id_to» }
+
+abbrev pub priceSpan : OrderPlace → Span
+priceSpan f = record { from = f .«price_from»; to = f .«price_to» }
+
+abbrev pub sizeSpan : OrderPlace → Span
+sizeSpan f = record { from = f .«size_from»; to = f .«size_to» }

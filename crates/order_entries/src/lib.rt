@@ -11,7 +11,7 @@ ghost use Rattle.decimal.specs.Digits.{refused};
 ghost use Rattle.json.specs.Names.{inner};
 ghost use Rattle.layout.specs.MemberSpans.{withMemberSpan, onMember};
 ghost use Rattle.order_edit.specs.Ids.{isId};
-ghost use Rattle.order_entries.specs.Collected.{orderPlaceOf, orderPlaceAt, noMembers, moreMembers, onceString, eventOf, placeIn, Placed};
+ghost use Rattle.order_entries.specs.Collected.{orderPlaceOf, orderPlaceAt, noMembers, moreMembers, onceString, eventOf, placeIn, Placed, Inside, Found};
 use json::is_name;
 use json::value_end;
 use json_tokens::OPEN_OBJECT;
@@ -62,7 +62,7 @@ struct OrderMembers {
 // The value at `at` as an order.
 pub fn order_place(s: &[u8], at: usize, depth: usize) -> OrderPlace
     requires { ⌜ 1 ≤ depth ⌝ }
-    ensures { λ r. ⌜ r ≡ orderPlaceAt depth (now (s .entry)) at ⌝ }
+    ensures { λ r. ⌜ Found (now (s .entry)) (orderPlaceAt depth (now (s .entry)) at) r ⌝ }
 {
     if byte_at(s, at) != OPEN_OBJECT {
         return no_order(value_end(s, at, depth));
@@ -151,8 +151,8 @@ fn more_spans(
 
 // The order from `at` to `end` that has these members.
 fn place_in(s: &[u8], at: usize, end: usize, met: OrderMembers) -> OrderPlace
-    requires { ⌜ Placed (now s) (met .id) ⌝ }
-    ensures { λ r. ⌜ r ≡ placeIn (now (s .entry)) at end met ⌝ }
+    requires { ⌜ Inside (now s) met ⌝ }
+    ensures { λ r. ⌜ Found (now (s .entry)) (placeIn (now (s .entry)) at end met) r ⌝ }
 {
     let id = met.id;
     let price = met.price;
@@ -189,7 +189,7 @@ fn is_once_string(s: &[u8], mark: MemberSpan) -> bool
 
 // Whether the string from `from` to `to`, quotes included, is an id.
 fn is_id_at(s: &[u8], from: usize, to: usize) -> bool
-    requires { ⌜ Placed (now s) (record { times = 1; from = from; to = to }) ⌝ }
+    requires { ⌜ Placed (now s) from to ⌝ }
     ensures { λ r. ⌜ r ≡ isId (inner (now (s .entry)) (record { from = from; to = to })) ⌝ }
 {
     if to - from < 2 {

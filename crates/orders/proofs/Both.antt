@@ -1,7 +1,7 @@
 -- Both sides of a message: what the calls of the code, in their order, say of the definition. Assumes nothing.
 use Prim.Native.Nat.{ℕ, _*_, _<_, _≤_}
 use mathlib.Core.Path.{_≡_, refl, sym, ap, ap₂, _∙_, subst}
-use mathlib.Core.Bool.{Bool, _&&_, cond, and-false}
+use mathlib.Core.Bool.{Bool, true, _&&_, cond, and-false}
 use mathlib.Core.List.{List, [], map}
 use native.Mathlib.Omega.{arith}
 use borrow.Author.Tests.{le-leb, lt-leb}
@@ -21,7 +21,7 @@ use Rattle.orders.specs.declared.Applied.the-variants.{Taken, Clash}
 use Rattle.orders.specs.declared.Updated.the-variants.{Done, Clashed, TooMany}
 use Rattle.orders.specs.Orders.{Entry, adds, entryOf, Outcome, taken, clash, Sides, both, applyAll, thenAsks, applyBoth, cutBoth, beside, afterUpdate, afterSnapshot, bestPrices}
 use Rattle.orders.specs.Words.{coded, ordersIn, held, Sound, orderFor, changeOf, changesFor, ordersFor}
-use Rattle.orders.specs.Kept.{Good, Copied, outcome, countOf, AfterEntries, CutTo, maxOrders, maxWords, Kept, IsAdded, answer, Left, LeftBy, AfterMessage}
+use Rattle.orders.specs.Kept.{Good, Copied, outcome, countOf, AfterEntries, CutTo, maxOrders, maxWords, Kept, answer, Left, LeftBy, AfterMessage}
 use Rattle.orders.proofs.Places.{sorted-take}
 use Rattle.orders.proofs.Held.{held-length}
 use Rattle.orders.proofs.Sided.{all-sided, map-same, map-map}
@@ -107,13 +107,13 @@ module _ (depth : ℕ) (working : List ℕ) (n : ℕ) (others : List ℕ) (m : �
 
 -- ---- the calls in their order
 
-module _ (depth b a : ℕ) (bids asks : List ℕ) (es : List OrderEntry) (w o : List ℕ) (cb : held w b ≡ held bids b) (ca : held o a ≡ held asks a)
-    (w′ : List ℕ) (r : Applied) (first : AfterEntries Bids (held o a) es w b w′ r) where
+module _ (listed : Bool) (depth b a : ℕ) (bids asks : List ℕ) (es : List OrderEntry) (w o : List ℕ) (cb : held w b ≡ held bids b) (ca : held o a ≡ held asks a)
+    (w′ : List ℕ) (r : Applied) (first : AfterEntries listed Bids (held o a) es w b w′ r) where
   abbrev bes : List (Entry Order)
-  bes = changesFor Bids es
+  bes = changesFor listed Bids es
 
   abbrev aes : List (Entry Order)
-  aes = changesFor Asks es
+  aes = changesFor listed Asks es
 
   abbrev target : Sides Order
   target = afterUpdate coded depth bes aes (held bids b) (held asks a)
@@ -139,7 +139,7 @@ module _ (depth b a : ℕ) (bids asks : List ℕ) (es : List OrderEntry) (w o : 
     unfolding outcome
     bids-taken = sym (ap (outcome w′) (sym is) ∙ bid-outcome)
 
-    module _ (o′ : List ℕ) (q : Applied) (second : AfterEntries Asks (held w′ n) es o a o′ q) where
+    module _ (o′ : List ℕ) (q : Applied) (second : AfterEntries listed Asks (held w′ n) es o a o′ q) where
       ask-outcome : outcome o′ q ≡ applyAll coded Asks (held w′ n) aes (held asks a)
       ask-outcome = second .outcome ∙ ap (applyAll coded Asks (held w′ n) aes) ca
 
@@ -171,21 +171,15 @@ module _ (depth b a : ℕ) (bids asks : List ℕ) (es : List OrderEntry) (w o : 
 
 -- ---- a snapshot: each entry adds an order
 
-adds-each : (e : OrderEntry) → IsAdded e → changeOf e ≡ adds (orderFor e)
-unfolding changeOf entryOf
-adds-each e h = ap (λ (event : Event). entryOf event (orderFor e)) h
+adds-all : (side : Side) (es : List OrderEntry) → changesFor true side es ≡ map adds (ordersFor side es)
+unfolding changesFor ordersFor changeOf
+adds-all side es = sym (map-map orderFor adds (forSide entrySide side es))
 
-adds-all : (side : Side) (es : List OrderEntry) → All IsAdded es → changesFor side es ≡ map adds (ordersFor side es)
-unfolding changesFor ordersFor
-adds-all side es a =
-    map-same IsAdded changeOf (λ e. adds (orderFor e)) adds-each (forSide entrySide side es) (all-sided IsAdded side es a)
-    ∙ sym (map-map orderFor adds (forSide entrySide side es))
-
-pub snapshot-sides : (depth : ℕ) (bids asks : List ℕ) (es : List OrderEntry) → All IsAdded es
-    → afterUpdate coded depth (changesFor Bids es) (changesFor Asks es) (held bids 0) (held asks 0) ≡ afterSnapshot coded depth (ordersFor Bids es) (ordersFor Asks es)
+pub snapshot-sides : (depth : ℕ) (bids asks : List ℕ) (es : List OrderEntry)
+    → afterUpdate coded depth (changesFor true Bids es) (changesFor true Asks es) (held bids 0) (held asks 0) ≡ afterSnapshot coded depth (ordersFor Bids es) (ordersFor Asks es)
 unfolding held
-snapshot-sides depth bids asks es a =
-    ap₂ (λ (x y : List (Entry Order)). afterUpdate coded depth x y [] []) (adds-all Bids es a) (adds-all Asks es a)
+snapshot-sides depth bids asks es =
+    ap₂ (λ (x y : List (Entry Order)). afterUpdate coded depth x y [] []) (adds-all Bids es) (adds-all Asks es)
     ∙ snapshot-adds coded (ordersFor Bids es) (ordersFor Asks es) depth
 
 pub none-kept : (side : Side) (words : List ℕ) → length words ≡ maxWords → Kept side words 0

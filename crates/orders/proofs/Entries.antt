@@ -44,13 +44,14 @@ event-sound Add x p = p
 event-sound Modify x p = p
 event-sound Delete x p = p
 
-pub sound-change : (e : OrderEntry) → EntrySound e → OfEntry Sound (changeOf e)
-unfolding changeOf
-sound-change e a = event-sound (e .event) (orderFor e) (sound-entry e a)
+pub sound-change : (listed : Bool) (e : OrderEntry) → EntrySound e → OfEntry Sound (changeOf listed e)
+unfolding changeOf OfEntry
+sound-change true e a = sound-entry e a
+sound-change false e a = event-sound (e .event) (orderFor e) (sound-entry e a)
 
-pub sound-changes : (side : Side) (es : List OrderEntry) → All EntrySound es → All (OfEntry Sound) (changesFor side es)
+pub sound-changes : (listed : Bool) (side : Side) (es : List OrderEntry) → All EntrySound es → All (OfEntry Sound) (changesFor listed side es)
 unfolding changesFor
-sound-changes side es a = all-mapped EntrySound (OfEntry Sound) changeOf sound-change (forSide entrySide side es) (all-sided EntrySound side es a)
+sound-changes listed side es a = all-mapped EntrySound (OfEntry Sound) (changeOf listed) (sound-change listed) (forSide entrySide side es) (all-sided EntrySound side es a)
 
 -- ---- the entries of a buffer
 
@@ -89,15 +90,15 @@ abbrev pub own : Side → List OrderEntry → ℕ
 own side es = length (forSide entrySide side es)
 
 -- the side s, of n₀ orders in as many words as now, has had k entries, and is now the first n orders of the words
-pub record Turn (side : Side) (other : List Order) (es : List OrderEntry) (s : List Order) (n₀ wide : ℕ) (words : List ℕ) (n k : ℕ) : Type 0 where
+pub record Turn (listed : Bool) (side : Side) (other : List Order) (es : List OrderEntry) (s : List Order) (n₀ wide : ℕ) (words : List ℕ) (n k : ℕ) : Type 0 where
   pub room : length words ≡ wide
   pub within : k ≤ length es
   pub few : n + own side (drop k es) ≤ n₀ + own side es
   pub good : Good side words n
   pub sound : All EntrySound (drop k es)
-  pub rest : applyAll coded side other (changesFor side (drop k es)) (held words n) ≡ applyAll coded side other (changesFor side es) s
+  pub rest : applyAll coded side other (changesFor listed side (drop k es)) (held words n) ≡ applyAll coded side other (changesFor listed side es) s
 
-module _ (side : Side) (e : OrderEntry) (es : List OrderEntry) where
+module _ (listed : Bool) (side : Side) (e : OrderEntry) (es : List OrderEntry) where
   own-more : isSame (entrySide e) side ≡ true → own side (e ∷ es) ≡ suc (own side es)
   unfolding forSide
   own-more h = simp h
@@ -106,16 +107,16 @@ module _ (side : Side) (e : OrderEntry) (es : List OrderEntry) where
   unfolding forSide
   own-none h = simp h
 
-  changes-more : isSame (entrySide e) side ≡ true → changesFor side (e ∷ es) ≡ changeOf e ∷ changesFor side es
+  changes-more : isSame (entrySide e) side ≡ true → changesFor listed side (e ∷ es) ≡ changeOf listed e ∷ changesFor listed side es
   unfolding changesFor forSide
   changes-more h = simp h
 
-  changes-none : isSame (entrySide e) side ≡ false → changesFor side (e ∷ es) ≡ changesFor side es
+  changes-none : isSame (entrySide e) side ≡ false → changesFor listed side (e ∷ es) ≡ changesFor listed side es
   unfolding changesFor forSide
   changes-none h = simp h
 
-module _ (side : Side) (other : List Order) (es : List OrderEntry) (s : List Order) (n₀ wide : ℕ) (wide-enough : 6 * (n₀ + own side es) ≤ wide)
-    (words : List ℕ) (n k : ℕ) (t : Turn side other es s n₀ wide words n k) where
+module _ (listed : Bool) (side : Side) (other : List Order) (es : List OrderEntry) (s : List Order) (n₀ wide : ℕ) (wide-enough : 6 * (n₀ + own side es) ≤ wide)
+    (words : List ℕ) (n k : ℕ) (t : Turn listed side other es s n₀ wide words n k) where
   abbrev this : OrderEntry
   this = getD es k noEntry
 
@@ -132,10 +133,10 @@ module _ (side : Side) (other : List Order) (es : List OrderEntry) (s : List Ord
     sound-more = rw add-one ((rw next at (t .sound)) .1)
 
     -- the next entry is for the other side
-    pub turn-skip : isSame (entrySide this) side ≡ false → Turn side other es s n₀ wide words n (k + 1)
+    pub turn-skip : isSame (entrySide this) side ≡ false → Turn listed side other es s n₀ wide words n (k + 1)
     turn-skip d =
-        let less : own side (drop k es) ≡ own side (drop (suc k) es) = ap (own side) next ∙ own-none side this (drop (suc k) es) d in
-        let same : changesFor side (drop k es) ≡ changesFor side (drop (suc k) es) = ap (changesFor side) next ∙ changes-none side this (drop (suc k) es) d in
+        let less : own side (drop k es) ≡ own side (drop (suc k) es) = ap (own side) next ∙ own-none listed side this (drop (suc k) es) d in
+        let same : changesFor listed side (drop k es) ≡ changesFor listed side (drop (suc k) es) = ap (changesFor listed side) next ∙ changes-none listed side this (drop (suc k) es) d in
         record {
           room = t .room;
           within = omega arith;
@@ -148,21 +149,21 @@ module _ (side : Side) (other : List Order) (es : List OrderEntry) (s : List Ord
     -- the next entry is for this side
     module _ (d : isSame (entrySide this) side ≡ true) where
       more : own side (drop k es) ≡ suc (own side (drop (suc k) es))
-      more = ap (own side) next ∙ own-more side this (drop (suc k) es) d
+      more = ap (own side) next ∙ own-more listed side this (drop (suc k) es) d
 
-      changes : changesFor side (drop k es) ≡ changeOf this ∷ changesFor side (drop (suc k) es)
-      changes = ap (changesFor side) next ∙ changes-more side this (drop (suc k) es) d
+      changes : changesFor listed side (drop k es) ≡ changeOf listed this ∷ changesFor listed side (drop (suc k) es)
+      changes = ap (changesFor listed side) next ∙ changes-more listed side this (drop (suc k) es) d
 
       pub turn-room : 6 * (n + 1) ≤ length words
       turn-room = omega (arith, t .few, t .room, wide-enough, more)
 
       abbrev Met : Bool
-      Met = clashes coded other (changeOf this) (held words n)
+      Met = clashes coded other (changeOf listed this) (held words n)
 
       abbrev Then : List Order
-      Then = apply coded side (changeOf this) (held words n)
+      Then = apply coded side (changeOf listed this) (held words n)
 
-      pub turn-step : (after : List ℕ) (m : ℕ) → AfterOne Met Then words n after (Taken m) → Turn side other es s n₀ wide after m (k + 1)
+      pub turn-step : (after : List ℕ) (m : ℕ) → AfterOne Met Then words n after (Taken m) → Turn listed side other es s n₀ wide after m (k + 1)
       unfolding outcome countOf applyAll
       turn-step after m a =
           let e : held after m ≡ Then = taken-same Met (held after m) Then (a .outcome) in
@@ -173,20 +174,20 @@ module _ (side : Side) (other : List Order) (es : List OrderEntry) (s : List Ord
             few = rw add-one (omega (arith, t .few, a .few, more));
             good = record {
               room = omega (arith, t .few, t .room, a .room, a .few, wide-enough, more);
-              sorted = rw e (sorted-apply side (changeOf this) (held words n) (sound-change this sound-next) (t .good .sound) (t .good .sorted));
-              sound = rw e (sound-apply side (changeOf this) (held words n) (sound-change this sound-next) (t .good .sound));
+              sorted = rw e (sorted-apply side (changeOf listed this) (held words n) (sound-change listed this sound-next) (t .good .sound) (t .good .sorted));
+              sound = rw e (sound-apply side (changeOf listed this) (held words n) (sound-change listed this sound-next) (t .good .sound));
             };
             sound = sound-more;
             rest = rw (add-one, e) (rw (changes, clear) at (t .rest));
           }
 
-      pub turn-clash : (after : List ℕ) → AfterOne Met Then words n after Clash → clash ≡ applyAll coded side other (changesFor side es) s
+      pub turn-clash : (after : List ℕ) → AfterOne Met Then words n after Clash → clash ≡ applyAll coded side other (changesFor listed side es) s
       unfolding outcome applyAll
       turn-clash after a =
           let met : Met ≡ true = clash-clear Met Then (a .outcome) in
           rw (changes, met) at (t .rest)
 
-  pub turn-end : length es ≤ k → taken (held words n) ≡ applyAll coded side other (changesFor side es) s
+  pub turn-end : length es ≤ k → taken (held words n) ≡ applyAll coded side other (changesFor listed side es) s
   unfolding applyAll changesFor forSide
   turn-end h = rw (drop-of-length-le es h) at (t .rest)
 

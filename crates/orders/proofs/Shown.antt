@@ -1,6 +1,7 @@
 -- What the code's orders show: a message on the orders of the code is the message on the orders shown. Assumes nothing.
 use Prim.Native.Nat.{ℕ}
 use mathlib.Core.Path.{_≡_, refl, sym, ap, ap₂, _∙_}
+use mathlib.Core.Bool.{false}
 use mathlib.Core.List.{List, [], _∷_, map}
 use Rattle.decimal.specs.Decimal.{Number}
 use Rattle.edit.specs.Edit.{forSide}
@@ -52,7 +53,7 @@ event-shown Add x = refl
 event-shown Modify x = refl
 event-shown Delete x = refl
 
-change-shown : (e : OrderEntry) → EntrySound e → mapEntry shown (changeOf e) ≡ shownChange e
+change-shown : (e : OrderEntry) → EntrySound e → mapEntry shown (changeOf false e) ≡ shownChange e
 unfolding changeOf shownChange
 change-shown e a = event-shown (e .event) (orderFor e) ∙ ap (entryOf (e .event)) (order-shown e a)
 
@@ -61,9 +62,9 @@ for-side : {A B : Type 0} (f : OrderEntry → A) (g : A → B) (h : OrderEntry �
     → (side : Side) (es : List OrderEntry) → All EntrySound es → map g (map f (forSide entrySide side es)) ≡ map h (forSide entrySide side es)
 for-side f g h is side es a = map-map f g (forSide entrySide side es) ∙ map-same EntrySound (λ e. g (f e)) h is (forSide entrySide side es) (all-sided EntrySound side es a)
 
-changes-shown : (side : Side) (es : List OrderEntry) → All EntrySound es → map (mapEntry shown) (changesFor side es) ≡ shownChangesFor side es
+changes-shown : (side : Side) (es : List OrderEntry) → All EntrySound es → map (mapEntry shown) (changesFor false side es) ≡ shownChangesFor side es
 unfolding changesFor shownChangesFor
-changes-shown side es a = for-side changeOf (mapEntry shown) shownChange change-shown side es a
+changes-shown side es a = for-side (changeOf false) (mapEntry shown) shownChange change-shown side es a
 
 orders-shown : (side : Side) (es : List OrderEntry) → All EntrySound es → map shown (ordersFor side es) ≡ shownOrdersFor side es
 unfolding ordersFor shownOrdersFor
@@ -73,10 +74,10 @@ orders-shown side es a = for-side orderFor shown shownOrder order-shown side es 
 
 module _ (depth : ℕ) (es : List OrderEntry) (a : All EntrySound es) where
   pub shown-update : (bids asks : List Order) → All Sound bids → All Sound asks
-      → mapSides shown (afterUpdate coded depth (changesFor Bids es) (changesFor Asks es) bids asks)
+      → mapSides shown (afterUpdate coded depth (changesFor false Bids es) (changesFor false Asks es) bids asks)
       ≡ afterUpdate plain depth (shownChangesFor Bids es) (shownChangesFor Asks es) (map shown bids) (map shown asks)
   shown-update bids asks b s =
-      map-shown depth (changesFor Bids es) (changesFor Asks es) bids asks (sound-changes Bids es a) (sound-changes Asks es a) b s
+      map-shown depth (changesFor false Bids es) (changesFor false Asks es) bids asks (sound-changes false Bids es a) (sound-changes false Asks es a) b s
       ∙ ap₂ (λ (x y : List (Entry SingleOrder)). afterUpdate plain depth x y (map shown bids) (map shown asks)) (changes-shown Bids es a) (changes-shown Asks es a)
 
   sound-adds : (xs : List Order) → All Sound xs → All (OfEntry Sound) (map adds xs)

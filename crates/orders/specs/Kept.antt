@@ -95,9 +95,9 @@ pub record Given (side : Side) (words : List ℕ) (n : ℕ) (other : List ℕ) (
   pub sound : All EntrySound (take count (entriesIn buffer))
 
 -- A side with a message's entries applied, uncut. The words are working words: after a clash nothing is said of the orders in them.
-pub record AfterEntries (side : Side) (other : List Order) (es : List OrderEntry) (words : List ℕ) (n : ℕ) (after : List ℕ) (applied : Applied) : Type 0 where
+pub record AfterEntries (listed : Bool) (side : Side) (other : List Order) (es : List OrderEntry) (words : List ℕ) (n : ℕ) (after : List ℕ) (applied : Applied) : Type 0 where
   pub room : length after ≡ length words
-  pub outcome : outcome after applied ≡ applyAll coded side other (changesFor side es) (held words n)
+  pub outcome : outcome after applied ≡ applyAll coded side other (changesFor listed side es) (held words n)
   pub good : Good side after (countOf applied)
 
 -- The cut: how many orders are left, best first.
@@ -132,10 +132,6 @@ pub record Sent (buffer : List ℕ) (count : ℕ) : Type 0 where
   pub sound : All EntrySound (take count (entriesIn buffer))
   pub bids : length (forSide entrySide Bids (take count (entriesIn buffer))) ≤ maxOrders
   pub asks : length (forSide entrySide Asks (take count (entriesIn buffer))) ≤ maxOrders
-
--- A snapshot's entries: each adds an order.
-abbrev pub IsAdded : OrderEntry → Type 0
-IsAdded e = e .event ≡ Add
 
 -- The answer: how many orders are left on each side, if they fit (refusal 12).
 unfoldable pub answer : Sides Order → Updated

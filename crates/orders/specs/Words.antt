@@ -1,6 +1,7 @@
 -- The words that orders are kept in: six an order. Assumes nothing: these are definitions.
 use Prim.Native.Nat.{ℕ, _*_}
 use mathlib.Core.Path.{_≡_}
+use mathlib.Core.Bool.{Bool, true, false}
 use mathlib.Core.List.{List, map}
 use lib.ListN.{take, drop}
 use Rattle.decimal.specs.Decimal.{Number}
@@ -14,7 +15,7 @@ use Rattle.checksum.specs.Carried.{levelFor}
 use Rattle.order_edit.specs.Ids.{idBytes, idWords, Packed}
 use Rattle.order_edit.specs.Buffer.{OrderEntry, entrySide, threeWords, bySixes}
 use Rattle.orders.specs.declared.Order.{Order}
-use Rattle.orders.specs.Orders.{SingleOrder, View, Entry, entryOf}
+use Rattle.orders.specs.Orders.{SingleOrder, View, Entry, adds, entryOf}
 
 -- ---- an order of the code
 
@@ -83,12 +84,14 @@ pub record EntrySound (e : OrderEntry) : Type 0 where
 unfoldable pub orderFor : OrderEntry → Order
 orderFor e = record { level = levelOfOrder (e .price) (e .size); id = e .id }
 
-unfoldable pub changeOf : OrderEntry → Entry Order
-changeOf e = entryOf (e .event) (orderFor e)
+-- What it does: in a snapshot, whose orders are listed, `event` is passed over.
+unfoldable pub changeOf : Bool → OrderEntry → Entry Order
+changeOf true e = adds (orderFor e)
+changeOf false e = entryOf (e .event) (orderFor e)
 
 -- What the entries of a message do to one side: those for it, in their order.
-unfoldable pub changesFor : Side → List OrderEntry → List (Entry Order)
-changesFor side es = map changeOf (forSide entrySide side es)
+unfoldable pub changesFor : Bool → Side → List OrderEntry → List (Entry Order)
+changesFor listed side es = map (changeOf listed) (forSide entrySide side es)
 
 -- The orders that they name.
 unfoldable pub ordersFor : Side → List OrderEntry → List Order

@@ -27,8 +27,9 @@ use order_edit::entry_in;
 use settings::SumText;
 
 // The first `kept` orders of the words after those of the first `entries` entries of a buffer that are for their side, beside the first
-// `others` orders of the other side.
+// `others` orders of the other side. Where the orders are `listed`, as in a snapshot, each is added, whatever its event.
 pub(crate) fn apply(
+    listed: bool,
     words: &mut [u64],
     kept: usize,
     side: Side,
@@ -39,7 +40,7 @@ pub(crate) fn apply(
     table: &[u32],
 ) -> Applied
     requires { ⌜ Good side (now words) kept × Given side (now words) kept (now other) others (now buffer) entries × ShiftTable (now table) ⌝ }
-    ensures { λ r. ⌜ AfterEntries side (held (now (other .entry)) others) (take entries (entriesIn (now (buffer .entry)))) (now (words .entry)) kept (now (words .exit)) r ⌝ }
+    ensures { λ r. ⌜ AfterEntries listed side (held (now (other .entry)) others) (take entries (entriesIn (now (buffer .entry)))) (now (words .entry)) kept (now (words .exit)) r ⌝ }
 {
     let mut count = kept;
     let mut k = 0;
@@ -48,7 +49,7 @@ pub(crate) fn apply(
         k += 1;
         let own = entry.side;
         if is_same(own, side) {
-            let applied = enter(words, count, side, other, others, entry, table);
+            let applied = enter(listed, words, count, side, other, others, entry, table);
             match applied {
                 Applied::Taken(now) => {
                     count = now;
@@ -64,6 +65,7 @@ pub(crate) fn apply(
 
 // One entry.
 fn enter(
+    listed: bool,
     words: &mut [u64],
     count: usize,
     side: Side,
@@ -73,8 +75,11 @@ fn enter(
     table: &[u32],
 ) -> Applied
     requires { ⌜ Good side (now words) count × (6 * (count + 1) ≤ length (now words)) × (6 * others ≤ length (now other)) × EntrySound (orderEntry entry) × ShiftTable (now table) ⌝ }
-    ensures { λ r. ⌜ AfterOne (clashes coded (held (now (other .entry)) others) (changeOf (orderEntry entry)) (held (now (words .entry)) count)) (apply coded side (changeOf (orderEntry entry)) (held (now (words .entry)) count)) (now (words .entry)) count (now (words .exit)) r ⌝ }
+    ensures { λ r. ⌜ AfterOne (clashes coded (held (now (other .entry)) others) (changeOf listed (orderEntry entry)) (held (now (words .entry)) count)) (apply coded side (changeOf listed (orderEntry entry)) (held (now (words .entry)) count)) (now (words .entry)) count (now (words .exit)) r ⌝ }
 {
+    if listed {
+        return add(words, count, side, other, others, entry, table);
+    }
     let event = entry.event;
     match event {
         Event::Add => add(words, count, side, other, others, entry, table),

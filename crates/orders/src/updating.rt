@@ -1,13 +1,13 @@
 // A message's entries on both sides: bids before asks, in words of their own, so that a refused message changes nothing.
 ghost use mathlib.Core.Path.{_≡_};
+ghost use mathlib.Core.Bool.{true, false};
 ghost use lib.ListN.{length, take};
 ghost use Rattle.crc32.specs.Table.{ShiftTable};
 ghost use Rattle.edit.specs.declared.Side.the-variants.{Bids, Asks};
-ghost use Rattle.level.specs.Ranked.{All};
 ghost use Rattle.order_edit.specs.Buffer.{entriesIn};
 ghost use Rattle.orders.specs.Orders.{both, cutBoth, afterUpdate, afterSnapshot};
 ghost use Rattle.orders.specs.Words.{coded, held, changesFor, ordersFor};
-ghost use Rattle.orders.specs.Kept.{maxWords, Good, Kept, Sent, IsAdded, AfterMessage};
+ghost use Rattle.orders.specs.Kept.{maxWords, Good, Kept, Sent, AfterMessage};
 use crate::Applied;
 use crate::MAX_ORDERS;
 use crate::MAX_WORDS;
@@ -31,13 +31,49 @@ pub fn update(
     table: &[u32],
 ) -> Updated
     requires { ⌜ Kept Bids (now bids) b × Kept Asks (now asks) a × Sent (now buffer) entries × ShiftTable (now table) ⌝ }
-    ensures { λ r. ⌜ AfterMessage (afterUpdate coded depth (changesFor Bids (take entries (entriesIn (now (buffer .entry))))) (changesFor Asks (take entries (entriesIn (now (buffer .entry))))) (held (now (bids .entry)) b) (held (now (asks .entry)) a)) (now (bids .entry)) (now (asks .entry)) (now (bids .exit)) (now (asks .exit)) r ⌝ }
+    ensures { λ r. ⌜ AfterMessage (afterUpdate coded depth (changesFor false Bids (take entries (entriesIn (now (buffer .entry))))) (changesFor false Asks (take entries (entriesIn (now (buffer .entry))))) (held (now (bids .entry)) b) (held (now (asks .entry)) a)) (now (bids .entry)) (now (asks .entry)) (now (bids .exit)) (now (asks .exit)) r ⌝ }
+{
+    work(false, bids, b, asks, a, depth, buffer, entries, table)
+}
+
+// A snapshot: the orders of the first `entries` entries of the buffer replace both sides, whatever their events. An id that stands twice, on either side, is
+// a clash.
+pub fn snapshot(
+    bids: &mut [u64; MAX_WORDS],
+    asks: &mut [u64; MAX_WORDS],
+    depth: usize,
+    buffer: &[u64; BUFFER_WORDS],
+    entries: usize,
+    table: &[u32],
+) -> Updated
+    requires { ⌜ (length (now bids) ≡ maxWords) × (length (now asks) ≡ maxWords) × Sent (now buffer) entries × ShiftTable (now table) ⌝ }
+    ensures { λ r. ⌜ AfterMessage (afterSnapshot coded depth (ordersFor Bids (take entries (entriesIn (now (buffer .entry))))) (ordersFor Asks (take entries (entriesIn (now (buffer .entry)))))) (now (bids .entry)) (now (asks .entry)) (now (bids .exit)) (now (asks .exit)) r ⌝ }
+{
+    work(true, bids, 0, asks, 0, depth, buffer, entries, table)
+}
+
+// A message's entries on both sides. The sides are the first `b` orders of the bids and the first `a` of the asks; its entries are the first
+// `entries` of the buffer. Where the orders are `listed`, each is added, whatever its event.
+fn work(
+    listed: bool,
+    bids: &mut [u64; MAX_WORDS],
+    b: usize,
+    asks: &mut [u64; MAX_WORDS],
+    a: usize,
+    depth: usize,
+    buffer: &[u64; BUFFER_WORDS],
+    entries: usize,
+    table: &[u32],
+) -> Updated
+    requires { ⌜ Kept Bids (now bids) b × Kept Asks (now asks) a × Sent (now buffer) entries × ShiftTable (now table) ⌝ }
+    ensures { λ r. ⌜ AfterMessage (afterUpdate coded depth (changesFor listed Bids (take entries (entriesIn (now (buffer .entry))))) (changesFor listed Asks (take entries (entriesIn (now (buffer .entry))))) (held (now (bids .entry)) b) (held (now (asks .entry)) a)) (now (bids .entry)) (now (asks .entry)) (now (bids .exit)) (now (asks .exit)) r ⌝ }
 {
     let mut working = [0; MAX_WORKING];
     copy(bids, &mut working, b);
     let mut others = [0; MAX_WORKING];
     copy(asks, &mut others, a);
     let first = apply(
+        listed,
         &mut working,
         b,
         Side::Bids,
@@ -51,6 +87,7 @@ pub fn update(
         return Updated::Clashed;
     };
     let second = apply(
+        listed,
         &mut others,
         a,
         Side::Asks,
@@ -89,19 +126,4 @@ fn keep(
         }
     }
     Updated::TooMany
-}
-
-// A snapshot: the orders that the first `entries` entries of the buffer add replace both sides. An id that stands twice, on either side, is a clash.
-pub fn snapshot(
-    bids: &mut [u64; MAX_WORDS],
-    asks: &mut [u64; MAX_WORDS],
-    depth: usize,
-    buffer: &[u64; BUFFER_WORDS],
-    entries: usize,
-    table: &[u32],
-) -> Updated
-    requires { ⌜ (length (now bids) ≡ maxWords) × (length (now asks) ≡ maxWords) × Sent (now buffer) entries × All IsAdded (take entries (entriesIn (now buffer))) × ShiftTable (now table) ⌝ }
-    ensures { λ r. ⌜ AfterMessage (afterSnapshot coded depth (ordersFor Bids (take entries (entriesIn (now (buffer .entry))))) (ordersFor Asks (take entries (entriesIn (now (buffer .entry)))))) (now (bids .entry)) (now (asks .entry)) (now (bids .exit)) (now (asks .exit)) r ⌝ }
-{
-    update(bids, 0, asks, 0, depth, buffer, entries, table)
 }

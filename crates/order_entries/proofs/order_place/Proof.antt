@@ -12,14 +12,15 @@ use Rattle.json_tokens.specs.Ends.{endOf}
 use Rattle.json_tokens.proofs.Laws.{in-byte}
 use Rattle.json.specs.Json.{Pair, wrong, member, value}
 use Rattle.json.proofs.Fold.{Left, Stands, pairAt, no-name, no-colon, no-value, member-places, member-stands, fold-wrong, fold-further, fold-on, fold-last, fold-broken}
-use Rattle.order_entries.specs.declared.OrderMembers.{OrderMembers}
-use Rattle.order_entries.specs.Collected.{orderPlaceOf, orderPlaceAt, noMembers, moreMembers, Placed}
-use Rattle.order_entries.proofs.Walking.{orderLoop, place-none, place-empty, place-start, placed-more}
+use Rattle.order_entries.specs.declared.OrderPlace.{OrderPlace}
+use Rattle.order_entries.specs.Collected.{orderPlaceOf, orderPlaceAt, noMembers, moreMembers, Inside, Found}
+use Rattle.order_entries.proofs.Placing.{none-laid}
+use Rattle.order_entries.proofs.Walking.{orderLoop, place-none, place-empty, place-start, none-inside, inside-more}
 use Rattle.order_entries.proofs.order_place.Statement.{statement}
 use Rattle.order_entries.proofs.order_place.Tie as tie
 
 abbrev Inv-loop : tie.InvT-loop
-Inv-loop s at depth none i₀ met₀ i met = Left (orderLoop s at (depth - 1)) met i (orderPlaceAt depth s at) × Placed s (met .id)
+Inv-loop s at depth none i₀ met₀ i met = Left (orderLoop s at (depth - 1)) met i (orderPlaceAt depth s at) × Inside s met
 
 abbrev μ-loop : tie.MeasureT-loop
 μ-loop s at depth none i₀ met₀ i met = length s - i
@@ -55,10 +56,16 @@ module _ (c : tie.After-value-end2 Inv-loop μ-loop) where
   stands : (c .value-end2 .result ≡ 0 → ⊥) → Stands (member (value (inner at) (text at)) (text at)) (text at) (at .loop .i) here (c .value-end2 .result)
   stands = member-stands (inner at) (text at) (at .loop .i) (c .before .before .before .before .string-end .result) (c .before .before .before .before .string-end .ensures) (c .before .before .before .if3 .left) (c .before .before .colon-end .result) (c .before .before .colon-end .ensures) (c .before .if4 .left) (c .value-end2 .result) (c .value-end2 .ensures)
 
-  placed : (c .value-end2 .result ≡ 0 → ⊥) → Placed (text at) (moreMembers (text at) (at .loop .met) here .id)
+  placed : (c .value-end2 .result ≡ 0 → ⊥) → Inside (text at) (moreMembers (text at) (at .loop .met) here)
   placed n =
       let m = member-places (inner at) (text at) (at .loop .i) (c .before .before .before .before .string-end .result) (c .before .before .before .before .string-end .ensures) (c .before .before .before .if3 .left) (c .before .before .colon-end .result) (c .before .before .colon-end .ensures) (c .before .if4 .left) (c .value-end2 .result) (c .value-end2 .ensures) n in
-      placed-more (text at) (at .loop .met) here (at .loop .inv .1) (omega arith) (m .3)
+      inside-more (text at) (at .loop .met) here (at .loop .inv .1) (omega arith) (m .3)
+
+-- no order: it has no texts
+module _ (a : At) where
+  missing : (n : ℕ) (r : OrderPlace) → r ≡ orderPlaceOf n refused → orderPlaceOf n refused ≡ orderPlaceAt (start a .args .depth) (text a) (start a .args .at)
+      → Found (text a) (orderPlaceAt (start a .args .depth) (text a) (start a .args .at)) r
+  missing n r e told = record { is = e ∙ told; laid = none-laid (text a) n r e }
 
 returns : tie.Need-returns Inv-loop μ-loop
 returns c =
@@ -67,8 +74,10 @@ returns c =
     let s = now (a .s) in
     let e = deeper (a .depth) (b .pre) in
     let other : (byteAt s (a .at) ≡ 123 → ⊥) = λ h. c .before .before .if1 .taken (c .before .before .before .byte-at .ensures ∙ h) in
-    c .no-order .ensures
-    ∙ subst (λ (d : ℕ). orderPlaceOf (c .before .value-end .result) refused ≡ orderPlaceAt d s (a .at)) e (place-none s (a .at) (a .depth - 1) other (c .before .value-end .ensures ∙ ap (λ (d : ℕ). endOf (value d s (a .at))) (sym e)))
+    record {
+      is = c .no-order .ensures ∙ subst (λ (d : ℕ). orderPlaceOf (c .before .value-end .result) refused ≡ orderPlaceAt d s (a .at)) e (place-none s (a .at) (a .depth - 1) other (c .before .value-end .ensures ∙ ap (λ (d : ℕ). endOf (value d s (a .at))) (sym e)));
+      laid = none-laid s _ (c .no-order .result) (c .no-order .ensures);
+    }
 
 add-object-close-end : tie.Need-add-object-close-end Inv-loop μ-loop
 add-object-close-end c =
@@ -84,8 +93,10 @@ returns-2 c =
     let s = now (a .s) in
     let o = sym (c .before .before .before .before .byte-at .ensures) ∙ c .before .before .before .if1 .left in
     let close = c .before .before .object-close-end in
-    c .no-order2 .ensures
-    ∙ subst (λ (d : ℕ). orderPlaceOf (close .result) refused ≡ orderPlaceAt d s (a .at)) (deeper (a .depth) (b .pre)) (place-empty s (a .at) (a .depth - 1) o (close .result) (close .ensures) (c .before .if2 .taken))
+    record {
+      is = c .no-order2 .ensures ∙ subst (λ (d : ℕ). orderPlaceOf (close .result) refused ≡ orderPlaceAt d s (a .at)) (deeper (a .depth) (b .pre)) (place-empty s (a .at) (a .depth - 1) o (close .result) (close .ensures) (c .before .if2 .taken));
+      laid = none-laid s _ (c .no-order2 .result) (c .no-order2 .ensures);
+    }
 
 add-skip-blanks : tie.Need-add-skip-blanks Inv-loop μ-loop
 add-skip-blanks c =
@@ -103,44 +114,46 @@ loop-holds c =
     let close = c .before .before .before .object-close-end in
     let skip = c .before .skip-blanks in
     rw (c .no-members .ensures)
-    (subst (λ (d : ℕ). Left (orderLoop s (a .at) (a .depth - 1)) noMembers (skip .result) (orderPlaceAt d s (a .at))) (deeper (a .depth) (b .pre)) (place-start s (a .at) (a .depth - 1) o (close .result) (close .ensures) (omega arith) (skip .result) (skip .ensures)), (omega arith, omega arith))
+    (subst (λ (d : ℕ). Left (orderLoop s (a .at) (a .depth - 1)) noMembers (skip .result) (orderPlaceAt d s (a .at))) (deeper (a .depth) (b .pre)) (place-start s (a .at) (a .depth - 1) o (close .result) (close .ensures) (omega arith) (skip .result) (skip .ensures)), none-inside s)
 
 returns-3 : tie.Need-returns-3 Inv-loop μ-loop
 returns-3 c =
     let a = c .before .before .before in
-    c .no-order3 .ensures
-    ∙ fold-wrong (orderLoop (text a) (start a .args .at) (inner a)) (a .loop .met) (a .loop .inv .0) (no-name (inner a) (text a) (a .loop .i) (c .before .before .string-end .result) (c .before .before .string-end .ensures) (c .before .if3 .taken))
+    missing a 0 (c .no-order3 .result) (c .no-order3 .ensures)
+    (fold-wrong (orderLoop (text a) (start a .args .at) (inner a)) (a .loop .met) (a .loop .inv .0) (no-name (inner a) (text a) (a .loop .i) (c .before .before .string-end .result) (c .before .before .string-end .ensures) (c .before .if3 .taken)))
 
 returns-4 : tie.Need-returns-4 Inv-loop μ-loop
 returns-4 c =
     let a = c .before .before .before .before .before in
-    c .no-order4 .ensures
-    ∙ fold-wrong (orderLoop (text a) (start a .args .at) (inner a)) (a .loop .met) (a .loop .inv .0) (no-colon (inner a) (text a) (a .loop .i) (c .before .before .before .before .string-end .result) (c .before .before .before .before .string-end .ensures) (c .before .before .before .if3 .left) (c .before .before .colon-end .result) (c .before .before .colon-end .ensures) (c .before .if4 .taken))
+    missing a 0 (c .no-order4 .result) (c .no-order4 .ensures)
+    (fold-wrong (orderLoop (text a) (start a .args .at) (inner a)) (a .loop .met) (a .loop .inv .0) (no-colon (inner a) (text a) (a .loop .i) (c .before .before .before .before .string-end .result) (c .before .before .before .before .string-end .ensures) (c .before .before .before .if3 .left) (c .before .before .colon-end .result) (c .before .before .colon-end .ensures) (c .before .if4 .taken)))
 
 returns-5 : tie.Need-returns-5 Inv-loop μ-loop
 returns-5 c =
     let m = c .before .before in
     let a = at m in
-    c .no-order5 .ensures ∙ fold-wrong (orderLoop (text a) (start a .args .at) (inner a)) (a .loop .met) (a .loop .inv .0) (none m (c .before .if5 .taken))
+    missing a 0 (c .no-order5 .result) (c .no-order5 .ensures) (fold-wrong (orderLoop (text a) (start a .args .at) (inner a)) (a .loop .met) (a .loop .inv .0) (none m (c .before .if5 .taken)))
 
 returns-6 : tie.Need-returns-6 Inv-loop μ-loop
 returns-6 c =
     let m = c .before .before .before .before .before .before .before in
     let a = at m in
-    c .no-order6 .ensures
-    ∙ fold-broken (orderLoop (text a) (start a .args .at) (inner a)) (a .loop .met) (a .loop .inv .0) (stands m (c .before .before .before .before .before .before .if5 .left)) (c .before .before .before .before .comma-end .result) (c .before .before .before .before .comma-end .ensures) (c .before .before .before .if6 .taken) (c .before .before .object-close-end2 .result) (c .before .before .object-close-end2 .ensures) (c .before .if7 .taken)
+    missing a 0 (c .no-order6 .result) (c .no-order6 .ensures)
+    (fold-broken (orderLoop (text a) (start a .args .at) (inner a)) (a .loop .met) (a .loop .inv .0) (stands m (c .before .before .before .before .before .before .if5 .left)) (c .before .before .before .before .comma-end .result) (c .before .before .before .before .comma-end .ensures) (c .before .before .before .if6 .taken) (c .before .before .object-close-end2 .result) (c .before .before .object-close-end2 .ensures) (c .before .if7 .taken))
 
 place-in-requires : tie.Need-place-in-requires Inv-loop μ-loop
 place-in-requires c κs =
     let m = c .before .before .before .before .before .before in
-    subst (λ (x : OrderMembers). Placed (text (at m)) (x .id)) (sym (c .before .before .before .before .more-members .ensures)) (placed m (c .before .before .before .before .before .if5 .left))
+    subst (Inside (text (at m))) (sym (c .before .before .before .before .more-members .ensures)) (placed m (c .before .before .before .before .before .if5 .left))
 
 returns-7 : tie.Need-returns-7 Inv-loop μ-loop
 returns-7 c =
     let m = c .before .before .before .before .before .before .before in
     let a = at m in
-    c .place-in .ensures
-    ∙ fold-last (orderLoop (text a) (start a .args .at) (inner a)) (a .loop .met) (a .loop .inv .0) (stands m (c .before .before .before .before .before .before .if5 .left)) (c .before .before .before .before .comma-end .result) (c .before .before .before .before .comma-end .ensures) (c .before .before .before .if6 .taken) (c .before .before .object-close-end2 .result) (c .before .before .object-close-end2 .ensures) (c .before .if7 .left) (c .before .before .before .before .before .more-members .ensures)
+    record {
+      is = c .place-in .ensures .is ∙ fold-last (orderLoop (text a) (start a .args .at) (inner a)) (a .loop .met) (a .loop .inv .0) (stands m (c .before .before .before .before .before .before .if5 .left)) (c .before .before .before .before .comma-end .result) (c .before .before .before .before .comma-end .ensures) (c .before .before .before .if6 .taken) (c .before .before .object-close-end2 .result) (c .before .before .object-close-end2 .ensures) (c .before .if7 .left) (c .before .before .before .before .before .more-members .ensures);
+      laid = c .place-in .ensures .laid;
+    }
 
 loop-less : tie.Need-loop-less Inv-loop μ-loop
 loop-less c =
@@ -154,7 +167,7 @@ loop-again c =
     let m = c .before .before .before .before in
     let a = at m in (
       fold-on (orderLoop (text a) (start a .args .at) (inner a)) (a .loop .met) (a .loop .inv .0) (stands m (c .before .before .before .if5 .left)) (c .before .comma-end .result) (c .before .comma-end .ensures) (c .if6 .left) (c .before .before .more-members .ensures),
-      subst (λ (x : OrderMembers). Placed (text a) (x .id)) (sym (c .before .before .more-members .ensures)) (placed m (c .before .before .before .if5 .left)),
+      subst (Inside (text a)) (sym (c .before .before .more-members .ensures)) (placed m (c .before .before .before .if5 .left)),
     )
 
 pub order-place-spec : {M : Type 1} → statement M

@@ -13,11 +13,11 @@ use Rattle.orders.proofs.applying.apply.Statement.{statement}
 use Rattle.orders.proofs.applying.apply.Tie as tie
 
 abbrev Inv-entry : tie.InvT-entry
-Inv-entry words₀ kept side other others buffer entries table count₀ k₀ words count k =
-    Turn side (held other others) (take entries (entriesIn buffer)) (held words₀ kept) kept (length words₀) words count k
+Inv-entry listed words₀ kept side other others buffer entries table count₀ k₀ words count k =
+    Turn listed side (held other others) (take entries (entriesIn buffer)) (held words₀ kept) kept (length words₀) words count k
 
 abbrev μ-entry : tie.MeasureT-entry
-μ-entry words₀ kept side other others buffer entries table count₀ k₀ words count k = entries - k
+μ-entry listed words₀ kept side other others buffer entries table count₀ k₀ words count k = entries - k
 
 entry-holds : tie.Need-entry-holds Inv-entry μ-entry
 entry-holds c =
@@ -37,7 +37,7 @@ enter-requires c κs =
     let h : p .k < length es = omega (arith, l, t) in
     let this = entry-at (s .args .buffer .now) (s .args .entries) (s .pre .1 .wide) (s .pre .1 .few) (p .k) t ∙ sym (c .before .before .before .entry-in .ensures) in
     let d = ap (λ (e : OrderEntry). isSame (entrySide e) (s .args .side)) this ∙ sym (c .before .before .is-same .ensures) ∙ c .before .if1 .taken in
-    (p .inv .good, turn-room (s .args .side) (held (s .args .other .now) (s .args .others)) es (held (s .args .words .now) (s .args .kept)) (s .args .kept) (length (s .args .words .now)) (s .pre .1 .room) (p .words) (p .count) (p .k) (p .inv) h d, s .pre .1 .other-room, subst EntrySound this (sound-next (s .args .side) (held (s .args .other .now) (s .args .others)) es (held (s .args .words .now) (s .args .kept)) (s .args .kept) (length (s .args .words .now)) (s .pre .1 .room) (p .words) (p .count) (p .k) (p .inv) h), s .pre .2)
+    (p .inv .good, turn-room (s .args .listed) (s .args .side) (held (s .args .other .now) (s .args .others)) es (held (s .args .words .now) (s .args .kept)) (s .args .kept) (length (s .args .words .now)) (s .pre .1 .room) (p .words) (p .count) (p .k) (p .inv) h d, s .pre .1 .other-room, subst EntrySound this (sound-next (s .args .listed) (s .args .side) (held (s .args .other .now) (s .args .others)) es (held (s .args .words .now) (s .args .kept)) (s .args .kept) (length (s .args .words .now)) (s .pre .1 .room) (p .words) (p .count) (p .k) (p .inv) h), s .pre .2)
 
 entry-less : tie.Need-entry-less Inv-entry μ-entry
 entry-less c = omega arith
@@ -52,7 +52,7 @@ entry-again c =
     let h : p .k < length es = omega (arith, l, t) in
     let this = entry-at (s .args .buffer .now) (s .args .entries) (s .pre .1 .wide) (s .pre .1 .few) (p .k) t ∙ sym (c .before .before .before .before .before .before .before .before .before .entry-in .ensures) in
     let d = ap (λ (e : OrderEntry). isSame (entrySide e) (s .args .side)) this ∙ sym (c .before .before .before .before .before .before .before .before .is-same .ensures) ∙ c .before .before .before .before .before .before .before .if1 .taken in
-    turn-step (s .args .side) (held (s .args .other .now) (s .args .others)) es (held (s .args .words .now) (s .args .kept)) (s .args .kept) (length (s .args .words .now)) (s .pre .1 .room) (p .words) (p .count) (p .k) (p .inv) h d _ _ (rw (c .before .applied .given .1, sym this) at (c .before .before .before .before .before .enter .ensures))
+    turn-step (s .args .listed) (s .args .side) (held (s .args .other .now) (s .args .others)) es (held (s .args .words .now) (s .args .kept)) (s .args .kept) (length (s .args .words .now)) (s .pre .1 .room) (p .words) (p .count) (p .k) (p .inv) h d _ _ (rw (c .before .applied .given .1, sym this) at (c .before .before .before .before .before .enter .ensures))
 
 same-length : tie.Need-same-length Inv-entry μ-entry
 same-length c = c .before .before .before .before .enter .ensures .room ∙ c .before .before .before .before .before .before .before .before .before .before .entry .inv .room
@@ -70,7 +70,7 @@ returns c =
     let d = ap (λ (e : OrderEntry). isSame (entrySide e) (s .args .side)) this ∙ sym (c .before .before .before .before .before .before .before .is-same .ensures) ∙ c .before .before .before .before .before .before .if1 .taken in
     record {
       room = c .before .before .before .before .enter .ensures .room ∙ p .inv .room;
-      outcome = turn-clash (s .args .side) (held (s .args .other .now) (s .args .others)) es (held (s .args .words .now) (s .args .kept)) (s .args .kept) (length (s .args .words .now)) (s .pre .1 .room) (p .words) (p .count) (p .k) (p .inv) h d _ (rw (c .enum-told .given .1, sym this) at (c .before .before .before .before .enter .ensures));
+      outcome = turn-clash (s .args .listed) (s .args .side) (held (s .args .other .now) (s .args .others)) es (held (s .args .words .now) (s .args .kept)) (s .args .kept) (length (s .args .words .now)) (s .pre .1 .room) (p .words) (p .count) (p .k) (p .inv) h d _ (rw (c .enum-told .given .1, sym this) at (c .before .before .before .before .enter .ensures));
       good = none-good (s .args .side) _;
     }
 
@@ -87,7 +87,7 @@ entry-again-2 c =
     let h : p .k < length es = omega (arith, l, t) in
     let this = entry-at (s .args .buffer .now) (s .args .entries) (s .pre .1 .wide) (s .pre .1 .few) (p .k) t ∙ sym (c .before .before .entry-in .ensures) in
     let d = ap (λ (e : OrderEntry). isSame (entrySide e) (s .args .side)) this ∙ sym (c .before .is-same .ensures) ∙ c .if1 .left in
-    turn-skip (s .args .side) (held (s .args .other .now) (s .args .others)) es (held (s .args .words .now) (s .args .kept)) (s .args .kept) (length (s .args .words .now)) (s .pre .1 .room) (p .words) (p .count) (p .k) (p .inv) h d
+    turn-skip (s .args .listed) (s .args .side) (held (s .args .other .now) (s .args .others)) es (held (s .args .words .now) (s .args .kept)) (s .args .kept) (length (s .args .words .now)) (s .pre .1 .room) (p .words) (p .count) (p .k) (p .inv) h d
 
 same-length-2 : tie.Need-same-length-2 Inv-entry μ-entry
 same-length-2 c = c .before .entry .inv .room
@@ -101,7 +101,7 @@ returns-2 c =
     let l = entries-length (s .args .buffer .now) (s .args .entries) (s .pre .1 .wide) (s .pre .1 .few) in
     record {
       room = p .inv .room;
-      outcome = turn-end (s .args .side) (held (s .args .other .now) (s .args .others)) es (held (s .args .words .now) (s .args .kept)) (s .args .kept) (length (s .args .words .now)) (s .pre .1 .room) (p .words) (p .count) (p .k) (p .inv) (omega (arith, l, c .entry-test .left));
+      outcome = turn-end (s .args .listed) (s .args .side) (held (s .args .other .now) (s .args .others)) es (held (s .args .words .now) (s .args .kept)) (s .args .kept) (length (s .args .words .now)) (s .pre .1 .room) (p .words) (p .count) (p .k) (p .inv) (omega (arith, l, c .entry-test .left));
       good = p .inv .good;
     }
 

@@ -1,12 +1,11 @@
 -- Laws of the entries of a side: the texts that they are laid from. Assumes nothing.
-use mathlib.Core.Path.{_≡_, refl, sym, ap, ap₂, _∙_, subst}
+use mathlib.Core.Path.{_≡_, subst}
 use mathlib.Core.Bool.{Bool, true, false, cond}
-use mathlib.Core.List.{List, [], _∷_, _++_, map, append-assoc, append-nil}
+use mathlib.Core.List.{List, [], _++_, append-assoc}
 use Prim.Native.Nat.{ℕ, _+_, _-_, _≤_, _<_}
-use native.Mathlib.Numerals.{add-one}
 use native.Mathlib.Omega.{arith}
-use lib.ListN.{length, getD, drop, length-append, drop-of-length-le}
-use lib.Seq.{drop-cons, getD-take, length-take-le}
+use lib.ListN.{length, getD, drop, length-append}
+use lib.Seq.{getD-take, length-take-le}
 use Rattle.text.specs.Text.{ascii}
 use Rattle.decimal.specs.Decimal.{text}
 use Rattle.decimal.proofs.Text.{length-text}
@@ -19,6 +18,8 @@ use Rattle.level.proofs.All.{all-at}
 use Rattle.level.proofs.Stored.{length-levels}
 use Rattle.writer.specs.Snapshot.{quoted, commaJoined, array, kEntry, mEntry}
 use Rattle.writer.specs.Parts.{entry, nextEntry, entries, Writable, WritableSide, maxEntry}
+use Rattle.writer.proofs.Joined.{Listed, listed}
+use Rattle.writer.proofs.Joined as Joined
 
 -- What follows the size.
 unfoldable pub closing : Bool → List ℕ
@@ -61,20 +62,8 @@ entry-short stamped level w =
 
 -- ---- entries, each after a comma
 
-unfoldable pub led : Bool → List Level → List ℕ
-led stamped [] = []
-led stamped (level ∷ levels) = nextEntry stamped level ++ led stamped levels
-
-pub joined : (stamped : Bool) (level : Level) (levels : List Level) → commaJoined (map (entry stamped) (level ∷ levels)) ≡ entry stamped level ++ led stamped levels
-unfolding commaJoined led nextEntry
-joined stamped level [] = sym (append-nil (entry stamped level))
-joined stamped level (next ∷ levels) = ap (λ (l : List ℕ). entry stamped level ++ (ascii "," ++ l)) (joined stamped next levels)
-
--- a comma fewer than entries
-length-joined : (stamped : Bool) (levels : List Level) → length (commaJoined (map (entry stamped) levels)) ≡ length (led stamped levels) - 1
-unfolding commaJoined led nextEntry
-length-joined stamped [] = refl
-length-joined stamped (level ∷ levels) = let e = ap length (joined stamped level levels) in omega arith
+abbrev pub led : Bool → List Level → List ℕ
+led stamped = Joined.led (entry stamped)
 
 -- ---- the entries of a side from a place on
 
@@ -90,40 +79,35 @@ module _ (stamped : Bool) (kept : Levels) (writable : WritableSide kept) where
       let l = length-levels maxLevels (kept .words) (writable .room) in
       length-take-le (kept .count) (levelsIn (kept .words)) (omega arith)
 
+  at-place : (i : ℕ) → i < kept .count → getD (held kept) i noLevel ≡ levelIn kept i
+  unfolding held
+  at-place i inside = getD-take (kept .count) (levelsIn (kept .words)) i noLevel inside
+
+  levels : Listed (held kept) (kept .count) (levelIn kept)
+  levels = listed noLevel count-held at-place
+
   module _ (i : ℕ) (inside : i < kept .count) where
-    at-place : getD (held kept) i noLevel ≡ levelIn kept i
-    unfolding held
-    at-place = getD-take (kept .count) (levelsIn (kept .words)) i noLevel inside
-
-    from-place : drop i (held kept) ≡ levelIn kept i ∷ drop (i + 1) (held kept)
-    from-place =
-        let n = count-held in
-        drop-cons (held kept) i noLevel (omega arith)
-        ∙ ap₂ (λ (x : Level) (k : ℕ). x ∷ drop k (held kept)) at-place (sym (add-one i))
-
     pub writable-at : Writable (levelIn kept i)
-    writable-at = let n = count-held in subst Writable at-place (all-at Writable (held kept) i noLevel (omega arith) (writable .levels))
+    writable-at = let n = count-held in subst Writable (at-place i inside) (all-at Writable (held kept) i noLevel (omega arith) (writable .levels))
 
     pub led-next : led stamped (drop i (held kept)) ≡ nextEntry stamped (levelIn kept i) ++ led stamped (drop (i + 1) (held kept))
-    unfolding led
-    led-next = ap (led stamped) from-place
+    unfolding nextEntry
+    led-next = Joined.led-next (entry stamped) levels i inside
 
     pub length-led : length (led stamped (drop i (held kept))) ≡ 1 + length (entry stamped (levelIn kept i)) + length (led stamped (drop (i + 1) (held kept)))
-    unfolding nextEntry
-    length-led = let e = ap length led-next ∙ length-append (nextEntry stamped (levelIn kept i)) (led stamped (drop (i + 1) (held kept))) in omega arith
+    length-led = Joined.length-led (entry stamped) levels i inside
 
   pub led-end : (i : ℕ) → kept .count ≤ i → led stamped (drop i (held kept)) ≡ []
-  unfolding led
-  led-end i past = let n = count-held in ap (led stamped) (drop-of-length-le (held kept) {i = i} (omega arith))
+  led-end i past = Joined.led-end (entry stamped) levels i past
 
   pub entries-some : 0 < kept .count → entries stamped kept ≡ entry stamped (levelIn kept 0) ++ led stamped (drop 1 (held kept))
   unfolding entries
-  entries-some some = ap (λ (l : List Level). commaJoined (map (entry stamped) l)) (from-place 0 some) ∙ joined stamped (levelIn kept 0) (drop 1 (held kept))
+  entries-some some = Joined.joined-some (entry stamped) levels some
 
   pub entries-none : kept .count ≡ 0 → entries stamped kept ≡ []
-  unfolding entries commaJoined held
-  entries-none zero = rw zero
+  unfolding entries
+  entries-none zero = Joined.joined-none (entry stamped) levels zero
 
   pub length-entries : length (entries stamped kept) ≡ length (led stamped (held kept)) - 1
   unfolding entries
-  length-entries = length-joined stamped (held kept)
+  length-entries = Joined.length-joined (entry stamped) (held kept)

@@ -31,7 +31,7 @@ unfolding entries entry
 m-side kept = ap commaJoined (map-map mEntry shown (held kept))
 
 -- what follows a text goes with what follows that
-moved : {x x' : List ℕ} → x ≡ x' → (c : List ℕ) {r r' : List ℕ} → r ≡ r' → (x ++ c) ++ r ≡ x' ++ (c ++ r')
+pub moved : {x x' : List ℕ} → x ≡ x' → (c : List ℕ) {r r' : List ℕ} → r ≡ r' → (x ++ c) ++ r ≡ x' ++ (c ++ r')
 moved {x} {x'} p c {r} q = append-assoc x c r ∙ ap₂ (λ (y s : List ℕ). y ++ (c ++ s)) p q
 
 -- ---- K

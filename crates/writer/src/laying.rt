@@ -92,7 +92,7 @@ fn lay_entry(stamped: bool, level: Level, buffer: &mut [u8], at: usize) -> usize
 }
 
 // Lays a decimal. There is room, so `Full` is never answered; the same of a whole number.
-fn lay_decimal(a: Decimal, buffer: &mut [u8], at: usize) -> usize
+pub fn lay_decimal(a: Decimal, buffer: &mut [u8], at: usize) -> usize
     requires { ⌜ Within (number a) × Room (now buffer) at (text (number a)) ⌝ }
     ensures { λ r. ⌜ Put (now (buffer .entry)) at (text (number a)) (now (buffer .exit)) r ⌝ }
 {

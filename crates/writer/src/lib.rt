@@ -18,6 +18,7 @@ ghost use Rattle.writer.specs.Snapshot.{kSnapshot, mSnapshot};
 ghost use Rattle.writer.specs.Parts.{kSnapshotText, mSnapshotText, Sized, maxName, WritableSide, Room, Put};
 use decimal::Written;
 pub use laying::lay;
+pub use laying::lay_decimal;
 use laying::lay_listed;
 pub use laying::lay_number;
 pub use laying::lay_whole;

@@ -468,7 +468,7 @@ fn no_entry(end: usize) -> EntryPlace
 // ---- its price and its size
 
 // The decimal that was read, or 0.
-fn number_of(text: Parsed) -> Decimal
+pub fn number_of(text: Parsed) -> Decimal
     ensures { λ r. ⌜ number r ≡ numberIn (parsed text) ⌝ }
 {
     match text {

@@ -4,7 +4,10 @@
 // over a message finds out whether it is JSON and reads it. `depth` is how deep arrays and objects may nest in what is read.
 //
 //     let found = order_entries::order_place(s, at, depth);
-//     found.well_formed          // whether an order stands there, whose id lies from found.id_from to found.id_to
+//     found.well_formed                                           // whether an order stands there
+//     order_entries::read_order(s, Side::Bids, found).entry       // what it says
+mod saying;
+
 ghost use mathlib.Core.Path.{_≡_};
 ghost use Prim.Native.Nat.{_≤_};
 ghost use Rattle.decimal.specs.Digits.{refused};
@@ -24,8 +27,10 @@ use json_tokens::string_end;
 use layout::MemberSpan;
 use layout::no_member_span;
 use layout::with_member_span;
+use order_edit::Buffered;
 use order_edit::Event;
 use order_edit::is_id;
+pub use saying::read_order;
 use text::both;
 use text::byte_at;
 
@@ -49,6 +54,13 @@ pub struct OrderPlace {
     pub event: MaybeEvent,
     // Whether the value is an order. If not, the positions of the texts are 0.
     pub well_formed: bool,
+}
+
+// What an order says, and whether check 8 refuses it: in an update, and in a snapshot.
+pub struct OrderRead {
+    pub entry: Buffered,
+    pub broken: bool,
+    pub strict: bool,
 }
 
 // The members of an order that were met.

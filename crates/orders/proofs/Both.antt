@@ -11,20 +11,18 @@ use lib.Seq.{length-take-le, take-take}
 use Rattle.edit.specs.Edit.{forSide}
 use Rattle.edit.specs.declared.Side.{Side}
 use Rattle.edit.specs.declared.Side.the-variants.{Bids, Asks}
-use Rattle.level.specs.Ranked.{All}
 use Rattle.level.proofs.All.{all-take}
-use Rattle.order_edit.specs.declared.Event.{Event}
 use Rattle.order_edit.specs.Buffer.{OrderEntry, entrySide}
 use Rattle.orders.specs.declared.Order.{Order}
 use Rattle.orders.specs.declared.Applied.{Applied}
 use Rattle.orders.specs.declared.Applied.the-variants.{Taken, Clash}
 use Rattle.orders.specs.declared.Updated.the-variants.{Done, Clashed, TooMany}
-use Rattle.orders.specs.Orders.{Entry, adds, entryOf, Outcome, taken, clash, Sides, both, applyAll, thenAsks, applyBoth, cutBoth, beside, afterUpdate, afterSnapshot, bestPrices}
+use Rattle.orders.specs.Orders.{Entry, adds, Outcome, taken, clash, Sides, both, applyAll, thenAsks, applyBoth, cutBoth, beside, afterUpdate, afterSnapshot, bestPrices}
 use Rattle.orders.specs.Words.{coded, ordersIn, held, Sound, orderFor, changeOf, changesFor, ordersFor}
 use Rattle.orders.specs.Kept.{Good, Copied, outcome, countOf, AfterEntries, CutTo, maxOrders, maxWords, Kept, answer, Left, LeftBy, AfterMessage}
 use Rattle.orders.proofs.Places.{sorted-take}
 use Rattle.orders.proofs.Held.{held-length}
-use Rattle.orders.proofs.Sided.{all-sided, map-same, map-map}
+use Rattle.orders.proofs.Sided.{map-map}
 use Rattle.orders.proofs.Entries.{none-good}
 use Rattle.orders.proofs.Listing.{snapshot-adds}
 

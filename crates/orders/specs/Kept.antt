@@ -10,7 +10,6 @@ use Rattle.edit.specs.declared.Side.{Side}
 use Rattle.edit.specs.declared.Side.the-variants.{Bids, Asks}
 use Rattle.level.specs.Side.{nearer}
 use Rattle.level.specs.Ranked.{All}
-use Rattle.order_edit.specs.declared.Event.the-variants.{Add}
 use Rattle.order_edit.specs.Ids.{sameId}
 use Rattle.order_edit.specs.Buffer.{OrderEntry, entrySide, entriesIn, maxBuffered, bufferWords}
 use Rattle.orders.specs.declared.Order.{Order}

@@ -1,0 +1,22 @@
+-- `id_at` meets its contract: the words of what stands between the quotes.
+use mathlib.Core.Path.{_∙_, sym, ap}
+use denote.Ref.{now}
+use Rattle.entries.proofs.Found.{inner-part}
+use Rattle.order_edit.specs.Ids.{idOf}
+use Rattle.order_entries.proofs.Texts.{short-words}
+use borrow.Author.Needs.{needs}
+use Rattle.order_entries.proofs.saying.id_at.Statement.{statement}
+use Rattle.order_entries.proofs.saying.id_at.Tie as tie
+
+returns : tie.Need-returns
+returns c =
+    let a = c .before .before .before .before .args in
+    c .id-of .ensures ∙ sym (short-words (now (a .s)) (record { from = a .from; to = a .to }) (c .before .before .if1 .taken))
+
+returns-2 : tie.Need-returns-2
+returns-2 c =
+    let a = c .before .before .before .before .args in
+    c .id-of2 .ensures ∙ ap idOf (inner-part (now (a .s)) (a .from) (a .to))
+
+pub id-at-spec : {M : Type 1} → statement M
+id-at-spec = tie.close (tie.spec (λ c. search needs) (λ c. search needs) (λ c κs. search needs) returns (λ c. search needs) (λ c. search needs) (λ c. search needs) (λ c. search needs) (λ c. search needs) (λ c κs. search needs) returns-2)

@@ -41,12 +41,12 @@ use Rattle.entries.proofs.Tallies.{also-reads, all-append, fold-append,
 -- ---- a list of one more, of which no more than n are kept
 
 module _ {A : Type 0} (n : ℕ) (w : List A) (full : length w ≡ n) where
-  kept-first : (k : ℕ) → take k w ≡ take n (take k w ++ [])
+  pub kept-first : (k : ℕ) → take k w ≡ take n (take k w ++ [])
   kept-first k =
       let l = length-take k w in
       sym (ap (take n) (append-nil (take k w)) ∙ take-all n (take k w) (omega arith))
 
-  kept-one : (a : List A) (k : ℕ) (x : A) → (k < n → length a ≡ k) → (n ≤ k → n ≤ length a) → take k w ≡ take n a → take (suc k) (set w k x) ≡ take n (a ++ (x ∷ []))
+  pub kept-one : (a : List A) (k : ℕ) (x : A) → (k < n → length a ≡ k) → (n ≤ k → n ≤ length a) → take k w ≡ take n a → take (suc k) (set w k x) ≡ take n (a ++ (x ∷ []))
   kept-one a k x within past h = go (ltb k n) refl
     where
       go : (b : Bool) → ltb k n ≡ b → take (suc k) (set w k x) ≡ take n (a ++ (x ∷ []))
@@ -66,7 +66,7 @@ module _ {A : Type 0} (n : ℕ) (w : List A) (full : length w ≡ n) where
           ∙ sym (take-append-le n a (x ∷ []) (past p))
 
 -- how long a front and a list are
-front-long : {A : Type 0} (n : ℕ) (w r : List A) (k : ℕ) → length w ≡ n → (k + length r < n → length (take k w ++ r) ≡ k + length r) × (n ≤ k + length r → n ≤ length (take k w ++ r))
+pub front-long : {A : Type 0} (n : ℕ) (w r : List A) (k : ℕ) → length w ≡ n → (k + length r < n → length (take k w ++ r) ≡ k + length r) × (n ≤ k + length r → n ≤ length (take k w ++ r))
 front-long n w r k h =
     let l = length-append (take k w) r in
     let m = length-take k w in
@@ -74,7 +74,7 @@ front-long n w r k h =
 
 -- ---- elements that were passed
 
-abbrev passing : ℕ → List ℕ → Loop Span (List Span) (Items Span)
+abbrev pub passing : ℕ → List ℕ → Loop Span (List Span) (Items Span)
 passing d s = overElements d s (λ l a. l ++ (a ∷ [])) (λ e l. items l e) noItems
 
 passed-on : (st l : List Span) → foldFrom (λ (l : List Span) (a : Span). l ++ (a ∷ [])) st l ≡ st ++ l
@@ -82,7 +82,7 @@ unfolding foldFrom
 passed-on st [] = sym (append-nil st)
 passed-on st (a ∷ l) = passed-on (st ++ (a ∷ [])) l ∙ append-snoc st a l
 
-passed-all : (d : ℕ) (s : List ℕ) (x : Items Span) → made (passing d s) [] x ≡ x
+pub passed-all : (d : ℕ) (s : List ℕ) (x : Items Span) → made (passing d s) [] x ≡ x
 unfolding foldedIn
 passed-all d s (items l e) = ap (λ (k : List Span). items k e) (passed-on [] l)
 passed-all d s noItems = refl
@@ -93,7 +93,7 @@ unfolding entriesIn
 buffer-full buffer h = threes-length buffers.entryOf 200 buffer h
 
 -- one element, which is an entry
-one-row : {A B : Type 0} (f : A → Reading B) (a : A) (l : List B) → all f (a ∷ []) ≡ reads l → (r : B) × (f a ≡ reads r) × (l ≡ r ∷ [])
+pub one-row : {A B : Type 0} (f : A → Reading B) (a : A) (l : List B) → all f (a ∷ []) ≡ reads l → (r : B) × (f a ≡ reads r) × (l ≡ r ∷ [])
 unfolding all andThen
 one-row {A} {B} f a l h = go (f a) refl h
   where

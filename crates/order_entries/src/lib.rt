@@ -144,7 +144,7 @@ fn more_members(
 }
 
 // The members of one name, and one member more.
-fn more_spans(
+pub fn more_spans(
     s: &[u8],
     name: &[u8],
     mark: MemberSpan,

@@ -1,0 +1,4 @@
+-- In reading order: what is told of orders, array by array; one member more; the object in the end.
+pub mod Orders
+pub mod Steps
+pub mod Whole

@@ -51,6 +51,14 @@ module _ (name s : List ℕ) (at : ℕ) where
     unfolding listingAt listingFrom
     listing-start z k b = made-start (listingFrom name s) 13 s at opens (moreListing name s) listingEnd (noListing 0) listing-folds e h z k b
 
+pub listing-end-at : (name s : List ℕ) (at : ℕ) → listingAt name s at .sides .end ≡ endOf (value 14 s at)
+unfolding listingAt listingFrom
+listing-end-at name s at = go (objectAt 14 s (record { from = at; to = endOf (value 14 s at) }))
+  where
+    go : (x : Reading (List Pair)) → listingFrom name s (endOf (value 14 s at)) x .sides .end ≡ endOf (value 14 s at)
+    go (reads ms) = refl
+    go refused = refl
+
 -- ---- what the members hold, one after the other
 
 abbrev pub withOrders : List ℕ → Reading (List SidedOrder) → Pair → Reading (List SidedOrder)
@@ -109,21 +117,13 @@ module _ (name s : List ℕ) (at : ℕ) (after : List ℕ) (r : Listing) (room :
   pub object-other : (byteAt s at ≡ 123 → ⊥) → ObjectRead name s at after r
   object-other o = record { told = told; room = room; holds = λ ms g. no-row (sym (object-no 13 s here o) ∙ g) }
 
-  listing-end-is : listingAt name s at .sides .end ≡ endOf (value 14 s at)
-  unfolding listingAt listingFrom
-  listing-end-is = go (objectAt 14 s here)
-    where
-      go : (x : Reading (List Pair)) → listingFrom name s (endOf (value 14 s at)) x .sides .end ≡ endOf (value 14 s at)
-      go (reads ms) = refl
-      go refused = refl
-
   -- it is not JSON
   pub object-broken : byteAt s at ≡ 123 → r .sides .end ≡ 0 → ObjectRead name s at after r
   unfolding itemsEnd contents endOf
   object-broken o z = record { told = told; room = room; holds = λ ms g. not-json ms g }
     where
       none : endOf (value 14 s at) ≡ 0
-      none = sym (ap (λ (l : Listing). l .sides .end) told ∙ listing-end-is) ∙ z
+      none = sym (ap (λ (l : Listing). l .sides .end) told ∙ listing-end-at name s at) ∙ z
 
       ends : (x : Items Pair) → value 14 s at ≡ itemsEnd x → (ms : List Pair) → contents x ≡ reads ms → {A : Type 0} → A
       ends (items l e) v ms g = let b = bounds e (value-in 14 s at) v in let k : e ≡ 0 = sym (ap endOf v) ∙ none in absurd (omega arith)

@@ -1,17 +1,20 @@
--- What one walk over the object in `data` collects, member by member. Assumes nothing: these are definitions.
+-- What one walk over `data` collects of the one object in it, member by member. Assumes nothing: these are definitions.
 use Prim.Native.Nat.{ℕ, _≤_}
 use mathlib.Core.Path.{_≡_}
 use mathlib.Core.Bool.{Bool, false, _&&_, _||_, cond}
 use mathlib.Core.List.{List, [], map}
+use lib.Dec.{eqb}
 use lib.ListN.{length, take}
-use Rattle.text.specs.Text.{ascii}
+use Rattle.text.specs.Text.{ascii, byteAt}
 use Rattle.decimal.specs.Digits.{Reading, reads, refused}
 use Rattle.edit.specs.declared.Side.the-variants.{Bids, Asks}
+use Rattle.json_tokens.specs.Bytes.{openObject}
 use Rattle.json_tokens.specs.Ends.{endOf}
 use Rattle.json.specs.Json.{Span, Pair, value}
 use Rattle.json.specs.Names.{means}
 use Rattle.json.specs.Fold.{foldFrom}
-use Rattle.entries.specs.Places.{andAlso, objectAt}
+use Rattle.entries.specs.Places.{andThen, andAlso, arrayAt, objectAt, only}
+use Rattle.layout.specs.Depths.{itemDepth}
 use Rattle.layout.specs.MemberSpans.{fewMore, noMemberSpan, withMemberSpan, onMember}
 use Rattle.order_edit.specs.Buffer.{maxBuffered, bufferWords, entriesIn}
 use Rattle.order_arrays.specs.Tally.{noneYet, met as count, tallied, ordersAt}
@@ -19,6 +22,7 @@ use Rattle.order_arrays.specs.declared.OrderTally.{OrderTally}
 use Rattle.message_l.specs.Orders.{objectDepth, ordersDepth, SidedOrder, sidedOrdersAt, memberOrders, ordersIn, entryOf, tallyOf}
 use Rattle.message_l.specs.declared.Sides.{Sides}
 use Rattle.message_l.specs.declared.Listing.{Listing}
+use Rattle.message_l.specs.declared.Data.{Data}
 
 -- ---- the sides
 
@@ -100,3 +104,30 @@ pub record ObjectRead (name s : List ℕ) (at : ℕ) (after : List ℕ) (r : Lis
   pub room : length after ≡ bufferWords
   pub holds : (ms : List Pair) → objectAt objectDepth s (record { from = at; to = endOf (value objectDepth s at) }) ≡ reads ms
       → Holds s (ordersIn s ms) (r .sides .tally) after
+
+-- ---- the value of a member `data`
+
+-- The one element of the array that a value is.
+unfoldable pub oneIn : List ℕ → Span → Reading Span
+oneIn s a = andThen (arrayAt itemDepth s a) only
+
+-- A value that ends at `end` and is no array of one.
+abbrev pub notOne : ℕ → Data
+notOne end = record { end = end; one = false; listing = noListing 0 }
+
+unfoldable pub dataFrom : List ℕ → List ℕ → ℕ → Reading Span → Data
+dataFrom name s end (reads a) = record { end = end; one = eqb (byteAt s (a .from)) openObject; listing = listingAt name s (a .from) }
+dataFrom name s end refused = notOne end
+
+abbrev pub dataSpan : List ℕ → ℕ → Span
+dataSpan s at = record { from = at; to = endOf (value itemDepth s at) }
+
+unfoldable pub dataAt : List ℕ → List ℕ → ℕ → Data
+dataAt name s at = dataFrom name s (endOf (value itemDepth s at)) (oneIn s (dataSpan s at))
+
+-- What is told of the value, and that the buffer has the orders of the one object in it.
+pub record DataRead (name s : List ℕ) (at : ℕ) (after : List ℕ) (r : Data) : Type 0 where
+  pub told : r ≡ dataAt name s at
+  pub room : length after ≡ bufferWords
+  pub holds : (a : Span) → oneIn s (dataSpan s at) ≡ reads a → (ms : List Pair) → objectAt objectDepth s a ≡ reads ms
+      → Holds s (ordersIn s ms) (r .listing .sides .tally) after

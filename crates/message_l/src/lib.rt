@@ -1,5 +1,5 @@
-// The object in `data` of a message of dialect L, read in one walk over its bytes: whether it is JSON, and all that the checks of a message
-// need of it. Each member is read once, whatever its name, and added to what was met before.
+// The `data` of a message of dialect L, an array of one object, read in one walk over its bytes: whether it is JSON, and all that the checks of a
+// message need of it. Each member is read once, whatever its name, and added to what was met before.
 ghost use mathlib.Core.Path.{_≡_};
 ghost use mathlib.Core.Bool.{_&&_};
 ghost use Prim.Native.Nat.{_≤_};
@@ -10,17 +10,20 @@ ghost use Rattle.layout.specs.MemberSpans.{memberAt};
 ghost use Rattle.order_edit.specs.Buffer.{bufferWords};
 ghost use Rattle.order_arrays.specs.Tally.{met as count};
 ghost use Rattle.message_l.specs.Orders.{ordersDepth};
-ghost use Rattle.message_l.specs.Collected.{noSides, noListing, listingEnd, MoreSides, MoreListing, ObjectRead};
+ghost use Rattle.message_l.specs.Collected.{noSides, noListing, listingEnd, MoreSides, MoreListing, ObjectRead, notOne, DataRead};
 use edit::Side;
 use json::is_name;
 use json::item_end;
 use json::value_end;
+use json_tokens::OPEN_ARRAY;
 use json_tokens::OPEN_OBJECT;
+use json_tokens::array_close_end;
 use json_tokens::colon_end;
 use json_tokens::comma_end;
 use json_tokens::object_close_end;
 use json_tokens::skip_blanks;
 use json_tokens::string_end;
+use layout::ITEM_DEPTH;
 use layout::MemberSpan;
 use layout::SIDE_DEPTH;
 use layout::few_more;
@@ -56,6 +59,54 @@ pub struct Listing {
     pub checksum: MemberSpan,
     // Whether some `symbol` is the book's name.
     pub named: bool,
+}
+
+// The value of a member `data`.
+pub struct Data {
+    // Past the value, or 0 where it is not JSON.
+    pub end: usize,
+    // Whether it is an array of one object. If not, the rest says nothing.
+    pub one: bool,
+    pub listing: Listing,
+}
+
+// The value at `at`, as that of a member `data` of a message to a book of that name. Its orders go into the buffer.
+pub fn l_data(s: &[u8], at: usize, name: &[u8], buffer: &mut [u64; BUFFER_WORDS]) -> Data
+    requires { ⌜ length (now buffer) ≡ bufferWords ⌝ }
+    ensures { λ r. ⌜ DataRead (now (name .entry)) (now (s .entry)) at (now (buffer .exit)) r ⌝ }
+{
+    if byte_at(s, at) != OPEN_ARRAY {
+        return not_one(value_end(s, at, ITEM_DEPTH));
+    }
+    if 0 < array_close_end(s, at + 1) {
+        return not_one(value_end(s, at, ITEM_DEPTH));
+    }
+    let first = skip_blanks(s, at + 1);
+    let listing = l_object(s, first, name, buffer);
+    let past = listing.sides.end;
+    if past == 0 {
+        return not_one(value_end(s, at, ITEM_DEPTH));
+    }
+    if comma_end(s, past) != 0 {
+        return not_one(value_end(s, at, ITEM_DEPTH));
+    }
+    let end = array_close_end(s, past);
+    if end == 0 {
+        return not_one(value_end(s, at, ITEM_DEPTH));
+    }
+    let one = byte_at(s, first) == OPEN_OBJECT;
+    Data { end, one, listing }
+}
+
+// A value that ends at `end` and is no array of one.
+fn not_one(end: usize) -> Data
+    ensures { λ r. ⌜ r ≡ notOne end ⌝ }
+{
+    Data {
+        end,
+        one: false,
+        listing: no_listing(0),
+    }
 }
 
 // The value at `at`, as the object in `data` of a message to a book of that name. Its orders go into the buffer.

@@ -1,8 +1,8 @@
 -- The value of a member `data`: whether it is an array of one, and where that begins. Assumes nothing.
-use Prim.Native.Nat.{ℕ, zero, suc, _+_, _<_, _≤_}
-use mathlib.Core.Path.{_≡_, refl, sym, ap, ap₂, _∙_, subst}
-use mathlib.Core.Bool.{Bool, true, false, cond}
-use mathlib.Core.List.{List, [], _∷_}
+use Prim.Native.Nat.{ℕ, _+_, _<_}
+use mathlib.Core.Path.{_≡_, refl, sym, ap, _∙_}
+use mathlib.Core.Bool.{Bool}
+use mathlib.Core.List.{List}
 use native.Mathlib.Omega.{arith}
 use borrow.Author.Tests.{eq-eqb, ne-eqb}
 use lib.Dec.{eqb}
@@ -13,17 +13,15 @@ use Rattle.json_tokens.specs.Tokens.{End, At, Broken, blanks, closing, separato
 use Rattle.json_tokens.specs.Ends.{endOf}
 use Rattle.json_tokens.proofs.Laws.{end-at}
 use Rattle.json_tokens.proofs.Bounds.{bounds, end-broken, blanks-in, closing-in, separator-in}
-use Rattle.json.specs.Json.{Span, Pair, Next, item, ends, wrong, Items, items, noItems, itemsEnd, prepended, onward, element, elements, value}
+use Rattle.json.specs.Json.{Span, Next, item, wrong, Items, items, noItems, itemsEnd, prepended, onward, element, elements, value}
 use Rattle.json.proofs.Laws.{value-array, element-is, element-wrong}
 use Rattle.json.proofs.Bounds.{value-in}
 use Rattle.json.proofs.Walk.{Walk, walk-empty, walk-start, walk-wrong, walk-on, walk-last, walk-broken}
 use Rattle.entries.specs.Places.{andThen, contents, arrayAt, objectAt, only}
 use Rattle.entries.proofs.Strings.{no-row, same-row}
-use Rattle.message_l.specs.Orders.{ordersIn}
-use Rattle.message_l.specs.Collected.{listingAt, oneIn, notOne, dataFrom, dataSpan, dataAt, Holds, ObjectRead, DataRead}
+use Rattle.message_l.specs.Collected.{oneIn, notOne, dataFrom, dataSpan, dataAt, ObjectRead, DataRead}
 use Rattle.message_l.specs.declared.Listing.{Listing}
 use Rattle.message_l.specs.declared.Data.{Data}
-use Rattle.message_l.proofs.Whole.{listing-end-at}
 
 module _ (s : List ℕ) (at : ℕ) where
   abbrev one : ℕ → Next Span

@@ -14,7 +14,7 @@ use Rattle.json.specs.Fold.{foldFrom}
 use Rattle.entries.specs.Places.{andThen, andAlso}
 use Rattle.entries.specs.Tally.{oneBid, oneAsk}
 use Rattle.entries.proofs.Strings.{no-row, same-row}
-use Rattle.entries.proofs.Tallies.{not-read, Both, also-reads, fold-append, map-append}
+use Rattle.entries.proofs.Tallies.{not-read, also-reads, fold-append, map-append}
 use Rattle.order_edit.specs.Buffer.{OrderEntry, maxBuffered, entriesIn}
 use Rattle.order_entries.specs.Rows.{OrderRow}
 use Rattle.order_arrays.specs.Tally.{noneYet, isRead, badAt, counted, oneMore, ordersAt, tallied, toldAt, met, Met}

@@ -25,7 +25,7 @@ use Rattle.entries.proofs.Tallies.{also-none}
 use Rattle.layout.specs.MemberSpans.{fewMore, withMemberSpan, onHit}
 use Rattle.layout.specs.declared.MemberSpan.{MemberSpan}
 use Rattle.layout.proofs.Objects.{contents-broken}
-use Rattle.order_entries.specs.Rows.{OrderRow, orderRow}
+use Rattle.order_entries.specs.Rows.{orderRow}
 use Rattle.order_arrays.specs.Tally.{ordersAt, tallied, toldNot, toldAt, met as count, Met}
 use Rattle.order_arrays.specs.declared.OrderTally.{OrderTally}
 use Rattle.order_arrays.specs.declared.Orders.{Orders}

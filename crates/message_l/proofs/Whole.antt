@@ -1,5 +1,5 @@
 -- The object in `data`, once its members were met: what is told of it, and what the buffer has. Assumes nothing.
-use Prim.Native.Nat.{ℕ, suc, _+_, _≤_, _<_}
+use Prim.Native.Nat.{ℕ, _+_, _≤_, _<_}
 use mathlib.Core.Path.{_≡_, refl, sym, ap, _∙_, subst}
 use mathlib.Core.List.{List, [], _∷_}
 use native.Mathlib.Omega.{arith}
@@ -12,7 +12,6 @@ use Rattle.json.specs.Json.{Span, Pair, Items, items, noItems, itemsEnd, member
 use Rattle.json.specs.Fold.{foldFrom, foldedIn}
 use Rattle.json.proofs.Laws.{value-object}
 use Rattle.json.proofs.Fold.{Loop, Left, Stands, made, overMembers, fold-on, fold-last}
-use Rattle.json_tokens.proofs.Laws.{end-at}
 use Rattle.json_tokens.proofs.Bounds.{bounds}
 use Rattle.json.proofs.Bounds.{value-in}
 use Rattle.entries.specs.Places.{andAlso, contents, objectAt}

@@ -1,8 +1,8 @@
 -- What one walk over `data` collects of the one object in it, member by member. Assumes nothing: these are definitions.
 use Prim.Native.Nat.{ℕ, _≤_}
 use mathlib.Core.Path.{_≡_}
-use mathlib.Core.Bool.{Bool, false, _&&_, _||_, cond}
-use mathlib.Core.List.{List, [], map}
+use mathlib.Core.Bool.{false, _&&_, _||_, cond}
+use mathlib.Core.List.{List, map}
 use lib.Dec.{eqb}
 use lib.ListN.{length, take}
 use Rattle.text.specs.Text.{ascii, byteAt}
@@ -19,7 +19,7 @@ use Rattle.layout.specs.MemberSpans.{fewMore, noMemberSpan, withMemberSpan, onM
 use Rattle.order_edit.specs.Buffer.{maxBuffered, bufferWords, entriesIn}
 use Rattle.order_arrays.specs.Tally.{noneYet, met as count, tallied, ordersAt}
 use Rattle.order_arrays.specs.declared.OrderTally.{OrderTally}
-use Rattle.message_l.specs.Orders.{objectDepth, ordersDepth, SidedOrder, sidedOrdersAt, memberOrders, ordersIn, entryOf, tallyOf}
+use Rattle.message_l.specs.Orders.{objectDepth, ordersDepth, SidedOrder, memberOrders, ordersIn, entryOf, tallyOf}
 use Rattle.message_l.specs.declared.Sides.{Sides}
 use Rattle.message_l.specs.declared.Listing.{Listing}
 use Rattle.message_l.specs.declared.Data.{Data}

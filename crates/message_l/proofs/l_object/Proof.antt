@@ -9,10 +9,10 @@ use native.Mathlib.Omega.{arith}
 use Rattle.text.specs.Text.{byteAt}
 use Rattle.decimal.specs.Digits.{Reading, reads}
 use Rattle.json_tokens.proofs.Laws.{end-at, in-byte}
-use Rattle.json_tokens.proofs.Bounds.{bounds, blanks-in, closing-in, separator-in, string-in}
+use Rattle.json_tokens.proofs.Bounds.{bounds, separator-in, string-in}
 use mathlib.Core.Path.{_≡_, _∙_, sym, ap, subst}
 use mathlib.Core.List.{List, []}
-use Rattle.json_tokens.specs.Tokens.{closing, separator, string}
+use Rattle.json_tokens.specs.Tokens.{separator, string}
 use Rattle.json_tokens.specs.Ends.{endOf}
 use Rattle.json.specs.Json.{Pair, wrong, member, members, value}
 use Rattle.json.proofs.Fold.{Stands, pairAt, no-name, no-colon, no-value, member-stands, fold-empty, fold-start, fold-wrong, fold-further, fold-on, fold-last, fold-broken}

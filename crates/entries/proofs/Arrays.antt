@@ -12,7 +12,6 @@ use lib.ListN.{length, take, set, length-append, length-map, length-take}
 use lib.Seq.{take-all, take-append-le, take-suc-set, set-out, append-snoc}
 use Rattle.text.specs.Text.{byteAt}
 use Rattle.decimal.specs.Digits.{Reading, reads, refused}
-use Rattle.edit.specs.Edit.{Numbers}
 use Rattle.edit.specs.Buffer.{maxBuffered, bufferWords, entriesIn}
 use Rattle.edit.specs.Buffer as buffers
 use Rattle.edit.proofs.Threes.{threes-length}
@@ -72,6 +71,31 @@ front-long n w r k h =
     let m = length-take k w in
     (λ p. omega arith, λ p. omega arith)
 
+-- behind the first k of `was`, a list of n has what the rows say, up to its end; and one row more
+module _ {R E : Type 0} (n : ℕ) (was : List E) (full : length was ≡ n) (say : R → E) (k : ℕ) where
+  pub said-none : take (k + 0) was ≡ take n (take k was ++ [])
+  said-none = let z : k + 0 ≡ k = omega arith in rw z (kept-first n was full k)
+
+  pub said-one : (rows : List R) (r : R) (w after : List E) → length w ≡ n → after ≡ set w (k + length rows) (say r)
+      → take (k + length rows) w ≡ take n (take k was ++ map say rows)
+      → take (k + length (rows ++ (r ∷ []))) after ≡ take n (take k was ++ map say (rows ++ (r ∷ [])))
+  said-one rows r w after same-long now had =
+      ap₂ take count now
+      ∙ kept-one n w same-long (take k was ++ said) (k + length rows) (say r) (λ p. long .0 (rw same p) ∙ ap (λ (m : ℕ). k + m) same) (λ p. long .1 (rw same p)) had
+      ∙ ap (take n) (append-assoc (take k was) said (say r ∷ []) ∙ ap (λ (z : List E). take k was ++ z) (sym (map-append say rows (r ∷ []))))
+    where
+      said : List E
+      said = map say rows
+
+      same : length said ≡ length rows
+      same = length-map rows say
+
+      long : (k + length said < n → length (take k was ++ said) ≡ k + length said) × (n ≤ k + length said → n ≤ length (take k was ++ said))
+      long = front-long n was said k full
+
+      count : k + length (rows ++ (r ∷ [])) ≡ suc (k + length rows)
+      count = let m = length-append rows (r ∷ []) in omega arith
+
 -- ---- elements that were passed
 
 abbrev pub passing : ℕ → List ℕ → Loop Span (List Span) (Items Span)
@@ -114,40 +138,21 @@ module _ (base : ℕ) (s : List ℕ) (d : ℕ) (form : Form) (side : Side) (t : 
   abbrev one : Tally → Span → Tally
   one = oneSpan base s d form side
 
-  -- behind those that were met before, the buffer has the numbers of these rows
-  pub Has : List Row → List ℕ → Type 0
-  Has rows after = take (met t + length rows) (entriesIn after) ≡ take maxBuffered (take (met t) (entriesIn before) ++ map (numbersAt s) (map (sided side) rows))
+  -- behind those that were met before, the buffer has the numbers of these entries
+  pub Has : List Entry → List ℕ → Type 0
+  Has es after = take (met t + length es) (entriesIn after) ≡ take maxBuffered (take (met t) (entriesIn before) ++ map (numbersAt s) es)
 
   -- the same of elements, if they are entries
   pub Filled : List Span → List ℕ → Type 0
-  Filled l after = (rows : List Row) → all entry l ≡ reads rows → Has rows after
+  Filled l after = (rows : List Row) → all entry l ≡ reads rows → Has (map (sided side) rows) after
 
   has-one : (rows : List Row) (r : Row) (buffer after : List ℕ) → length before ≡ bufferWords → length buffer ≡ bufferWords
-      → entriesIn after ≡ set (entriesIn buffer) (met t + length rows) (numbersAt s (sided side r)) → Has rows buffer → Has (rows ++ (r ∷ [])) after
+      → entriesIn after ≡ set (entriesIn buffer) (met t + length (map (sided side) rows)) (numbersAt s (sided side r)) → Has (map (sided side) rows) buffer
+      → Has (map (sided side) (rows ++ (r ∷ []))) after
   unfolding Has
   has-one rows r buffer after first room now had =
-      ap₂ take count now
-      ∙ kept-one maxBuffered (entriesIn buffer) (buffer-full buffer room) (front ++ numbers) (met t + length rows) (numbersAt s (sided side r))
-      (λ p. long .0 (rw same p) ∙ ap (λ (n : ℕ). met t + n) same) (λ p. long .1 (rw same p)) had
-      ∙ ap (take maxBuffered) (append-assoc front numbers (numbersAt s (sided side r) ∷ []) ∙ ap (λ (z : List Numbers). front ++ z) (sym mapped))
-    where
-      front : List Numbers
-      front = take (met t) (entriesIn before)
-
-      numbers : List Numbers
-      numbers = map (numbersAt s) (map (sided side) rows)
-
-      same : length numbers ≡ length rows
-      same = length-map (map (sided side) rows) (numbersAt s) ∙ length-map rows (sided side)
-
-      long : (met t + length numbers < maxBuffered → length (front ++ numbers) ≡ met t + length numbers) × (maxBuffered ≤ met t + length numbers → maxBuffered ≤ length (front ++ numbers))
-      long = front-long maxBuffered (entriesIn before) numbers (met t) (buffer-full before first)
-
-      count : met t + length (rows ++ (r ∷ [])) ≡ suc (met t + length rows)
-      count = let n = length-append rows (r ∷ []) in omega arith
-
-      mapped : map (numbersAt s) (map (sided side) (rows ++ (r ∷ []))) ≡ numbers ++ (numbersAt s (sided side r) ∷ [])
-      mapped = ap (map (numbersAt s)) (map-append (sided side) rows (r ∷ [])) ∙ map-append (numbersAt s) (map (sided side) rows) (sided side r ∷ [])
+      subst (λ (es : List Entry). Has es after) (sym (map-append (sided side) rows (r ∷ [])))
+      (said-one maxBuffered (entriesIn before) (buffer-full before first) (numbersAt s) (met t) (map (sided side) rows) (sided side r) (entriesIn buffer) (entriesIn after) (buffer-full buffer room) now had)
 
   -- the loop stands at i
   pub record Going (i : ℕ) (tally : Tally) (buffer : List ℕ) : Type 0 where
@@ -163,8 +168,7 @@ module _ (base : ℕ) (s : List ℕ) (d : ℕ) (form : Form) (side : Side) (t : 
   unfolding Filled Has all
   filled-none room rows h =
       let e : rows ≡ [] = same-row h in
-      let n : met t + 0 ≡ met t = omega arith in
-      rw (e, n) (kept-first maxBuffered (entriesIn before) (buffer-full before room) (met t))
+      rw e (said-none maxBuffered (entriesIn before) (buffer-full before room) (numbersAt s) (met t))
 
   -- ---- at the end of the array, or where it is not JSON
   module _ (depth : ℕ) (deep : suc d ≡ depth) (opens : byteAt s 0 ≡ 91) where
@@ -196,7 +200,7 @@ module _ (base : ℕ) (s : List ℕ) (d : ℕ) (form : Form) (side : Side) (t : 
           where
             go : (y : Reading (List Row)) → all entry l ≡ y → andThen y (λ rows. reads (map (sided side) rows)) ≡ reads es
                 → take (met t + length es) (entriesIn after) ≡ take maxBuffered (take (met t) (entriesIn before) ++ map (numbersAt s) es)
-            go (reads rows) q p = let z = same-row p in let n = length-map rows (sided side) in rw (z, n) (filled rows q)
+            go (reads rows) q p = rw (same-row p) (filled rows q)
             go refused q p = no-row p
 
     met-none : (after : List ℕ) → noItems ≡ elements (value d s) s 1 → length after ≡ bufferWords → Met base s depth form side t 0 before after (toldNot 0)
@@ -280,11 +284,10 @@ module _ (base : ℕ) (s : List ℕ) (d : ℕ) (form : Form) (side : Side) (t : 
           let b = also-reads (all entry (g .passed)) (all entry (this ∷ [])) rows (sym (all-append entry (g .passed) (this ∷ [])) ∙ h) in
           let o = one-row entry this (b .back) (b .reads-back) in
           let f = formed (o .0) (o .1) in
-          let met-now : met tally ≡ met t + length (b .front) =
-          ap met (g .told ∙ spans-told base s form side d t (g .passed) (b .front) (b .reads-front)) ∙ entries-met base s t (map (sided side) (b .front))
-          ∙ ap (λ (n : ℕ). met t + n) (length-map (b .front) (sided side)) in
+          let met-now : met tally ≡ met t + length (map (sided side) (b .front)) =
+          ap met (g .told ∙ spans-told base s form side d t (g .passed) (b .front) (b .reads-front)) ∙ entries-met base s t (map (sided side) (b .front)) in
           let put = c .put (ap (λ (y : EntryPlace). y .«well_formed») f) in
-          subst (λ (l : List Row). Has l after) (sym (b .both ∙ ap (λ (z : List Row). b .front ++ z) (o .2)))
+          subst (λ (l : List Row). Has (map (sided side) l) after) (sym (b .both ∙ ap (λ (z : List Row). b .front ++ z) (o .2)))
           (has-one (b .front) (o .0) buffer after (g .first) (g .room)
           (put .entries ∙ ap₂ (λ (n : ℕ) (y : EntryPlace). set (entriesIn buffer) n (record { side = side; price = numberAt s (priceSpan y); size = numberAt s (sizeSpan y) })) met-now f)
           (g .filled (b .front) (b .reads-front)))

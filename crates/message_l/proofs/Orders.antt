@@ -17,7 +17,8 @@ use Rattle.entries.proofs.Strings.{no-row, same-row}
 use Rattle.entries.proofs.Tallies.{not-read, also-reads, fold-append, map-append}
 use Rattle.order_edit.specs.Buffer.{OrderEntry, maxBuffered, entriesIn}
 use Rattle.order_entries.specs.Rows.{OrderRow}
-use Rattle.order_arrays.specs.Tally.{noneYet, isRead, badAt, counted, oneMore, ordersAt, tallied, toldAt, met, Met}
+use Rattle.order_entries.specs.Saying.{badAt}
+use Rattle.order_arrays.specs.Tally.{noneYet, isRead, counted, oneMore, ordersAt, tallied, toldAt, met, Met}
 use Rattle.order_arrays.specs.declared.OrderTally.{OrderTally}
 use Rattle.order_arrays.specs.declared.Orders.{Orders}
 use Rattle.message_l.specs.Orders.{SidedOrder, sidedOrder, sidedOrdersAt, entryOf, oneSided, tallyOf}

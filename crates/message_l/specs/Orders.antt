@@ -14,7 +14,8 @@ use Rattle.entries.specs.Places.{andThen, andAlso}
 use Rattle.layout.specs.Depths.{sideDepth}
 use Rattle.order_edit.specs.Buffer.{OrderEntry}
 use Rattle.order_entries.specs.Rows.{OrderRow}
-use Rattle.order_arrays.specs.Tally.{ordersAt, orderAt, oneMore, noneYet}
+use Rattle.order_entries.specs.Saying.{entryAt}
+use Rattle.order_arrays.specs.Tally.{ordersAt, oneMore, noneYet}
 use Rattle.order_arrays.specs.declared.OrderTally.{OrderTally}
 
 -- How deep arrays and objects may nest in the object in `data`, and in a member of it, as a side's array of orders is one.
@@ -48,7 +49,7 @@ ordersIn s (m ∷ ms) = andAlso (memberOrders s m) (ordersIn s ms)
 
 -- What an order says.
 abbrev pub entryOf : List ℕ → SidedOrder → OrderEntry
-entryOf s o = orderAt s (o .side) (o .row)
+entryOf s o = entryAt s (o .side) (o .row)
 
 -- What is told of them.
 abbrev pub oneSided : List ℕ → OrderTally → SidedOrder → OrderTally

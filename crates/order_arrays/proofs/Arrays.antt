@@ -1,12 +1,12 @@
 -- An array of orders, order by order: what was met of the elements that were passed, what is left of them, and the buffer that has what they say. At the
 -- end all of them were met. Assumes nothing.
 use Prim.Native.Nat.{ℕ, zero, suc, _+_, _-_, _≤_, _<_}
-use mathlib.Core.Path.{_≡_, refl, sym, ap, ap₂, _∙_, subst}
+use mathlib.Core.Path.{_≡_, refl, sym, ap, _∙_, subst}
 use mathlib.Core.Bool.{Bool, true, false, cond}
-use mathlib.Core.List.{List, [], _∷_, _++_, map, append-assoc}
+use mathlib.Core.List.{List, [], _∷_, _++_, map}
 use native.Mathlib.Omega.{arith}
 use borrow.Author.Tests.{eq-eqb, ne-eqb}
-use lib.ListN.{length, take, set, length-append, length-map}
+use lib.ListN.{length, take, set}
 use Rattle.text.specs.Text.{byteAt}
 use Rattle.decimal.specs.Digits.{Reading, reads, refused}
 use Rattle.edit.specs.declared.Side.{Side}
@@ -15,7 +15,7 @@ use Rattle.json_tokens.specs.Tokens.{End, At, Broken, blanks, closing, separato
 use Rattle.json_tokens.specs.Ends.{endOf}
 use Rattle.json_tokens.proofs.Laws.{end-at}
 use Rattle.json_tokens.proofs.Bounds.{bounds, blanks-in, closing-in}
-use Rattle.json.specs.Json.{Span, Items, items, noItems, itemsEnd, element, elements, value}
+use Rattle.json.specs.Json.{Span, items, noItems, itemsEnd, element, elements, value}
 use Rattle.json.specs.Fold.{foldFrom}
 use Rattle.json.proofs.Laws.{value-array}
 use Rattle.json.proofs.Fold.{Left, Stands, no-element, element-stands, fold-empty, fold-start, fold-wrong, fold-further, fold-on, fold-last, fold-broken}
@@ -23,17 +23,17 @@ use Rattle.entries.specs.Places.{andThen, all, andAlso, contents, arrayAt}
 use Rattle.entries.specs.Tally.{oneBid, oneAsk}
 use Rattle.entries.proofs.Stops.{broken-at}
 use Rattle.entries.proofs.Strings.{no-row, same-row}
-use Rattle.entries.proofs.Tallies.{also-reads, all-append, fold-append, map-append}
-use Rattle.entries.proofs.Arrays.{kept-first, kept-one, front-long, passing, passed-all, one-row}
-use Rattle.order_edit.specs.Buffer.{OrderEntry, maxBuffered, bufferWords, entriesIn}
+use Rattle.entries.proofs.Tallies.{also-reads, all-append, fold-append}
+use Rattle.entries.proofs.Arrays.{said-none, said-one, passing, passed-all, one-row}
+use Rattle.order_edit.specs.Buffer.{maxBuffered, bufferWords, entriesIn}
 use Rattle.order_edit.specs.Buffer as buffers
 use Rattle.order_edit.proofs.Sixes.{sixes-length}
 use Rattle.order_entries.specs.Rows.{OrderRow, orderRow}
 use Rattle.order_entries.specs.Collected.{orderPlaceOf, orderPlaceAt}
+use Rattle.order_entries.specs.Saying.{entryAt, badAt}
 use Rattle.order_entries.specs.declared.OrderPlace.{OrderPlace}
-use Rattle.order_arrays.specs.Tally.{ordersAt, orderAt, toldNot, counted, isRead, badAt, oneMore, tallied, talliedOne, toldAt, met, Counted, CountedAt, Met}
+use Rattle.order_arrays.specs.Tally.{ordersAt, toldNot, counted, isRead, oneMore, tallied, talliedOne, toldAt, met, Counted, CountedAt, Met}
 use Rattle.order_arrays.specs.declared.OrderTally.{OrderTally}
-use Rattle.order_arrays.specs.declared.Orders.{Orders}
 
 -- the orders that a buffer holds
 buffer-full : (buffer : List ℕ) → length buffer ≡ bufferWords → length (entriesIn buffer) ≡ maxBuffered
@@ -123,35 +123,17 @@ module _ (s : List ℕ) (at : ℕ) (d : ℕ) (side : Side) (t : OrderTally) (bef
 
   -- behind those that were met before, the buffer has what these orders say
   pub Has : List OrderRow → List ℕ → Type 0
-  Has rows after = take (met t + length rows) (entriesIn after) ≡ take maxBuffered (take (met t) (entriesIn before) ++ map (orderAt s side) rows)
+  Has rows after = take (met t + length rows) (entriesIn after) ≡ take maxBuffered (take (met t) (entriesIn before) ++ map (entryAt s side) rows)
 
   -- the same of elements, if they are orders
   pub Filled : List Span → List ℕ → Type 0
   Filled l after = t .«well_formed» ≡ true → (rows : List OrderRow) → all order l ≡ reads rows → Has rows after
 
   has-one : (rows : List OrderRow) (r : OrderRow) (buffer after : List ℕ) → length before ≡ bufferWords → length buffer ≡ bufferWords
-      → entriesIn after ≡ set (entriesIn buffer) (met t + length rows) (orderAt s side r) → Has rows buffer → Has (rows ++ (r ∷ [])) after
+      → entriesIn after ≡ set (entriesIn buffer) (met t + length rows) (entryAt s side r) → Has rows buffer → Has (rows ++ (r ∷ [])) after
   unfolding Has
   has-one rows r buffer after first room now had =
-      ap₂ take count now
-      ∙ kept-one maxBuffered (entriesIn buffer) (buffer-full buffer room) (front ++ said) (met t + length rows) (orderAt s side r)
-      (λ p. long .0 (rw same p) ∙ ap (λ (n : ℕ). met t + n) same) (λ p. long .1 (rw same p)) had
-      ∙ ap (take maxBuffered) (append-assoc front said (orderAt s side r ∷ []) ∙ ap (λ (z : List OrderEntry). front ++ z) (sym (map-append (orderAt s side) rows (r ∷ []))))
-    where
-      front : List OrderEntry
-      front = take (met t) (entriesIn before)
-
-      said : List OrderEntry
-      said = map (orderAt s side) rows
-
-      same : length said ≡ length rows
-      same = length-map rows (orderAt s side)
-
-      long : (met t + length said < maxBuffered → length (front ++ said) ≡ met t + length said) × (maxBuffered ≤ met t + length said → maxBuffered ≤ length (front ++ said))
-      long = front-long maxBuffered (entriesIn before) said (met t) (buffer-full before first)
-
-      count : met t + length (rows ++ (r ∷ [])) ≡ suc (met t + length rows)
-      count = let n = length-append rows (r ∷ []) in omega arith
+      said-one maxBuffered (entriesIn before) (buffer-full before first) (entryAt s side) (met t) rows r (entriesIn buffer) (entriesIn after) (buffer-full buffer room) now had
 
   -- the loop stands at i
   pub record Going (i : ℕ) (tally : OrderTally) (buffer : List ℕ) : Type 0 where
@@ -167,8 +149,7 @@ module _ (s : List ℕ) (at : ℕ) (d : ℕ) (side : Side) (t : OrderTally) (bef
   unfolding Filled Has all
   filled-none room formed rows h =
       let e : rows ≡ [] = same-row h in
-      let n : met t + 0 ≡ met t = omega arith in
-      rw (e, n) (kept-first maxBuffered (entriesIn before) (buffer-full before room) (met t))
+      rw e (said-none maxBuffered (entriesIn before) (buffer-full before room) (entryAt s side) (met t))
 
   -- ---- at the end of the array, or where it is not JSON
   module _ (depth : ℕ) (deep : suc d ≡ depth) (opens : byteAt s at ≡ 91) where
@@ -279,7 +260,7 @@ module _ (s : List ℕ) (at : ℕ) (d : ℕ) (side : Side) (t : OrderTally) (bef
             let put = c .put fair (o .0) (o .1) in
             subst (λ (l : List OrderRow). Has l after) (sym (b .both ∙ ap (λ (z : List OrderRow). b .front ++ z) (o .2)))
             (has-one (b .front) (o .0) buffer after (g .first) (g .room)
-            (put .entries ∙ ap (λ (j : ℕ). set (entriesIn buffer) j (orderAt s side (o .0))) now)
+            (put .entries ∙ ap (λ (j : ℕ). set (entriesIn buffer) j (entryAt s side (o .0))) now)
             (g .filled formed (b .front) (b .reads-front)))
 
         -- ---- past the comma, at l, the next order is to begin; without a comma the array ends, at u

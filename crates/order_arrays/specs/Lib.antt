@@ -1,2 +1,3 @@
--- The orders of a message, and what is met of them, order by order.
+-- In reading order: the orders of an array, and what is met of them; worked examples.
 pub mod Tally
+pub mod Examples

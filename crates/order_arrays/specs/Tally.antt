@@ -2,27 +2,21 @@
 -- check 8 refuses in an update and in a snapshot, and the buffer that has what they say. Assumes nothing: these are definitions.
 use Prim.Native.Nat.{ℕ, _+_, _-_, _≤_}
 use mathlib.Core.Path.{_≡_}
-use mathlib.Core.Bool.{Bool, true, false, _&&_, _||_, not, cond}
-use mathlib.Core.List.{List, [], _∷_, _++_, map}
-use lib.Dec.{eqb, ltb}
+use mathlib.Core.Bool.{Bool, true, false, _&&_, cond}
+use mathlib.Core.List.{List, _++_, map}
+use lib.Dec.{eqb}
 use lib.ListN.{length, take}
 use Rattle.decimal.specs.Digits.{Reading, reads, refused}
 use Rattle.edit.specs.declared.Side.{Side}
 use Rattle.json_tokens.specs.Tokens.{At, Broken}
 use Rattle.json.specs.Json.{Span, value}
-use Rattle.json.specs.Names.{inner}
 use Rattle.json.specs.Fold.{foldFrom}
 use Rattle.entries.specs.Places.{andThen, all, arrayAt}
-use Rattle.entries.specs.Rows.{badPrice, badSize, numberAt}
 use Rattle.entries.specs.Tally.{oneBid, oneAsk}
-use Rattle.order_edit.specs.Ids.{idOf}
-use Rattle.order_edit.specs.Buffer.{OrderEntry, maxBuffered, bufferWords, entriesIn, Put}
-use Rattle.order_edit.specs.declared.Event.{Event}
-use Rattle.order_edit.specs.declared.Event.the-variants.{Add, Modify, Delete}
+use Rattle.order_edit.specs.Buffer.{maxBuffered, bufferWords, entriesIn, Put}
 use Rattle.order_entries.specs.Rows.{OrderRow, orderRow}
 use Rattle.order_entries.specs.Collected.{orderPlaceOf}
-use Rattle.order_entries.specs.declared.MaybeEvent.{MaybeEvent}
-use Rattle.order_entries.specs.declared.MaybeEvent.the-variants.{Is, Missing}
+use Rattle.order_entries.specs.Saying.{entryAt, badAt}
 use Rattle.order_entries.specs.declared.OrderPlace.{OrderPlace}
 use Rattle.order_arrays.specs.declared.OrderTally.{OrderTally}
 use Rattle.order_arrays.specs.declared.Orders.{Orders}
@@ -30,40 +24,6 @@ use Rattle.order_arrays.specs.declared.Orders.{Orders}
 -- The orders of the array that a value is, perhaps none; the elements of it have one depth less.
 unfoldable pub ordersAt : ℕ → List ℕ → Span → Reading (List OrderRow)
 ordersAt depth s a = andThen (arrayAt depth s a) (all (orderRow (depth - 1) s))
-
--- The event that an order names.
-abbrev pub eventRead : MaybeEvent → Reading Event
-eventRead (Is event) = reads event
-eventRead Missing = refused
-
--- What an order says. A snapshot passes events over and adds each order, so that one without an event stands as added. A text that is no decimal gives 0;
--- check 8 has refused it before.
-unfoldable pub eventOrAdd : Reading Event → Event
-eventOrAdd (reads event) = event
-eventOrAdd refused = Add
-
-unfoldable pub orderAt : List ℕ → Side → OrderRow → OrderEntry
-orderAt s side r =
-    record { side = side; event = eventOrAdd (r .event); id = idOf (inner s (r .id)); price = numberAt s (r .price); size = numberAt s (r .size) }
-
--- ---- check 8: a decimal rule broken, price zero, a zero quantity unless deleted. A snapshot passes events over.
-
-unfoldable pub deletes : Reading Event → Bool
-deletes (reads Add) = false
-deletes (reads Modify) = false
-deletes (reads Delete) = true
-deletes refused = false
-
-unfoldable pub badQuantity : Bool → List ℕ → OrderRow → Bool
-badQuantity snapshot s r = badSize (snapshot || not (deletes (r .event))) s (r .size)
-
--- Of two texts, each bad or not, where the bad one that stands first begins, or 0 where none is bad.
-unfoldable pub firstBad : Bool → ℕ → Bool → ℕ → ℕ
-firstBad a i b j = cond a (cond (b && ltb j i) j i) (cond b j 0)
-
--- Where the first bad text of an order begins, or 0: members stand in any order.
-unfoldable pub badAt : Bool → List ℕ → OrderRow → ℕ
-badAt snapshot s r = firstBad (badPrice s (r .price)) (r .price .from) (badQuantity snapshot s r) (r .size .from)
 
 -- ---- what is met
 
@@ -129,7 +89,7 @@ met t = t .bids + t .asks
 pub record Counted (s : List ℕ) (side : Side) (t : OrderTally) (x : Reading OrderRow) (before after : List ℕ) (r : OrderTally) : Type 0 where
   pub told : r ≡ talliedOne s side t x
   pub room : length after ≡ bufferWords
-  pub put : t .«well_formed» ≡ true → (row : OrderRow) → x ≡ reads row → Put before (met t) (orderAt s side row) after
+  pub put : t .«well_formed» ≡ true → (row : OrderRow) → x ≡ reads row → Put before (met t) (entryAt s side row) after
 
 -- The same of what was found at a position.
 abbrev pub CountedAt : List ℕ → Side → OrderTally → OrderPlace → List ℕ → List ℕ → OrderTally → Type 0
@@ -143,4 +103,4 @@ pub record Met (s : List ℕ) (depth : ℕ) (side : Side) (t : OrderTally) (at :
   pub room : length after ≡ bufferWords
   -- behind those that were met before it has what the orders say, up to its end
   pub kept : t .«well_formed» ≡ true → (e : ℕ) → value depth s at ≡ At e → (rows : List OrderRow) → ordersAt depth s (record { from = at; to = e }) ≡ reads rows
-      → take (met t + length rows) (entriesIn after) ≡ take maxBuffered (take (met t) (entriesIn before) ++ map (orderAt s side) rows)
+      → take (met t + length rows) (entriesIn after) ≡ take maxBuffered (take (met t) (entriesIn before) ++ map (entryAt s side) rows)

@@ -4,36 +4,25 @@
 //     let read = order_arrays::orders_at(s, at, depth, Side::Bids, order_arrays::none_yet(), &mut buffer);
 //     order_edit::entry_in(&buffer, 0)     // the first of them, if read.tally.bids is not 0
 ghost use mathlib.Core.Path.{_≡_};
-ghost use mathlib.Core.Bool.{true, false, not};
+ghost use mathlib.Core.Bool.{true, false};
 ghost use Prim.Native.Nat.{_+_, _≤_, _<_, _^_};
 ghost use lib.ListN.{length};
-ghost use Rattle.decimal.specs.Decimal.{read};
-ghost use Rattle.decimal.specs.Reads.{parsed};
-ghost use Rattle.json.specs.Names.{inner};
 ghost use Rattle.order_edit.specs.Buffer.{bufferWords};
-ghost use Rattle.order_edit.specs.Ids.{idOf};
-ghost use Rattle.order_entries.specs.Collected.{Placed, Laid};
-ghost use Rattle.order_arrays.specs.Tally.{eventRead, noneYet, notOrders, toldNot, eventOrAdd, deletes, isRead, firstBad, orElse, counted, CountedAt, Met};
-use decimal::Parsed;
+ghost use Rattle.order_entries.specs.Collected.{Laid};
+ghost use Rattle.order_entries.specs.Saying.{readEvent};
+ghost use Rattle.order_arrays.specs.Tally.{noneYet, notOrders, toldNot, isRead, orElse, counted, CountedAt, Met};
 use edit::Side;
-use entries::is_bad_price;
-use entries::is_bad_size;
-use entries::number_of;
-use entries::parse_quoted;
 use json::value_end;
 use json_tokens::OPEN_ARRAY;
 use json_tokens::array_close_end;
 use json_tokens::comma_end;
 use json_tokens::skip_blanks;
 use order_edit::BUFFER_WORDS;
-use order_edit::Buffered;
-use order_edit::Event;
-use order_edit::Id;
-use order_edit::id_of;
 use order_edit::put;
 use order_entries::MaybeEvent;
 use order_entries::OrderPlace;
 use order_entries::order_place;
+use order_entries::read_order;
 use text::both;
 use text::byte_at;
 
@@ -131,23 +120,17 @@ fn with_order(
 {
     if found.well_formed {
         if before.well_formed {
-            let event = found.event;
-            let price = decimal_at(s, found.price_from, found.price_to);
-            let size = decimal_at(s, found.size_from, found.size_to);
-            let entry = Buffered {
-                side,
-                event: event_or_add(event),
-                id: id_at(s, found.id_from, found.id_to),
-                price: number_of(price),
-                size: number_of(size),
-            };
+            let read = read_order(s, side, found);
+            let entry = read.entry;
             put(buffer, before.bids + before.asks, entry);
-            let bad = is_bad_price(price);
-            let loose = is_bad_size(size, keeps(event));
-            let broken = first_bad(bad, found.price_from, loose, found.size_from);
-            let zero = is_bad_size(size, true);
-            let strict = first_bad(bad, found.price_from, zero, found.size_from);
-            return count(before, side, is_event(event), broken, strict);
+            let event = found.event;
+            return count(
+                before,
+                side,
+                is_event(event),
+                read.broken_at,
+                read.strict_at,
+            );
         }
         return before;
     }
@@ -184,22 +167,6 @@ fn or_else(known: usize, next: usize) -> usize
     known
 }
 
-// Where the bad one of two texts that stands first begins, or 0 where none is bad.
-fn first_bad(price: bool, price_at: usize, size: bool, size_at: usize) -> usize
-    ensures { λ r. ⌜ r ≡ firstBad price «price_at» size «size_at» ⌝ }
-{
-    if price {
-        if both(size, size_at < price_at) {
-            return size_at;
-        }
-        return price_at;
-    }
-    if size {
-        return size_at;
-    }
-    0
-}
-
 // A value that ends at `end` and is no array of orders.
 fn told_not(end: usize) -> Orders
     ensures { λ r. ⌜ r ≡ toldNot end ⌝ }
@@ -223,66 +190,12 @@ fn not_orders() -> OrderTally
     }
 }
 
-// ---- what one order says
-
-// What the string from `from` to `to`, quotes included, says as a decimal.
-fn decimal_at(s: &[u8], from: usize, to: usize) -> Parsed
-    requires { ⌜ Placed (now s) from to ⌝ }
-    ensures { λ r. ⌜ parsed r ≡ read (inner (now (s .entry)) (record { from = from; to = to })) ⌝ }
-{
-    if to - from < 2 {
-        return Parsed::Refused;
-    }
-    parse_quoted(s, from, to)
-}
-
-// The words of the id from `from` to `to`, quotes included.
-fn id_at(s: &[u8], from: usize, to: usize) -> Id
-    requires { ⌜ Placed (now s) from to ⌝ }
-    ensures { λ r. ⌜ r ≡ idOf (inner (now (s .entry)) (record { from = from; to = to })) ⌝ }
-{
-    if to - from < 2 {
-        return Id {
-            first: 0,
-            second: 0,
-            third: 0,
-        };
-    }
-    let first = from + 1;
-    let last = to - 1;
-    id_of(&s[first..last])
-}
-
-// The event that an order has in the buffer.
-fn event_or_add(event: MaybeEvent) -> Event
-    ensures { λ r. ⌜ r ≡ eventOrAdd (eventRead event) ⌝ }
-{
-    match event {
-        MaybeEvent::Is(e) => e,
-        MaybeEvent::Missing => Event::Add,
-    }
-}
-
 // Whether an order names an event.
 fn is_event(event: MaybeEvent) -> bool
-    ensures { λ r. ⌜ r ≡ isRead (eventRead event) ⌝ }
+    ensures { λ r. ⌜ r ≡ isRead (readEvent event) ⌝ }
 {
     match event {
         MaybeEvent::Is(e) => true,
         MaybeEvent::Missing => false,
-    }
-}
-
-// Whether an order stays in an update, so that its quantity must not be zero.
-fn keeps(event: MaybeEvent) -> bool
-    ensures { λ r. ⌜ r ≡ not (deletes (eventRead event)) ⌝ }
-{
-    match event {
-        MaybeEvent::Is(e) => match e {
-            Event::Delete => false,
-            Event::Add => true,
-            Event::Modify => true,
-        },
-        MaybeEvent::Missing => true,
     }
 }

@@ -2,7 +2,7 @@
 use Prim.Native.String.{String}
 use Prim.Native.Nat.{ℕ}
 use mathlib.Core.Path.{_≡_, refl}
-use mathlib.Core.Bool.{Bool, true, false}
+use mathlib.Core.Bool.{true, false}
 use mathlib.Core.List.{List, [], _∷_}
 use lib.ListN.{length}
 use Rattle.text.specs.Text.{ascii}
@@ -35,16 +35,16 @@ saidOf t =
     p·.andThen (r·.orderRow 12 (ascii t) (record { from = 0; to = length (ascii t) })) (λ r.
     reads (record { id = j2·.inner (ascii t) (r .id); price = j2·.inner (ascii t) (r .price); size = j2·.inner (ascii t) (r .size); event = r .event }))
 
-refusedOf : String → Reading (List Bool)
+refusedOf : String → Reading (List ℕ)
 refusedOf t =
     p·.andThen (r·.orderRow 12 (ascii t) (record { from = 0; to = length (ascii t) })) (λ r.
-    reads (y·.badOrder false (ascii t) r ∷ y·.badOrder true (ascii t) r ∷ []))
+    reads (y·.badAt false (ascii t) r ∷ y·.badAt true (ascii t) r ∷ []))
 
 pub data Case : Type 0 where
   is : String → String → String → String → Reading Event → Case
   none : String → Case
-  -- whether check 8 refuses it, in an update and in a snapshot
-  bad : String → Bool → Bool → Case
+  -- where the first text begins that check 8 refuses, in an update and in a snapshot
+  bad : String → ℕ → ℕ → Case
 
 Holds : Case → Type 0
 Holds (is t id price size event) = saidOf t ≡ reads (record { id = ascii id; price = ascii price; size = ascii size; event = event })
@@ -78,18 +78,22 @@ table =
     none "{\"order_qty\":\"1\",\"limit_price\":\"5\",\"order_id\":\"abcdefghijklmnopqrstu\"}" ∷
     none "{\"order_qty\":\"1\",\"limit_price\":\"5\",\"order_id\":\"\"}" ∷
     -- a quantity of zero is refused unless deleted, and in a snapshot always
-    bad "{\"event\":\"delete\",\"order_qty\":\"0.0\",\"limit_price\":\"5\",\"order_id\":\"a\"}" false true ∷
-    bad "{\"event\":\"modify\",\"order_qty\":\"0.0\",\"limit_price\":\"5\",\"order_id\":\"a\"}" true true ∷
+    bad "{\"event\":\"delete\",\"order_qty\":\"0.0\",\"limit_price\":\"5\",\"order_id\":\"a\"}" 0 30 ∷
+    bad "{\"event\":\"modify\",\"order_qty\":\"0.0\",\"limit_price\":\"5\",\"order_id\":\"a\"}" 30 30 ∷
     -- a deleted order's quantity is a decimal all the same
-    bad "{\"event\":\"delete\",\"order_qty\":\"\",\"limit_price\":\"5\",\"order_id\":\"a\"}" true true ∷
+    bad "{\"event\":\"delete\",\"order_qty\":\"\",\"limit_price\":\"5\",\"order_id\":\"a\"}" 30 30 ∷
     -- a price of zero; a good order
-    bad "{\"event\":\"delete\",\"order_qty\":\"1\",\"limit_price\":\"0\",\"order_id\":\"a\"}" true true ∷
-    bad "{\"event\":\"add\",\"order_qty\":\"1\",\"limit_price\":\"5\",\"order_id\":\"a\"}" false false ∷
+    bad "{\"event\":\"delete\",\"order_qty\":\"1\",\"limit_price\":\"0\",\"order_id\":\"a\"}" 48 48 ∷
+    bad "{\"event\":\"add\",\"order_qty\":\"1\",\"limit_price\":\"5\",\"order_id\":\"a\"}" 0 0 ∷
+    -- two bad texts: the one that stands first, and in an update of a deleted order the price alone
+    bad "{\"event\":\"add\",\"order_qty\":\"0\",\"limit_price\":\"x\",\"order_id\":\"a\"}" 27 27 ∷
+    bad "{\"event\":\"add\",\"limit_price\":\"x\",\"order_qty\":\"0\",\"order_id\":\"a\"}" 29 29 ∷
+    bad "{\"event\":\"delete\",\"order_qty\":\"0\",\"limit_price\":\"x\",\"order_id\":\"a\"}" 48 30 ∷
     -- no object; no member
     none "[\"a\",\"5\",\"1\"]" ∷
     none "{}" ∷
     []
 
 examples : Each table
-unfolding table Each Holds saidOf refusedOf y·.badOrder y·.staysOf y·.eventOr e·.badPrice e·.badSize d1·.leading d1·.valueFrom d2·.isWhole d2·.fractional d2·.pointed d2·.prefix d2·.read d2·.isZero x·.isDigit x·.byteAt t1·.blank t1·.hexDigit t1·.escaped t2·.andThen t2·.skipWhile t2·.blanks t2·.digits t2·.someDigits t2·.closing t2·.separator t2·.stringRest t2·.string t2·.minus t2·.sign t2·.int t2·.fraction t2·.exponent t2·.jsonNumber t2·.startsWith t2·.literal t2·.scalar t2·.chars t2·.escape t2·.hexes j1·.next j1·.prepended j1·.onward j1·.list j1·.listOf j1·.itemsEnd j1·.element j1·.member j1·.elements j1·.members j1·.value j2·.part j2·.shortMeaning j2·.hexValue j2·.longMeaning j2·.escapeMeaning j2·.escapeLength j2·.meaning j2·.inner j2·.means p·.andThen p·.isString p·.contents p·.objectAt p·.valuesOf p·.only n·.nameByte n·.nameBytes i·.isId r·.stringAt r·.eventAt r·.rowOf r·.rowIn r·.orderRow
-examples = (refl, (refl, (refl, (refl, (refl, (refl, (refl, (refl, (refl, (refl, (refl, (refl, (refl, (refl, (refl, (refl, (refl, (refl, (refl, (refl, tt))))))))))))))))))))
+unfolding table Each Holds saidOf refusedOf y·.badQuantity y·.firstBad y·.badAt y·.staysOf y·.eventOr e·.badPrice e·.badSize d1·.leading d1·.valueFrom d2·.isWhole d2·.fractional d2·.pointed d2·.prefix d2·.read d2·.isZero x·.isDigit x·.byteAt t1·.blank t1·.hexDigit t1·.escaped t2·.andThen t2·.skipWhile t2·.blanks t2·.digits t2·.someDigits t2·.closing t2·.separator t2·.stringRest t2·.string t2·.minus t2·.sign t2·.int t2·.fraction t2·.exponent t2·.jsonNumber t2·.startsWith t2·.literal t2·.scalar t2·.chars t2·.escape t2·.hexes j1·.next j1·.prepended j1·.onward j1·.list j1·.listOf j1·.itemsEnd j1·.element j1·.member j1·.elements j1·.members j1·.value j2·.part j2·.shortMeaning j2·.hexValue j2·.longMeaning j2·.escapeMeaning j2·.escapeLength j2·.meaning j2·.inner j2·.means p·.andThen p·.isString p·.contents p·.objectAt p·.valuesOf p·.only n·.nameByte n·.nameBytes i·.isId r·.stringAt r·.eventAt r·.rowOf r·.rowIn r·.orderRow
+examples = (refl, (refl, (refl, (refl, (refl, (refl, (refl, (refl, (refl, (refl, (refl, (refl, (refl, (refl, (refl, (refl, (refl, (refl, (refl, (refl, (refl, (refl, (refl, tt)))))))))))))))))))))))

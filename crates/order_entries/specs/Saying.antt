@@ -1,8 +1,9 @@
--- What an order of a message says in numbers, and which orders check 8 refuses. Assumes nothing: these are definitions.
+-- What an order of a message says in numbers, and which of its texts check 8 refuses. Assumes nothing: these are definitions.
 use Prim.Native.Nat.{ℕ}
 use mathlib.Core.Path.{_≡_}
-use mathlib.Core.Bool.{Bool, true, false, _||_}
+use mathlib.Core.Bool.{Bool, true, false, _&&_, _||_, cond}
 use mathlib.Core.List.{List}
+use lib.Dec.{ltb}
 use Rattle.decimal.specs.Digits.{Reading, reads, refused}
 use Rattle.decimal.specs.Decimal.{number}
 use Rattle.decimal.specs.Limits.{Within}
@@ -39,8 +40,16 @@ staysOf Modify = true
 staysOf Delete = false
 
 -- Check 8: a decimal rule broken, a price of zero, or a quantity of zero "unless deleted"; in a snapshot `event` is passed over.
-unfoldable pub badOrder : Bool → List ℕ → OrderRow → Bool
-badOrder snapshot s r = badPrice s (r .price) || badSize (snapshot || staysOf (eventOr (r .event))) s (r .size)
+unfoldable pub badQuantity : Bool → List ℕ → OrderRow → Bool
+badQuantity snapshot s r = badSize (snapshot || staysOf (eventOr (r .event))) s (r .size)
+
+-- Where the first bad one of two texts begins, or 0 where none is bad.
+unfoldable pub firstBad : Bool → ℕ → Bool → ℕ → ℕ
+firstBad a i b j = cond a (cond (b && ltb j i) j i) (cond b j 0)
+
+-- Where the first text of the order that check 8 refuses begins, or 0: "first bad text in message order", and members stand in any order.
+unfoldable pub badAt : Bool → List ℕ → OrderRow → ℕ
+badAt snapshot s r = firstBad (badPrice s (r .price)) (r .price .from) (badQuantity snapshot s r) (r .size .from)
 
 -- ---- of what was found
 
@@ -55,7 +64,7 @@ rowFrom at f = record { whole = record { from = at; to = f .end }; id = idSpan f
 -- What was read of it, wherever it stands.
 pub record ReadAs (s : List ℕ) (side : Side) (f : OrderPlace) (r : OrderRead) : Type 0 where
   pub says : (at : ℕ) → orderEntry (r .entry) ≡ entryAt s side (rowFrom at f)
-  pub broken : (at : ℕ) → r .broken ≡ badOrder false s (rowFrom at f)
-  pub strict : (at : ℕ) → r .strict ≡ badOrder true s (rowFrom at f)
+  pub broken : (at : ℕ) → r .«broken_at» ≡ badAt false s (rowFrom at f)
+  pub strict : (at : ℕ) → r .«strict_at» ≡ badAt true s (rowFrom at f)
   pub price : Within (number (r .entry .price))
   pub size : Within (number (r .entry .size))

@@ -56,11 +56,14 @@ pub struct OrderPlace {
     pub well_formed: bool,
 }
 
-// What an order says, and whether check 8 refuses it: in an update, and in a snapshot.
+// What an order says.
 pub struct OrderRead {
     pub entry: Buffered,
-    pub broken: bool,
-    pub strict: bool,
+    // Where its first text begins that check 8 refuses in an update, or 0: a price that is no decimal or zero, a quantity that is no decimal, or
+    // zero unless the order is deleted.
+    pub broken_at: usize,
+    // The same in a snapshot, which passes events over.
+    pub strict_at: usize,
 }
 
 // The members of an order that were met.

@@ -5,7 +5,7 @@ ghost use Rattle.decimal.specs.Reads.{parsed};
 ghost use Rattle.json.specs.Names.{inner};
 ghost use Rattle.order_edit.specs.Ids.{idOf};
 ghost use Rattle.order_entries.specs.Collected.{Placed, Laid};
-ghost use Rattle.order_entries.specs.Saying.{eventOr, staysOf, readEvent, ReadAs};
+ghost use Rattle.order_entries.specs.Saying.{eventOr, staysOf, firstBad, readEvent, ReadAs};
 use crate::MaybeEvent;
 use crate::OrderPlace;
 use crate::OrderRead;
@@ -19,9 +19,9 @@ use order_edit::Buffered;
 use order_edit::Event;
 use order_edit::Id;
 use order_edit::id_of;
-use text::either;
+use text::both;
 
-// The entry that the order that was found is, for one side, and whether check 8 refuses it.
+// The entry that the order that was found is, for one side, and where the first of its texts begins that check 8 refuses.
 pub fn read_order(s: &[u8], side: Side, found: OrderPlace) -> OrderRead
     requires { ⌜ Laid (now s) found ⌝ }
     ensures { λ r. ⌜ ReadAs (now (s .entry)) side found r ⌝ }
@@ -32,6 +32,8 @@ pub fn read_order(s: &[u8], side: Side, found: OrderPlace) -> OrderRead
     let named = found.event;
     let event = event_or_add(named);
     let bad = is_bad_price(price);
+    let loose = is_bad_size(size, is_staying(event));
+    let zero = is_bad_size(size, true);
     OrderRead {
         entry: Buffered {
             side,
@@ -40,9 +42,25 @@ pub fn read_order(s: &[u8], side: Side, found: OrderPlace) -> OrderRead
             price: number_of(price),
             size: number_of(size),
         },
-        broken: either(bad, is_bad_size(size, is_staying(event))),
-        strict: either(bad, is_bad_size(size, true)),
+        broken_at: first_bad(bad, found.price_from, loose, found.size_from),
+        strict_at: first_bad(bad, found.price_from, zero, found.size_from),
     }
+}
+
+// Where the first bad one of two texts begins, or 0 where none is bad.
+fn first_bad(price: bool, price_at: usize, size: bool, size_at: usize) -> usize
+    ensures { λ r. ⌜ r ≡ firstBad price «price_at» size «size_at» ⌝ }
+{
+    if price {
+        if both(size, size_at < price_at) {
+            return size_at;
+        }
+        return price_at;
+    }
+    if size {
+        return size_at;
+    }
+    0
 }
 
 // The event that was named, and to add the order where none was.

@@ -1,9 +1,9 @@
 -- `first_bad` meets its contract, case by case.
 use mathlib.Core.Path.{sym, _∙_}
-use Rattle.order_arrays.specs.Tally.{firstBad}
+use Rattle.order_entries.specs.Saying.{firstBad}
 use borrow.Author.Needs.{needs}
-use Rattle.order_arrays.proofs.first_bad.Statement.{statement}
-use Rattle.order_arrays.proofs.first_bad.Tie as tie
+use Rattle.order_entries.proofs.saying.first_bad.Statement.{statement}
+use Rattle.order_entries.proofs.saying.first_bad.Tie as tie
 
 returns : tie.Need-returns
 unfolding firstBad

@@ -40,12 +40,12 @@ use Rattle.entries.proofs.Tallies.{also-reads, all-append, fold-append,
 -- ---- a list of one more, of which no more than n are kept
 
 module _ {A : Type 0} (n : ℕ) (w : List A) (full : length w ≡ n) where
-  pub kept-first : (k : ℕ) → take k w ≡ take n (take k w ++ [])
+  kept-first : (k : ℕ) → take k w ≡ take n (take k w ++ [])
   kept-first k =
       let l = length-take k w in
       sym (ap (take n) (append-nil (take k w)) ∙ take-all n (take k w) (omega arith))
 
-  pub kept-one : (a : List A) (k : ℕ) (x : A) → (k < n → length a ≡ k) → (n ≤ k → n ≤ length a) → take k w ≡ take n a → take (suc k) (set w k x) ≡ take n (a ++ (x ∷ []))
+  kept-one : (a : List A) (k : ℕ) (x : A) → (k < n → length a ≡ k) → (n ≤ k → n ≤ length a) → take k w ≡ take n a → take (suc k) (set w k x) ≡ take n (a ++ (x ∷ []))
   kept-one a k x within past h = go (ltb k n) refl
     where
       go : (b : Bool) → ltb k n ≡ b → take (suc k) (set w k x) ≡ take n (a ++ (x ∷ []))
@@ -65,7 +65,7 @@ module _ {A : Type 0} (n : ℕ) (w : List A) (full : length w ≡ n) where
           ∙ sym (take-append-le n a (x ∷ []) (past p))
 
 -- how long a front and a list are
-pub front-long : {A : Type 0} (n : ℕ) (w r : List A) (k : ℕ) → length w ≡ n → (k + length r < n → length (take k w ++ r) ≡ k + length r) × (n ≤ k + length r → n ≤ length (take k w ++ r))
+front-long : {A : Type 0} (n : ℕ) (w r : List A) (k : ℕ) → length w ≡ n → (k + length r < n → length (take k w ++ r) ≡ k + length r) × (n ≤ k + length r → n ≤ length (take k w ++ r))
 front-long n w r k h =
     let l = length-append (take k w) r in
     let m = length-take k w in

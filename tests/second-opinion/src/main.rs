@@ -159,7 +159,7 @@ impl Run {
             }
             None => (answers(session), true),
         };
-        self.counts.count(session.dialect, &answers);
+        self.counts.count(session.counted_as(), &answers);
         self.done += answers.len();
         if whole && way != Way::Swept {
             self.seen.session(session);
@@ -176,7 +176,7 @@ impl Run {
             Err(error) => return Err(format!("{}: {error}", program.display())),
         }
         let answers = answers(session);
-        self.counts.count(session.dialect, &answers);
+        self.counts.count(session.counted_as(), &answers);
         self.done += answers.len();
         self.seen.session(session);
         if how.file {

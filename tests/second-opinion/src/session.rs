@@ -36,10 +36,17 @@ impl Opening {
 
 #[derive(Clone, Debug)]
 pub struct Session {
-    /// The dialect that the session is about, where it is counted.
+    /// The dialect that the session is about.
     pub dialect: Dialect,
     pub opening: Opening,
     pub calls: Vec<Call>,
+}
+
+impl Session {
+    /// Where its answers are counted: damaged settings may be good ones of another dialect.
+    pub fn counted_as(&self) -> Dialect {
+        self.opening.settings().map_or(self.dialect, |settings| settings.dialect)
+    }
 }
 
 /// What the sessions are for.

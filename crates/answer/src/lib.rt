@@ -1,4 +1,6 @@
 // The answers of a book to messages and questions: their numbers, which of them take a message, and which leave the book as it is.
+#![tactic(auto)]
+
 ghost use mathlib.Core.Path.{_≡_};
 ghost use Rattle·answer·specs.specs.Answers.{answer_number, isTaken, leaves_status};
 

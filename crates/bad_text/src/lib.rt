@@ -1,6 +1,8 @@
 // Where the first text of a message lies that breaks a rule of decimals, for C, Rust or Python.
 //
 //     huurqan_bad_decimal(b"M 100 BTC-VND", text, out)     // lays two words into `out`, and answers 2
+#![tactic(auto)]
+
 ghost use Rattle.std.specs.Prelude.{◌≡◌};
 ghost use Rattle.line_text.specs.Opening.{line_one};
 ghost use Rattle.message.specs.Meaning.{bad_decimal};

@@ -11,6 +11,8 @@
 //     let parts = book.split();                          // `bids`, `asks` and `header`
 //     let answered = header.take(&mut bids, &mut asks, message, table);
 //     book = book::join(bids, asks, answered.header);
+#![tactic(auto)]
+
 mod taking;
 mod writing;
 

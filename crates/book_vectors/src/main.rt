@@ -8,6 +8,8 @@
 //     r                       writes it, opens a new book with the same settings, hands it the text, and goes on with that book
 //
 // Other lines are written as they are. What is to come was worked out apart from the crate, by tools/book_vectors.py.
+#![tactic(auto)]
+
 ghost use Rattle.std.specs.Prelude.{◌≡◌, ◌≤◌, length};
 ghost use Rattle.book.specs.Shown.{Good};
 

@@ -3,6 +3,8 @@
 // `feed` splits what is read into lines and answers them; what stands here are the calls of read and write. The replies to a
 // block's lines are written before the next block is read. Where reading or writing fails, the program says so on standard
 // error and ends: an unfinished line is not answered, and nothing is read after a reply that could not be written.
+#![tactic(auto)]
+
 mod streams;
 
 ghost use Rattle.std.specs.Prelude.{◌≡◌, ◌+◌, ◌<◌, ◌≤◌, false, length};

@@ -7,6 +7,8 @@
 //
 //     let level = checksum::level_of(SumText::Stripped, price, size, table);
 //     checksum::k_checksum(10, &bids.words, bids.count, &asks.words, asks.count, table)  // of the ten best asks, then the ten best bids
+#![tactic(auto)]
+
 ghost use Rattle.std.specs.Prelude.{◌≡◌, map, ◌≤◌, min, length, take, drop};
 ghost use Rattle.decimal.specs.Decimal.{number};
 ghost use Rattle.decimal.specs.Limits.{Within};

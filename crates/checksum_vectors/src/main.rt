@@ -4,6 +4,8 @@
 //     a PRICE SIZE ..       the same for asks
 //     =                     every bid and ask, then the checksum
 // What is to come was worked out apart from the crates, by tools/checksum_vectors.py.
+#![tactic(auto)]
+
 ghost use Rattle.std.specs.Prelude.{◌≡◌, ◌≤◌, length};
 ghost use Rattle.decimal.specs.Decimal.{number};
 ghost use Rattle.decimal.specs.Limits.{Within};

@@ -1,1 +1,2 @@
 // Demand 3 of the code: definitions and proofs alone.
+#![tactic(auto)]

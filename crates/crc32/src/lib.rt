@@ -7,6 +7,8 @@
 //
 // `slices` reads slices, `words` takes pieces that are numbers, `pieces` puts pieces together, `lookup` moves a state, which these stand on;
 // `table` puts pieces together by way of a table that the caller lends.
+#![tactic(auto)]
+
 mod lookup;
 mod pieces;
 mod slices;

@@ -1,1 +1,2 @@
 // What the CRC-32 catches: definitions and proofs alone.
+#![tactic(auto)]

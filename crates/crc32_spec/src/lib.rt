@@ -4,6 +4,8 @@
 // `crc` of the bytes of "123456789" is 3421780262 (specs/Examples). specs/Laws is the algebra of moving a state
 // by bits, specs/Text what the state of a text is in terms of its parts, specs/Rows what the tables hold.
 // The two functions here are what the crates of the tables share.
+#![tactic(auto)]
+
 ghost use Rattle.std.specs.Prelude.{◌≡◌, ◌*◌, ◌/◌, ◌%◌, ◌^◌, ◌<◌};
 
 // Four bits of a state, those at place j.

@@ -5,6 +5,8 @@
 // A `match` becomes a table in constant memory, where a `const` array would be built anew at each use;
 // and a table that is called at one place only, in a loop, is inlined there. The remainder of a length is the length:
 // it says that no key has the last arm, which stands for any other key, so that the look-up tests none.
+#![tactic(auto)]
+
 ghost use Rattle.std.specs.Prelude.{◌≡◌, ◌+◌, ◌*◌, ◌<◌};
 ghost use Rattle.crc32_spec.specs.Crc.{bits};
 ghost use Rattle.crc32_spec.specs.Rows.{entry_at};

@@ -2,6 +2,8 @@
 //
 // The second one takes a text bit by bit into a register that moves upwards, with the polynomial 0x04C11DB7, and turns
 // the register round at the end. Written for each group: how many comparisons were made, and how many of them differed.
+#![tactic(auto)]
+
 ghost use Rattle.std.specs.Prelude.{◌+◌, ◌≤◌, length};
 
 use text::wide;

@@ -7,6 +7,8 @@
 //
 //     let Parsed::Number(price) = decimal::parse(text) else { return; };   // `0.05120`
 //     decimal::write(price, buffer, 0);                                    // `0.05120` again
+#![tactic(auto)]
+
 mod reading;
 mod writing;
 

@@ -5,6 +5,8 @@
 //     c TEXT        a checksum
 //     < TEXT TEXT   the order of two decimals
 // A text that is refused prints `refused`. What is to come was worked out apart from the crate, by tools/decimal_vectors.py.
+#![tactic(auto)]
+
 ghost use Rattle.std.specs.Prelude.{◌≡◌, ◌≤◌, length};
 ghost use Rattle.decimal.specs.Decimal.{number};
 ghost use Rattle.decimal.specs.Limits.{Within};

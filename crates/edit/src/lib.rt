@@ -3,6 +3,8 @@
 //
 //     edit::put(&mut buffer, 0, Side::Bids, price, size);
 //     edit::entry_in(&buffer, 0).price
+#![tactic(auto)]
+
 ghost use Rattle.std.specs.Prelude.{◌≡◌, ◌<◌, length, get_or};
 ghost use Rattle.decimal.specs.Decimal.{number};
 ghost use Rattle.decimal.specs.Limits.{Within};

@@ -8,6 +8,8 @@
 //
 //     let read = entries::entries_at(s, at, SIDE_DEPTH, Form::Triple, Side::Bids, entries::none_yet(), &mut buffer);
 //     edit::entry_in(&buffer, 0)     // the first of them, if read.tally.bids is not 0
+#![tactic(auto)]
+
 ghost use Rattle.std.specs.Prelude.{◌≡◌, true, false, ◌||◌, suc, ◌+◌, ◌≤◌, ◌<◌, ◌^◌, length};
 ghost use Rattle.text.specs.Text.{byte_at};
 ghost use Rattle.decimal.specs.Digits.{refused};

@@ -7,6 +7,8 @@
 //     m TEXT    an array of entries of dialect M
 //
 // Other lines are headings. What is to come was worked out apart from the crate, by tools/entries_vectors.py.
+#![tactic(auto)]
+
 ghost use Rattle.std.specs.Prelude.{◌≡◌, length};
 ghost use Rattle.edit.specs.Buffer.{buffer_words};
 

@@ -5,6 +5,8 @@
 //
 //     let mut stream = feed::start();
 //     let block = feed::answer(stream, input, got, table, buffer);     // the replies are &buffer[..block.written]
+#![tactic(auto)]
+
 ghost use Rattle.crc32.specs.Table.{ShiftTable};
 ghost use Rattle.line_text.specs.Opening.{line_one};
 ghost use Rattle.book.specs.Shown.{Good, Opened, shows};

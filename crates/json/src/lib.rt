@@ -17,6 +17,8 @@
 //         if j == 0 { return array_close_end(s, e); }
 //         i = j;
 //     }
+#![tactic(auto)]
+
 ghost use Rattle.std.specs.Prelude.{◌≡◌, cond, eqb, ◌-◌, ◌≤◌, ◌<◌, length, take, drop};
 ghost use Rattle.json_tokens.specs.Ends.{end_of};
 ghost use Rattle.json.specs.Json.{items_end, elements, members, value};

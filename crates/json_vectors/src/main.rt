@@ -9,6 +9,8 @@
 //
 // Other lines are headings. The answer stands in front of each `+` and `-`, `=` and `!`, so a wrong one shows as two signs that differ. After the
 // table come rows of 256 answers, one for each byte at one place of a text.
+#![tactic(auto)]
+
 ghost use Rattle.std.specs.Prelude.{◌<◌, length};
 
 use json::{MAX_DEPTH, array_end, is_name, object_end, value_end};

@@ -1,5 +1,7 @@
 // What one walk over a message tells of it, in either dialect: everything that the checks need, so that the first refusal that
 // fits is chosen afterwards.
+#![tactic(auto)]
+
 ghost use Rattle.std.specs.Prelude.{◌≡◌};
 ghost use Rattle.layout.specs.MemberSpans.{few_more, no_member_span, with_member_span};
 ghost use Rattle.layout.specs.Layout.{is_snapshot};

@@ -5,6 +5,8 @@
 //     let level = level::make(price, size, sum, length);
 //     level::put_level(&mut bids, 0, level);
 //     level::price_of(level::level_in(&bids, 0))                  // the price of the best bid
+#![tactic(auto)]
+
 mod words;
 
 ghost use Rattle.std.specs.Prelude.{◌≡◌, ◌≤◌};

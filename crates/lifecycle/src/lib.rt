@@ -1,5 +1,7 @@
 // How a book stands from message to message: shut, waiting or live, which messages and questions that refuses, and the count of
 // updates.
+#![tactic(auto)]
+
 ghost use Rattle.std.specs.Prelude.{◌≡◌, ◌&&◌, ◌||◌, not, cond, length};
 ghost use Rattle.layout.specs.Layout.{is_snapshot};
 ghost use Rattle.reference.specs.Reference.{is_shut, one_more};

@@ -2,6 +2,8 @@
 //
 //     line_text::read_settings(b"M 100 BTC-VND")                        // M, 100, and the name from byte 6 on
 //     line_text::write_reply(Answer::Taken, true, 1, 1, buffer, 0)     // `0 1 1` and a line end
+#![tactic(auto)]
+
 ghost use Rattle.std.specs.Prelude.{◌≡◌, ◌≤◌, length, drop};
 ghost use Rattle.settings.specs.Settings.{shut};
 ghost use Rattle.writer.specs.Parts.{Room, Put};

@@ -1,6 +1,8 @@
 // Parts of a text: where a byte stands next, as the end of a line does.
 //
 //     let end = lines::find(s, at, lines::LINE_END);     // the line that begins at `at` is &s[at..end]
+#![tactic(auto)]
+
 ghost use Rattle.std.specs.Prelude.{◌≡◌, ◌+◌, ◌-◌, ◌≤◌, min, ltb, length, drop};
 ghost use Rattle.std.proofs.Math.Seq.{paste};
 ghost use Rattle.lines.specs.Lines.{bytes_before};

@@ -1,5 +1,7 @@
 // What a message says, from the settings and the text alone: the first refusal of checks 1 to 8 that fits, or its entries, its
 // checksum and its sequence number. One walk over the message finds out all of it.
+#![tactic(auto)]
+
 mod bad;
 
 ghost use Rattle.std.specs.Prelude.{◌≡◌, true, length};

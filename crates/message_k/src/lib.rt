@@ -5,6 +5,8 @@
 //
 //     let told = message_k::k_message(s, json_tokens::skip_blanks(s, 0), 10, b"XBT/USD");
 //     if told.end == 0 { .. }
+#![tactic(auto)]
+
 ghost use Rattle.std.specs.Prelude.{◌≡◌, ◌++◌, ◌≤◌, ◌<◌, length};
 ghost use Rattle.text.specs.Text.{ascii};
 ghost use Rattle.decimal.specs.Digits.{written};

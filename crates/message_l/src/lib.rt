@@ -1,5 +1,7 @@
 // The `data` of a message of dialect L, an array of one object, read in one walk over its bytes: whether it is JSON, and all that the checks of a
 // message need of it. Each member is read once, whatever its name, and added to what was met before.
+#![tactic(auto)]
+
 ghost use Rattle.std.specs.Prelude.{◌≡◌, ◌&&◌, ◌≤◌, length};
 ghost use Rattle.text.specs.Text.{ascii};
 ghost use Rattle.json.specs.Names.{means};

@@ -2,6 +2,8 @@
 //
 // Each member of the message, and of its `data`, is read once, whatever its name, and added to what was met before. The
 // layout is decided once all were met.
+#![tactic(auto)]
+
 ghost use Rattle.std.specs.Prelude.{◌≡◌, ◌&&◌, eqb, ◌≤◌, length};
 ghost use Rattle.text.specs.Text.{ascii};
 ghost use Rattle.decimal.specs.Reads.{parsed_checksum, parsed_whole};

@@ -8,6 +8,8 @@
 // the sequence number, in M2 the one before it, and the entries in message order: the side's letter, then digits and code of the price and of the size. Then
 // where the first bad decimal lies, and its text. Other lines are written as they are. What is to come was worked out apart from the
 // crate, by tools/message_vectors.py.
+#![tactic(auto)]
+
 ghost use Rattle.std.specs.Prelude.{◌≡◌, ◌≤◌, length};
 ghost use Rattle.edit.specs.Buffer.{buffer_words};
 

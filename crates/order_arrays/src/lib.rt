@@ -3,6 +3,8 @@
 //
 //     let read = order_arrays::orders_at(s, at, depth, Side::Bids, order_arrays::none_yet(), &mut buffer);
 //     order_edit::entry_in(&buffer, 0)     // the first of them, if read.tally.bids is not 0
+#![tactic(auto)]
+
 ghost use Rattle.std.specs.Prelude.{◌≡◌, true, false, ◌+◌, ◌≤◌, ◌<◌, ◌^◌, length};
 ghost use Rattle.order_edit.specs.Buffer.{buffer_words};
 ghost use Rattle.order_entries.specs.Collected.{Laid};

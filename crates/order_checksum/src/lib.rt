@@ -2,6 +2,8 @@
 // then of those at the ten best bid prices. The table is one that `crc32::fill_table` filled; one of no entries will do, and is slower.
 //
 //     order_checksum::checksum_of(&bids, b, &asks, a, table)
+#![tactic(auto)]
+
 ghost use Rattle.std.specs.Prelude.{◌≡◌, map, ◌*◌, ◌≤◌, length};
 ghost use Rattle.crc32_spec.specs.Crc.{crc};
 ghost use Rattle.crc32.specs.Table.{ShiftTable};

@@ -3,6 +3,8 @@
 //
 //     order_edit::put(&mut buffer, 0, Buffered { side: Side::Bids, event: Event::Add, id, price, size });
 //     order_edit::entry_in(&buffer, 0).price
+#![tactic(auto)]
+
 mod id_text;
 
 ghost use Rattle.std.specs.Prelude.{◌≡◌, ◌<◌, length, get_or};

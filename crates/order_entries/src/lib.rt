@@ -6,6 +6,8 @@
 //     let found = order_entries::order_place(s, at, depth);
 //     found.well_formed                                           // whether an order stands there
 //     order_entries::read_order(s, Side::Bids, found).entry       // what it says
+#![tactic(auto)]
+
 mod saying;
 
 ghost use Rattle.std.specs.Prelude.{◌≡◌, ◌≤◌};

@@ -4,6 +4,8 @@
 // laid. Bytes past it stay.
 //
 //     order_writer::write(b"BTC/USD", &bids, 1, &asks, 0, 123, buffer)   // `To(155)` of `{"channel":"level3",..`, or `Full`
+#![tactic(auto)]
+
 mod laying;
 mod measuring;
 

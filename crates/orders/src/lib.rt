@@ -8,6 +8,8 @@
 //     let updated = orders::update(&mut bids, b, &mut asks, a, 10, &buffer, count, table);
 //     let Updated::Done(b, a) = updated else { return; };          // how many orders each side has now
 //     orders::count_summed(&bids, b, Side::Bids)                   // how many of them a checksum runs over
+#![tactic(auto)]
+
 mod applying;
 mod cutting;
 mod moving;

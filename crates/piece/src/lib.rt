@@ -6,6 +6,8 @@
 //
 //     piece::k_piece(price, size, table)    // `5000304` for 0.05000 and 0.00000304
 //     piece::m_piece(price, size, table)    // `:9:2` for 9 and 2: a colon before each part, so that pieces are joined as they are
+#![tactic(auto)]
+
 ghost use Rattle.std.specs.Prelude.{◌+◌, ◌<◌, ◌^◌, length};
 ghost use Rattle.decimal.specs.Decimal.{number};
 ghost use Rattle.decimal.specs.Limits.{Within};

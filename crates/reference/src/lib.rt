@@ -1,4 +1,6 @@
 // The reference book, its laws and the claims over it: definitions and proofs alone, but for what its questions are about.
+#![tactic(auto)]
+
 #[derive(Drop)]
 pub enum Scope {
     // The book as it stands, if it is live.

@@ -4,6 +4,8 @@
 //
 // A call of a script is a header of six words and a message; its reply in `out` is seven words and the call's lent
 // buffer. A word has eight bytes, the lowest first. docs/REPLAY.md has the table of both.
+#![tactic(auto)]
+
 mod asking;
 mod words;
 

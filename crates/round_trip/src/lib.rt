@@ -1,1 +1,2 @@
 // What the writer writes is read back: laws alone, no code.
+#![tactic(auto)]

@@ -4,6 +4,8 @@
 //
 //     settings::choose(Dialect::K, 10, name)     // kept: 10 to 100 levels
 //     settings::choose(Dialect::M(Edition::M1), 10, name)     // shut: M has 100 levels exactly
+#![tactic(auto)]
+
 ghost use Rattle.std.specs.Prelude.{◌≡◌, ◌≤◌, length, take};
 ghost use Rattle.settings.specs.Settings.{good_depth, name_byte, name_bytes, good_name, good};
 ghost use Rattle.settings.specs.Rules.{summed_in, is_linked, rules_of};

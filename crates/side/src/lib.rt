@@ -3,6 +3,8 @@
 //
 //     let applied = side::apply(&mut bids, count, Side::Bids, 10, SumText::Stripped, &buffer, entries, table);
 //     level::level_at(Levels { words: bids, count: applied.left }, 0)        // the best bid now
+#![tactic(auto)]
+
 ghost use Rattle.std.specs.Prelude.{◌≡◌, ◌≤◌, take};
 ghost use Rattle.crc32.specs.Table.{ShiftTable};
 ghost use Rattle.edit.specs.Buffer.{entries_in};

@@ -1,5 +1,7 @@
 // The sides of a book: one with the entries of a message applied, which lie in a buffer with those for the other side, and whether
 // both together are crossed.
+#![tactic(auto)]
+
 ghost use Rattle.std.specs.Prelude.{◌≡◌, ◌≤◌, length, take};
 ghost use Rattle.crc32.specs.Table.{ShiftTable};
 ghost use Rattle.edit.specs.Edit.{for_side, side_of};

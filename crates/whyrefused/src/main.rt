@@ -3,6 +3,8 @@
 // Standard input is as for `booklines`: line 1 has the settings, and every later line is a message. For each message a line is written:
 // the number of the first check that fails, or 0, and what it means; for 8 also the position of the first bad decimal, counted from 0,
 // and its text, quotes included. A read that fails ends the input.
+#![tactic(auto)]
+
 ghost use Rattle.std.specs.Prelude.{◌≤◌, length};
 
 use answer::number_of;

@@ -4,6 +4,8 @@
 // laid. Bytes past it stay.
 //
 //     writer::k_write(10, b"XBT/USD", bids, asks, buffer)   // `To(76)` of `[0,{"as":[["0.05005",..`, or `Full`
+#![tactic(auto)]
+
 mod laying;
 mod measuring;
 

@@ -1,9 +1,10 @@
 // The answers of a book to messages and questions: their numbers, which of them take a message, and which leave the book as it is.
 #![tactic(auto)]
 
-ghost use mathlib.Core.Path.{_≡_};
-ghost use Rattle·answer·specs.specs.Answers.{answer_number, isTaken, leaves_status};
+ghost use Rattle.std.specs.Prelude.{◌≡◌};
+ghost use Rattle.answer.specs.Answers.{answer_number, is_taken, leaves_status};
 
+#[derive(Clone, Copy)]
 pub enum Answer {
     // The message is taken, or the question is answered.
     Taken,
@@ -43,7 +44,7 @@ pub enum Answer {
 
 // The number of an answer.
 pub fn number_of(answer: Answer) -> u64
-    ensures { λ r. ⌜ r ≡ answer_number answer ⌝ }
+    ensures { result ≡ answer_number answer }
 {
     match answer {
         Answer::Taken => 0,
@@ -68,14 +69,14 @@ pub fn number_of(answer: Answer) -> u64
 
 // Whether the message is taken, or the question is answered.
 pub fn is_taken(answer: Answer) -> bool
-    ensures { λ r. ⌜ r ≡ isTaken answer ⌝ }
+    ensures { result ≡ is_taken answer }
 {
     number_of(answer) == 0
 }
 
 // Whether a refusal leaves the book as it is; any other sets it waiting.
 pub fn leaves_state(answer: Answer) -> bool
-    ensures { λ r. ⌜ r ≡ leaves_status answer ⌝ }
+    ensures { result ≡ leaves_status answer }
 {
     let n = number_of(answer);
     if n == 1 {

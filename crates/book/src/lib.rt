@@ -31,7 +31,7 @@ use lifecycle::{Counts, Lifecycle, count_levels, first_state, refusal, stands};
 use reference::Scope;
 use settings::{Dialect, Settings};
 
-#[derive(Drop)]
+#[derive(Clone, Copy)]
 pub struct Book {
     bids: Levels,
     asks: Levels,
@@ -44,7 +44,7 @@ pub struct Book {
 }
 
 // A book but for the words of its sides.
-#[derive(Drop)]
+#[derive(Clone, Copy)]
 pub struct Header {
     // How many bids and asks there are.
     bids: usize,
@@ -56,7 +56,7 @@ pub struct Header {
 }
 
 // A book taken apart: the words of its sides, and its header.
-#[derive(Drop)]
+#[derive(Clone, Copy)]
 pub struct BookParts {
     pub bids: [u64; MAX_WORDS],
     pub asks: [u64; MAX_WORDS],
@@ -64,7 +64,7 @@ pub struct BookParts {
 }
 
 // The answer to a message, where the words of the sides are lent, and how many levels it moved.
-#[derive(Drop)]
+#[derive(Clone, Copy)]
 pub struct Answered {
     pub header: Header,
     pub answer: Answer,
@@ -72,7 +72,7 @@ pub struct Answered {
 }
 
 // The answer to a message, and how many levels it moved: 0 where it is refused.
-#[derive(Drop)]
+#[derive(Clone, Copy)]
 pub struct Step {
     pub book: Book,
     pub answer: Answer,
@@ -80,7 +80,7 @@ pub struct Step {
 }
 
 // How many bids and asks there are.
-#[derive(Drop)]
+#[derive(Clone, Copy)]
 pub struct CountsReply {
     pub book: Book,
     pub answer: Answer,
@@ -89,7 +89,7 @@ pub struct CountsReply {
 }
 
 // A level of a side.
-#[derive(Drop)]
+#[derive(Clone, Copy)]
 pub struct LevelReply {
     pub book: Book,
     pub answer: Answer,
@@ -98,7 +98,7 @@ pub struct LevelReply {
 }
 
 // A sequence number, a count of updates, or a length.
-#[derive(Drop)]
+#[derive(Clone, Copy)]
 pub struct NumberReply {
     pub book: Book,
     pub answer: Answer,

@@ -149,7 +149,7 @@ fn try_entries(
 }
 
 // What entries make of the bids and of the asks.
-#[derive(Drop)]
+#[derive(Clone, Copy)]
 struct Entered {
     bids: Applied,
     asks: Applied,

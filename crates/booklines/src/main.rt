@@ -30,7 +30,7 @@ fn main() {
 }
 
 // A feed after a block, and standard output.
-#[derive(Drop)]
+#[derive(Clone, Copy)]
 struct Served {
     stream: Stream,
     sink: Sink,

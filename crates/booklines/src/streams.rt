@@ -8,7 +8,7 @@ use libc::{EAGAIN, EINTR, STDERR_FILENO, STDIN_FILENO, STDOUT_FILENO};
 use lines::LINE_END;
 
 // What a read or a write did: how many bytes it moved, the descriptor to go on with, whether to call again, whether it failed.
-#[derive(Drop)]
+#[derive(Clone, Copy)]
 pub struct Moved {
     pub count: usize,
     pub fd: i32,
@@ -17,7 +17,7 @@ pub struct Moved {
 }
 
 // Standard output: its descriptor, how many messages have their whole reply in it, whether a write failed.
-#[derive(Drop)]
+#[derive(Clone, Copy)]
 pub struct Sink {
     pub answered: u64,
     pub fd: i32,

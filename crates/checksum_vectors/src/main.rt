@@ -30,7 +30,7 @@ const TABLE: usize = 5120;
 const MAX_ENTRIES: usize = 100;
 
 // A book: the rules of its dialect on checksums, its depth, its sides.
-#[derive(Drop)]
+#[derive(Clone, Copy)]
 struct Book {
     text: SumText,
     // How many levels a side are summed.
@@ -41,7 +41,7 @@ struct Book {
 }
 
 // The numbers of an entry, if they can be read.
-#[derive(Drop)]
+#[derive(Clone, Copy)]
 enum MaybeNumbers {
     Numbers(Decimal, Decimal),
     Nothing,

@@ -178,7 +178,7 @@ fn compared(group: u64, t: &[u8], n: usize) -> u64
 
 // ---- all lengths of a group
 
-#[derive(Drop)]
+#[derive(Clone, Copy)]
 struct Counts {
     made: u64,
     differing: u64,

@@ -27,53 +27,53 @@ const NEAR: u64 = 9;
 
 // The digits up to the ninth decimal as one whole number, and a code for the rest: the number of decimals up to 9, and past
 // that a 1 before the digits past the ninth decimal, as 1070 for 070.
-#[derive(Drop)]
+#[derive(Clone, Copy)]
 pub struct Decimal {
     digits: u64,
     code: u64,
 }
 
 // The words of a decimal, for whoever keeps it in words of their own.
-#[derive(Drop)]
+#[derive(Clone, Copy)]
 pub struct Parts {
     pub digits: u64,
     pub code: u64,
 }
 
 // A decimal in numbers: the digits up to the ninth decimal, those past it, and how many decimals there are.
-#[derive(Drop)]
+#[derive(Clone, Copy)]
 pub struct Split {
     pub digits: u64,
     pub past: u64,
     pub decimals: u64,
 }
 
-#[derive(Drop)]
+#[derive(Clone, Copy)]
 pub enum Parsed {
     Number(Decimal),
     Refused,
 }
 
 // A decimal at the front of a text, and the position past it.
-#[derive(Drop)]
+#[derive(Clone, Copy)]
 pub enum ParsedFront {
     Number(Decimal, usize),
     Refused,
 }
 
-#[derive(Drop)]
+#[derive(Clone, Copy)]
 pub enum ParsedWhole {
     Number(u64),
     Refused,
 }
 
-#[derive(Drop)]
+#[derive(Clone, Copy)]
 pub enum ParsedChecksum {
     Number(u32),
     Refused,
 }
 
-#[derive(Drop)]
+#[derive(Clone, Copy)]
 pub enum Order {
     Less,
     Equal,
@@ -81,7 +81,7 @@ pub enum Order {
 }
 
 // Where a text that was laid into a buffer ends, or that the buffer has no room for it and is as it was.
-#[derive(Drop)]
+#[derive(Clone, Copy)]
 pub enum Written {
     To(usize),
     Full,
@@ -89,7 +89,7 @@ pub enum Written {
 
 // What comes next of a number's text, from its end: digits past the ninth decimal; digits after the point, then the point;
 // the last digit before the point; the digits before that one.
-#[derive(Drop)]
+#[derive(Clone, Copy)]
 enum Part {
     Fraction,
     Units,
@@ -97,7 +97,7 @@ enum Part {
 }
 
 // A text that is handed out from its end. The digits of `past` but for its first are the last of it.
-#[derive(Drop)]
+#[derive(Clone, Copy)]
 pub struct Tail {
     digits: u64,
     decimals: u64,
@@ -105,7 +105,7 @@ pub struct Tail {
     part: Part,
 }
 
-#[derive(Drop)]
+#[derive(Clone, Copy)]
 pub enum Step {
     Byte(u8, Tail),
     End,

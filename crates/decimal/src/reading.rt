@@ -23,7 +23,7 @@ const POINT: u8 = 46;
 const ZERO: u8 = 48;
 
 // Digits that were read: the number that they stand for, and the position past them.
-#[derive(Drop)]
+#[derive(Clone, Copy)]
 struct Run {
     value: u64,
     end: usize,

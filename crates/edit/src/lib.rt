@@ -13,7 +13,7 @@ ghost use Rattle.edit.specs.Buffer.{max_buffered, buffer_words, side_in, entries
 
 use decimal::Decimal;
 
-#[derive(Drop)]
+#[derive(Clone, Copy)]
 pub enum Side {
     Bids,
     Asks,
@@ -33,7 +33,7 @@ const SIZE_CODE: u64 = 65_536;
 const SIDE: u64 = 4_294_967_296;
 
 // An entry that is in a buffer.
-#[derive(Drop)]
+#[derive(Clone, Copy)]
 pub struct Buffered {
     pub price: Decimal,
     pub size: Decimal,

@@ -36,7 +36,7 @@ use text::{byte_at, either};
 pub const ENTRY_DEPTH: usize = MAX_DEPTH - 3;
 
 // What makes an array an entry.
-#[derive(Drop)]
+#[derive(Clone, Copy)]
 pub enum Form {
     // Three elements or more, the first three strings: dialect K.
     Triple,
@@ -45,7 +45,7 @@ pub enum Form {
 }
 
 // What stands at a position, as an entry.
-#[derive(Drop)]
+#[derive(Clone, Copy)]
 pub struct EntryPlace {
     // Past the value, or 0 where it is not JSON.
     pub end: usize,
@@ -59,7 +59,7 @@ pub struct EntryPlace {
 }
 
 // What was met of the entries of a message so far.
-#[derive(Drop)]
+#[derive(Clone, Copy)]
 pub struct Tally {
     pub bids: usize,
     pub asks: usize,
@@ -72,7 +72,7 @@ pub struct Tally {
 }
 
 // What was met once the value at a position was read.
-#[derive(Drop)]
+#[derive(Clone, Copy)]
 pub struct Entries {
     // Past the value, or 0 where it is not JSON.
     pub end: usize,
@@ -80,7 +80,7 @@ pub struct Entries {
 }
 
 // The price and the size of an entry, and the position past the size. An end of 0 says that they were not read.
-#[derive(Drop)]
+#[derive(Clone, Copy)]
 struct Amounts {
     price: Decimal,
     size: Decimal,
@@ -88,7 +88,7 @@ struct Amounts {
 }
 
 // A decimal in quotes, and the position past them. An end of 0 says that none is there.
-#[derive(Drop)]
+#[derive(Clone, Copy)]
 struct QuotedDecimal {
     decimal: Decimal,
     end: usize,

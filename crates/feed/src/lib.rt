@@ -20,7 +20,7 @@ use lines::{LINE_END, find};
 use reference::Scope;
 
 // A book after some lines: where the next line begins, and how many bytes of replies were laid.
-#[derive(Drop)]
+#[derive(Clone, Copy)]
 pub struct Processed {
     pub book: Book,
     pub next: usize,
@@ -81,7 +81,7 @@ const CARRIED: usize = message::MAX_MESSAGE + 1;
 
 // A feed between two calls: the book, which is shut as long as line 1 has not opened it, and where in the input buffer the bytes
 // stand that were read and are not answered.
-#[derive(Drop)]
+#[derive(Clone, Copy)]
 pub struct Stream {
     pub book: Book,
     pub from: usize,
@@ -90,7 +90,7 @@ pub struct Stream {
 }
 
 // A feed after some replies, how many bytes they have, and whether the buffer has no room for a further one, so that lines may be left.
-#[derive(Drop)]
+#[derive(Clone, Copy)]
 pub struct Block {
     pub stream: Stream,
     pub written: usize,
@@ -175,7 +175,7 @@ pub fn finish(stream: Stream, input: &mut [u8], table: &[u32], buffer: &mut [u8]
 }
 
 // A book after some lines: where the next line begins, how many bytes of replies were laid, whether line 1 was among them or before.
-#[derive(Drop)]
+#[derive(Clone, Copy)]
 struct Answered {
     book: Book,
     next: usize,

@@ -17,7 +17,7 @@ pub const ITEM_DEPTH: usize = MAX_DEPTH - 1;
 pub const SIDE_DEPTH: usize = ITEM_DEPTH - 1;
 
 // What kind of message it is.
-#[derive(Drop)]
+#[derive(Clone, Copy)]
 pub enum Kind {
     // Replaces the book.
     Snapshot,
@@ -26,7 +26,7 @@ pub enum Kind {
 }
 
 // The layout of a message.
-#[derive(Drop)]
+#[derive(Clone, Copy)]
 pub struct Outline {
     // How many entries there are for each side.
     pub bids: usize,
@@ -45,7 +45,7 @@ pub struct Outline {
     pub printed: bool,
 }
 
-#[derive(Drop)]
+#[derive(Clone, Copy)]
 pub struct Scan {
     // Past the message's value, or 0 where it is not JSON.
     pub end: usize,
@@ -57,7 +57,7 @@ pub struct Scan {
 }
 
 // How often a member of one name was met, and where the value of the last one lies.
-#[derive(Drop)]
+#[derive(Clone, Copy)]
 pub struct MemberSpan {
     // 0, 1, or 2 for more often.
     pub times: usize,

@@ -32,7 +32,7 @@ pub const MAX_WORDS: usize = LEVEL_WORDS * MAX_LEVELS;
 // A price and a size as they were sent, and the CRC of the level's own piece of checksum text with its length, made by
 // whoever makes the level. `price` and `size` have the digits up to the ninth decimal; `rest` has the sum in bits 0 to 31, the
 // length in bits 32 to 39, and in 12 bits each the code of the price and that of the size (see `decimal`).
-#[derive(Drop)]
+#[derive(Clone, Copy)]
 pub struct Level {
     price: u64,
     size: u64,
@@ -40,21 +40,21 @@ pub struct Level {
 }
 
 // The words of a level, for whoever keeps it in words of their own.
-#[derive(Drop)]
+#[derive(Clone, Copy)]
 pub struct Parts {
     pub price: u64,
     pub size: u64,
     pub rest: u64,
 }
 
-#[derive(Drop)]
+#[derive(Clone, Copy)]
 pub enum Change {
     Set(Level),
     Remove(Decimal),
 }
 
 // An entry of a message.
-#[derive(Drop)]
+#[derive(Clone, Copy)]
 pub struct Entry {
     pub side: Side,
     pub change: Change,
@@ -62,13 +62,13 @@ pub struct Entry {
 
 // A side that is kept: `count` levels at the front of `words`, best first. A level is kept in words, since an array of numbers can
 // be lent, and one of structs cannot.
-#[derive(Drop)]
+#[derive(Clone, Copy)]
 pub struct Levels {
     pub words: [u64; MAX_WORDS],
     pub count: usize,
 }
 
-#[derive(Drop)]
+#[derive(Clone, Copy)]
 pub enum MaybeLevel {
     At(Level),
     Nothing,

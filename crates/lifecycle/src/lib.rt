@@ -18,7 +18,7 @@ use text::{both, either};
 
 const MAX_UPDATES: u64 = 4294967295;
 
-#[derive(Drop)]
+#[derive(Clone, Copy)]
 pub enum State {
     // Opened with bad settings.
     Shut,
@@ -28,7 +28,7 @@ pub enum State {
 }
 
 // How a book stands.
-#[derive(Drop)]
+#[derive(Clone, Copy)]
 pub struct Lifecycle {
     pub state: State,
     // Whether a snapshot was ever taken.
@@ -36,7 +36,7 @@ pub struct Lifecycle {
 }
 
 // The answer to the question how many bids and asks there are.
-#[derive(Drop)]
+#[derive(Clone, Copy)]
 pub struct Counts {
     pub answer: Answer,
     pub bids: usize,

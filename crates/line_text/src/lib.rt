@@ -22,7 +22,7 @@ const BLANK: u8 = 32;
 pub const MAX_REPLY: usize = 63;
 
 // What line 1 says: dialect, depth, and where the name begins, which goes on to the line's end.
-#[derive(Drop)]
+#[derive(Clone, Copy)]
 pub struct FirstLine {
     pub dialect: Dialect,
     pub depth: usize,

@@ -25,14 +25,14 @@ use settings::{Dialect, is_linked, rules_of};
 // The longest message of any dialect.
 pub const MAX_MESSAGE: usize = 32768;
 
-#[derive(Drop)]
+#[derive(Clone, Copy)]
 pub enum Verdict {
     Fails(Answer),
     Passes(Outline),
 }
 
 // A part of a message: its first position, and the position past it.
-#[derive(Drop)]
+#[derive(Clone, Copy)]
 pub struct Part {
     pub from: usize,
     pub to: usize,

@@ -37,7 +37,7 @@ use layout::{
 use text::{both, byte_at};
 
 // The member `c`.
-#[derive(Drop)]
+#[derive(Clone, Copy)]
 struct Sum {
     mark: MemberSpan,
     // The checksum that the last one holds, and whether it is a string that holds one.
@@ -46,7 +46,7 @@ struct Sum {
 }
 
 // What is told of one object, or of two together.
-#[derive(Drop)]
+#[derive(Clone, Copy)]
 struct Members {
     // Past the value, or 0 where it is not JSON.
     end: usize,
@@ -63,7 +63,7 @@ struct Members {
 }
 
 // What is told of the elements of the message but for the objects.
-#[derive(Drop)]
+#[derive(Clone, Copy)]
 struct Outer {
     // How many there are, up to six.
     count: usize,
@@ -77,7 +77,7 @@ struct Outer {
 }
 
 // What is told of the elements of the message.
-#[derive(Drop)]
+#[derive(Clone, Copy)]
 struct Parts {
     // Past the array, or 0 where it is not JSON.
     end: usize,

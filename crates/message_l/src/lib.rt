@@ -29,7 +29,7 @@ const OBJECT_DEPTH: usize = SIDE_DEPTH;
 const ORDERS_DEPTH: usize = OBJECT_DEPTH - 1;
 
 // The sides that were met.
-#[derive(Drop)]
+#[derive(Clone, Copy)]
 pub struct Sides {
     // Past the value of the last member, whatever its name, or 0 where it is not JSON.
     pub end: usize,
@@ -41,7 +41,7 @@ pub struct Sides {
 }
 
 // The members of the object in `data` that were met.
-#[derive(Drop)]
+#[derive(Clone, Copy)]
 pub struct Listing {
     pub sides: Sides,
     pub symbol: MemberSpan,
@@ -51,7 +51,7 @@ pub struct Listing {
 }
 
 // The value of a member `data`.
-#[derive(Drop)]
+#[derive(Clone, Copy)]
 pub struct Data {
     // Past the value, or 0 where it is not JSON.
     pub end: usize,

@@ -48,7 +48,7 @@ const GSN: usize = 6;
 const PREVIOUS: usize = 7;
 
 // The value of a member `data`.
-#[derive(Drop)]
+#[derive(Clone, Copy)]
 struct Data {
     // Past the value, or 0 where it is not JSON.
     end: usize,
@@ -60,7 +60,7 @@ struct Data {
 }
 
 // The members `data` that were met.
-#[derive(Drop)]
+#[derive(Clone, Copy)]
 struct Body {
     // Past the value of the last member, whatever its name, or 0 where it is not JSON.
     end: usize,
@@ -70,7 +70,7 @@ struct Body {
 }
 
 // The members of a message that were met.
-#[derive(Drop)]
+#[derive(Clone, Copy)]
 struct Members {
     body: Body,
     channel: MemberSpan,

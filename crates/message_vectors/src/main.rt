@@ -29,7 +29,7 @@ const BLANK: u8 = 32;
 const MAX_PADDED: usize = 40000;
 
 // Settings; the name is a part of the input.
-#[derive(Drop)]
+#[derive(Clone, Copy)]
 struct Config {
     dialect: Dialect,
     depth: usize,

@@ -19,7 +19,7 @@ use order_entries::{MaybeEvent, OrderPlace, order_place, read_order};
 use text::{both, byte_at};
 
 // What was met of the orders of a message so far.
-#[derive(Drop)]
+#[derive(Clone, Copy)]
 pub struct OrderTally {
     pub bids: usize,
     pub asks: usize,
@@ -35,7 +35,7 @@ pub struct OrderTally {
 }
 
 // What was met once the value at a position was read.
-#[derive(Drop)]
+#[derive(Clone, Copy)]
 pub struct Orders {
     // Past the value, or 0 where it is not JSON.
     pub end: usize,

@@ -18,7 +18,7 @@ use edit::Side;
 pub use id_text::{id_of, is_id};
 
 // What an entry does to an order: puts it last at its price, changes its size, or removes it.
-#[derive(Drop)]
+#[derive(Clone, Copy)]
 pub enum Event {
     Add,
     Modify,
@@ -26,7 +26,7 @@ pub enum Event {
 }
 
 // The id of an order: up to 20 bytes, eight a word, low byte first, zeros after the last.
-#[derive(Drop)]
+#[derive(Clone, Copy)]
 pub struct Id {
     pub first: u64,
     pub second: u64,
@@ -50,7 +50,7 @@ const SIDE: u64 = 4_294_967_296;
 const EVENT: u64 = 2;
 
 // An entry that is in a buffer.
-#[derive(Drop)]
+#[derive(Clone, Copy)]
 pub struct Buffered {
     pub side: Side,
     pub event: Event,

@@ -27,14 +27,14 @@ pub use saying::read_order;
 use text::{both, byte_at};
 
 // The event that an order names, if it names one.
-#[derive(Drop)]
+#[derive(Clone, Copy)]
 pub enum MaybeEvent {
     Is(Event),
     Missing,
 }
 
 // What stands at a position, as an order.
-#[derive(Drop)]
+#[derive(Clone, Copy)]
 pub struct OrderPlace {
     // Past the value, or 0 where it is not JSON.
     pub end: usize,
@@ -51,7 +51,7 @@ pub struct OrderPlace {
 }
 
 // What an order says.
-#[derive(Drop)]
+#[derive(Clone, Copy)]
 pub struct OrderRead {
     pub entry: Buffered,
     // Where its first text begins that check 8 refuses in an update, or 0: a price that is no decimal or zero, a quantity that is no decimal, or
@@ -62,7 +62,7 @@ pub struct OrderRead {
 }
 
 // The members of an order that were met.
-#[derive(Drop)]
+#[derive(Clone, Copy)]
 struct OrderMembers {
     id: MemberSpan,
     price: MemberSpan,

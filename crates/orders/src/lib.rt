@@ -36,21 +36,21 @@ pub const MAX_WORDS: usize = ORDER_WORDS * MAX_ORDERS;
 const MAX_WORKING: usize = 2 * MAX_WORDS;
 
 // The price and the size of an order with the sum of their piece of checksum text, and its id.
-#[derive(Drop)]
+#[derive(Clone, Copy)]
 pub struct Order {
     pub level: Level,
     pub id: Id,
 }
 
 // A side with a message's entries applied: how many orders it has now, or that an entry clashed.
-#[derive(Drop)]
+#[derive(Clone, Copy)]
 pub enum Applied {
     Taken(usize),
     Clash,
 }
 
 // A message on both sides: how many orders are left on each; or that an entry clashed; or that a side has too many orders.
-#[derive(Drop)]
+#[derive(Clone, Copy)]
 pub enum Updated {
     Done(usize, usize),
     Clashed,

@@ -19,7 +19,7 @@ use decimal::{Decimal, Step, Tail};
 
 const COLON: u8 = 58;
 
-#[derive(Drop)]
+#[derive(Clone, Copy)]
 pub struct Piece {
     pub sum: u32,
     pub length: u64,

@@ -13,7 +13,7 @@ use reference::Scope;
 use text::word_at;
 
 // The words of a reply, and the book after the call.
-#[derive(Drop)]
+#[derive(Clone, Copy)]
 pub struct Replied {
     pub book: Book,
     pub answer: u64,

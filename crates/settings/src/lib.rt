@@ -14,7 +14,7 @@ ghost use Rattle.settings.specs.Kept.{Chosen, Copied};
 // The longest name.
 pub const MAX_NAME: usize = 16;
 
-#[derive(Drop)]
+#[derive(Clone, Copy)]
 pub enum Dialect {
     K,
     M(Edition),
@@ -22,7 +22,7 @@ pub enum Dialect {
 }
 
 // What a venue that speaks M's messages sums, and how its updates follow one another.
-#[derive(Drop)]
+#[derive(Clone, Copy)]
 pub enum Edition {
     // All levels; an update's sequence number is greater than the book's. Plain `M` means this one.
     M1,
@@ -31,7 +31,7 @@ pub enum Edition {
 }
 
 // Which text a checksum is made of.
-#[derive(Drop)]
+#[derive(Clone, Copy)]
 pub enum SumText {
     // The asks and then the bids, digits without a point and leading zeros.
     Stripped,
@@ -40,7 +40,7 @@ pub enum SumText {
 }
 
 // What one dialect has other than another.
-#[derive(Drop)]
+#[derive(Clone, Copy)]
 pub struct Rules {
     // The longest message.
     pub longest: usize,
@@ -60,7 +60,7 @@ pub struct Rules {
 }
 
 // The name is the first `length` bytes of `name`.
-#[derive(Drop)]
+#[derive(Clone, Copy)]
 pub struct Settings {
     pub dialect: Dialect,
     pub depth: usize,

@@ -24,7 +24,7 @@ const MAX_WORKING: usize = 200;
 
 // A side with a message's entries applied and cut: how many levels are left, how many stood before the cut, how many the entries
 // moved, and whether some entry set a level at a price where one stood by then.
-#[derive(Drop)]
+#[derive(Clone, Copy)]
 pub struct Applied {
     pub left: usize,
     pub count: usize,

@@ -17,14 +17,14 @@ use settings::{Dialect, Settings};
 const CARRIED: usize = message::MAX_MESSAGE + 1;
 
 // The settings, which are those of a shut book as long as line 1 was not read.
-#[derive(Drop)]
+#[derive(Clone, Copy)]
 struct Terms {
     settings: Settings,
     opened: bool,
 }
 
 // The settings after some lines, and where the next line begins.
-#[derive(Drop)]
+#[derive(Clone, Copy)]
 struct Told {
     terms: Terms,
     next: usize,

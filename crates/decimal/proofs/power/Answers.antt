@@ -31,4 +31,4 @@ pub returns-in-8 : goal.returns-in-8
 returns-in-8 c = sym (ap (λ (n : ℕ). 10 ^ n) c.in-8.is)
 
 pub returns-in_default : goal.returns-in_default
-returns-in_default c = ap (λ (n : ℕ). 10 ^ n) (last_arm 9 c.args.k c.requires c.in_default.rest)
+returns-in_default c = ap (λ (n : ℕ). 10 ^ n) (last_arm 9 c.args.k c.requires c.in_default.in_default-own.rest)

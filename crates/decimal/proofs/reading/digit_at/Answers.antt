@@ -6,7 +6,7 @@ use Rattle.decimal.proofs.Scan.{wrapped-digit, no-digit-here}
 use Rattle.decimal.proofs.reading.digit_at.Goals as goal
 
 pub returns-then-at-s : goal.returns-then-at-s
-returns-then-at-s c = wrapped-digit _ c.wrapping_sub_u64.result (omega arith) (c.wrapping_sub_u64.ensures ∙ c.wide.ensures.0)
+returns-then-at-s c = wrapped-digit _ c.wrapping_sub_u64.result (omega arith) (c.wrapping_sub_u64.ensures.value ∙ c.wide.ensures.0)
 
 pub returns-else-at-s : goal.returns-else-at-s
 returns-else-at-s c = subst (λ (b : ℕ). DigitOf b 10) (sym (get_or-eq_default c.args.s.now 0 c.if-at-s.false)) no-digit-here

@@ -33,9 +33,9 @@ overflow_add-value c =
 
 pub overflow_add-end : goal.overflow_add-end
 overflow_add-end c =
-    let start = (goal.at.overflow_add-end c).Start in
+    let start = c in
     let h = digit-within start.args.s.now c.loop-left.end (digit-here c.digit_at-digit.ensures c.if-digit-gt9.false) in
-    omega (arith, start.well-formed)
+    omega (arith, start.well_formed)
 
 pub loop-left-preserved : goal.loop-left-preserved
 unfolding value_from

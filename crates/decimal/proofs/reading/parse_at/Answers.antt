@@ -27,7 +27,7 @@ returns-then-byte_at-ne-POINT c = front-plain (whole_part c.digits_at-whole.ensu
 
 pub overflow_add-start : goal.overflow_add-start
 unfolding byte_at
-overflow_add-start c = let h = point-within (whole_part c.digits_at-whole.ensures c.if-end-at.false (sym (ap is_digit c.byte_at.ensures) ∙ sym c.is_digit.ensures ∙ c.if-is_digit.false) (sym c.needless_zero.ensures ∙ c.if-needless_zero.false)) (sym c.byte_at-2.ensures ∙ c.if-byte_at-ne-POINT.false) in omega (arith, c.well-formed)
+overflow_add-start c = let h = point-within (whole_part c.digits_at-whole.ensures c.if-end-at.false (sym (ap is_digit c.byte_at.ensures) ∙ sym c.is_digit.ensures ∙ c.if-is_digit.false) (sym c.needless_zero.ensures ∙ c.if-needless_zero.false)) (sym c.byte_at-2.ensures ∙ c.if-byte_at-ne-POINT.false) in omega (arith, c.well_formed)
 
 pub digits_at-fraction-requires : goal.digits_at-fraction-requires
 unfolding byte_at

@@ -9,4 +9,4 @@ pub lay-requires : goal.lay-requires
 lay-requires c = let e = ap length c.text_tail.ensures in let l = length-text (number c.args.a) c.requires in omega arith
 
 pub returns : goal.returns
-returns c = subst (λ (l : List ℕ). Laid c.args.buffer.now c.args.at l c.lay.new.1.0 c.lay.result) c.text_tail.ensures c.lay.ensures
+returns c = subst (λ (l : List ℕ). Laid c.args.buffer.now c.args.at l c.lay.new.buffer c.lay.result) c.text_tail.ensures c.lay.ensures

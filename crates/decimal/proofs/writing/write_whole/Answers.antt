@@ -8,4 +8,4 @@ pub lay-requires : goal.lay-requires
 lay-requires c = let e = ap length c.whole_tail.ensures in let l = length-written 19 c.args.n (lt_of_lt_of_le c.ranges.n.fits (lit≤ tt)) in omega arith
 
 pub returns : goal.returns
-returns c = subst (λ (l : List ℕ). Laid c.args.buffer.now c.args.at l c.lay.new.1.0 c.lay.result) c.whole_tail.ensures c.lay.ensures
+returns c = subst (λ (l : List ℕ). Laid c.args.buffer.now c.args.at l c.lay.new.buffer c.lay.result) c.whole_tail.ensures c.lay.ensures

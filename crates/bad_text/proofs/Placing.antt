@@ -6,7 +6,7 @@ use mathlib.Core.List.{List, [], ◌∷◌}
 use native.Mathlib.Omega.{arith}
 use borrow.Author.Tests.{lt-ltb, le-ltb}
 use lib.ListN.{length, set}
-use Rattle.json.specs.Json.{Span}
+use Rattle.json_values.specs.Json.{Span}
 use Rattle.message.specs.Bad.{part_of}
 use Rattle.message.specs.declared.Part.{Part}
 use Rattle.bad_text.specs.Words.{placed, Placed}

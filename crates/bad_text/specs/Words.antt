@@ -1,6 +1,6 @@
 -- Where a bad text lies, as words. Assumes nothing: these are definitions.
 use Rattle.std.specs.Prelude.{ℕ, ◌≡◌, cond, List, [], ◌∷◌, ltb, length}
-use Rattle.json.specs.Json.{Span}
+use Rattle.json_values.specs.Json.{Span}
 
 -- The first position and the position past it, as the first two words of a list that has so many.
 unfoldable pub placed : Span → List ℕ → List ℕ

@@ -9,7 +9,7 @@ use lib.ListN.{length, take, length-map}
 use lib.Seq.{take_all}
 use Rattle.decimal.specs.Digits.{Reading, reads, refused}
 use Rattle.decimal.specs.Decimal.{Number, read, is_zero}
-use Rattle.json.specs.Json.{Span}
+use Rattle.json_values.specs.Json.{Span}
 use Rattle.settings.specs.Kept.{config_of}
 use Rattle.edit.specs.Edit.{Numbers, is_same, for_side, side_of}
 use Rattle.edit.specs.Buffer.{max_buffered, entries_in}
@@ -17,7 +17,7 @@ use Rattle.edit.specs.declared.Side.{Side}
 use Rattle.edit.specs.declared.Side.TheVariants.{Bids, Asks}
 use Rattle.level.specs.Ranked.{All}
 use Rattle.side.specs.Applying.{EntryWithin, Given}
-use Rattle.json.specs.Names.{inner}
+use Rattle.json_values.specs.Names.{inner}
 use Rattle.entries.specs.Rows.{Entry, number_in, is_bad_size, bad_price, bad_size, bad_texts, number_at, numbers_at}
 use Rattle.entries.specs.Tally.{Kept}
 use Rattle.entries.proofs.Numbers.{number-within}

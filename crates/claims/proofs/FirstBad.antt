@@ -10,10 +10,10 @@ use Rattle.decimal.specs.Digits.{Reading, reads, refused}
 use Rattle.edit.specs.declared.Side.{Side}
 use Rattle.edit.specs.declared.Side.TheVariants.{Bids, Asks}
 use Rattle.json_tokens.specs.Tokens.{At, scalar}
-use Rattle.json.specs.Json.{Span, Pair, Items, items, no_items, elements, members, value, items_end}
-use Rattle.json.specs.Names.{means}
-use Rattle.json.specs.Claims.{InOrder, end, then, IsElement}
-use Rattle.json.proofs.Claims.{elements-in-order, ends-within}
+use Rattle.json_values.specs.Json.{Span, Pair, Items, items, no_items, elements, members, value, items_end}
+use Rattle.json_values.specs.Names.{means}
+use Rattle.json_values.specs.Claims.{InOrder, end, then, IsElement}
+use Rattle.json_values.proofs.Claims.{elements-in-order, ends-within}
 use Rattle.entries.specs.Places.{and_then, all, and_also, contents, is_string, array_at}
 use Rattle.entries.specs.Rows.{Row, Entry, sided, row_k, row_m, row_of, entry_of, entries_at, sided_at, bad_price, bad_size, bad_texts, first_of}
 use Rattle.entries.specs.declared.Form.{Form}

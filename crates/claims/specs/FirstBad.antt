@@ -1,6 +1,6 @@
 -- The question for the first bad decimal, of messages that pass checks 2 to 7. Assumes nothing: these are definitions.
 use Rattle.std.specs.Prelude.{ℕ, ◌≤◌, ◌≡◌, true, List, ◌∷◌}
-use Rattle.json.specs.Json.{Span}
+use Rattle.json_values.specs.Json.{Span}
 use Rattle.settings.specs.Settings.{Config, good}
 use Rattle.layout.specs.Layout.{Layout}
 use Rattle.message.specs.Meaning.{passes, framed, bad, bad_decimal}

@@ -20,10 +20,10 @@ use Rattle.json_tokens.specs.Tokens.{End, At, Broken, blanks, closing, separator
 use Rattle.json_tokens.specs.Ends.{end_of}
 use Rattle.json_tokens.proofs.Laws.{end-at}
 use Rattle.json_tokens.proofs.Bounds.{bounds, closing-in}
-use Rattle.json.specs.Json.{Span, Items, items, no_items, items_end, element, elements, value}
-use Rattle.json.specs.Fold.{fold_from, folded_in}
-use Rattle.json.proofs.Laws.{value-array}
-use Rattle.json.proofs.Fold.{Loop, Left, Stands, made, over_elements, no-element, element-stands, fold-empty, fold_start, fold-wrong, fold-further, fold_on, fold-last, fold-broken}
+use Rattle.json_values.specs.Json.{Span, Items, items, no_items, items_end, element, elements, value}
+use Rattle.json_values.specs.Fold.{fold_from, folded_in}
+use Rattle.json_values.proofs.Laws.{value-array}
+use Rattle.json_values.proofs.Fold.{Loop, Left, Stands, made, over_elements, no-element, element-stands, fold-empty, fold_start, fold-wrong, fold-further, fold_on, fold-last, fold-broken}
 use Rattle.entries.specs.Places.{and_then, all, contents, array_at}
 use Rattle.entries.specs.Rows.{Row, Entry, sided, entry_of, entries_at, sided_at, is_bad, number_at, numbers_at}
 use Rattle.entries.specs.Found.{entry_place_of, row_from, price_span, size_span, entry_place_at}

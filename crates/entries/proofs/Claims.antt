@@ -12,10 +12,10 @@ use Rattle.text.specs.Text.{byte_at}
 use Rattle.decimal.specs.Digits.{Reading, reads, refused}
 use Rattle.edit.specs.declared.Side.{Side}
 use Rattle.json_tokens.specs.Tokens.{At}
-use Rattle.json.specs.Json.{Span, Items, items, no_items, elements, value}
-use Rattle.json.specs.Claims.{InOrder, then, IsElement}
-use Rattle.json.specs.Fold.{fold_from}
-use Rattle.json.proofs.Claims.{elements-in-order, ends-within}
+use Rattle.json_values.specs.Json.{Span, Items, items, no_items, elements, value}
+use Rattle.json_values.specs.Claims.{InOrder, then, IsElement}
+use Rattle.json_values.specs.Fold.{fold_from}
+use Rattle.json_values.proofs.Claims.{elements-in-order, ends-within}
 use Rattle.entries.specs.Places.{and_then, all, and_also, contents, array_at}
 use Rattle.entries.specs.Rows.{Row, Entry, sided, entry_of, entries_at, sided_at, bad_price, bad_size, is_bad, bad_texts, first_of}
 use Rattle.entries.specs.Found.{entry_place_of, price_span, size_span, entry_place_at, Placed}

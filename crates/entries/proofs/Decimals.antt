@@ -19,7 +19,7 @@ use Rattle.decimal.proofs.Scan.{prefix-refused, prefix-pointed, pointed-plain, p
 use Rattle.decimal.proofs.RoundTrip.{Shape, plain, with-point, read-shape, prefix-stop}
 use Rattle.json_tokens.specs.Tokens.{At, blanks, chars, separator, string_rest, string}
 use Rattle.json_tokens.proofs.Laws.{here, in-byte, string-yes}
-use Rattle.json.specs.Names.{inner}
+use Rattle.json_values.specs.Names.{inner}
 use Rattle.entries.specs.Rows.{is_bad_price, is_bad_size, bad_price, bad_size, is_bad, number_in, number_at}
 use Rattle.entries.specs.Found.{entry_place_of, price_span, size_span, row_from, entry_place_at}
 use Rattle.entries.specs.Front.{EntryEnd}

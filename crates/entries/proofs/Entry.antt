@@ -14,10 +14,10 @@ use Rattle.json_tokens.specs.Ends.{end_of}
 use Rattle.json_tokens.proofs.Laws.{end-at}
 use Rattle.json_tokens.proofs.Bounds.{bounds, end-broken, closing-in, separator-in}
 use lib.ListN.{length}
-use Rattle.json.specs.Json.{Span, item, ends, Items, items, no_items, next, prepended, onward, list, items_end, elements, value}
-use Rattle.json.proofs.Laws.{value-array, before-end, element-is, element-wrong, later-item, later-ends, later-wrong}
-use Rattle.json.proofs.Bounds.{value_in}
-use Rattle.json.proofs.Walk.{Walk, walk, walk_ends, walk-wrong, walk_is, walk-item}
+use Rattle.json_values.specs.Json.{Span, item, ends, Items, items, no_items, next, prepended, onward, list, items_end, elements, value}
+use Rattle.json_values.proofs.Laws.{value-array, before-end, element-is, element-wrong, later-item, later-ends, later-wrong}
+use Rattle.json_values.proofs.Bounds.{value_in}
+use Rattle.json_values.proofs.Walk.{Walk, walk, walk_ends, walk-wrong, walk_is, walk-item}
 use Rattle.entries.specs.Places.{and_then, is_string, contents, array_at}
 use Rattle.entries.specs.Rows.{Row, row_k, row_m, row_of, entry_of}
 use Rattle.entries.specs.Found.{entry_place_of, price_span, size_span, entry_place_at}

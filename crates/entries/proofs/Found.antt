@@ -10,9 +10,9 @@ use Rattle.json_tokens.specs.Tokens.{End, At, Broken}
 use Rattle.json_tokens.specs.Ends.{end_of}
 use Rattle.json_tokens.proofs.Laws.{end-at}
 use Rattle.json_tokens.proofs.Bounds.{bounds, end-broken}
-use Rattle.json.specs.Json.{Span, value}
-use Rattle.json.proofs.Bounds.{value_in}
-use Rattle.json.specs.Names.{inner}
+use Rattle.json_values.specs.Json.{Span, value}
+use Rattle.json_values.proofs.Bounds.{value_in}
+use Rattle.json_values.specs.Names.{inner}
 use Rattle.entries.specs.Rows.{Row, entry_of}
 use Rattle.entries.specs.Found.{entry_place_of, price_span, size_span, entry_place_at, Laid}
 use Rattle.entries.specs.declared.Form.{Form}

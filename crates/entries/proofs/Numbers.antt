@@ -8,8 +8,8 @@ use Rattle.decimal.specs.Digits.{Reading, reads, refused}
 use Rattle.decimal.specs.Decimal.{Number, read}
 use Rattle.decimal.specs.Limits.{Within}
 use Rattle.decimal.proofs.RoundTrip.{read-within}
-use Rattle.json.specs.Json.{Span}
-use Rattle.json.specs.Names.{inner}
+use Rattle.json_values.specs.Json.{Span}
+use Rattle.json_values.specs.Names.{inner}
 use Rattle.entries.specs.Rows.{number_in, number_at}
 
 pub number-within : (s : List ℕ) (a : Span) → Within (number_at s a)

@@ -18,12 +18,12 @@ use Rattle.json_tokens.specs.Ends.{end_of}
 use Rattle.json_tokens.proofs.Laws.{end-at}
 use Rattle.json_tokens.proofs.Bounds.{bounds, end-broken}
 use Rattle.json_tokens.proofs.Shift.{Shifts, shifts-at, shifts-broken, past_one, byte-shift}
-use Rattle.json.specs.Json.{Span, Items, elements, value}
-use Rattle.json.specs.Fold.{fold_from}
-use Rattle.json.proofs.Bounds.{value_in}
-use Rattle.json.proofs.Shift.{shifted_span, ItemsShifts, both-items, no_items, value-shifts, elements-shift}
+use Rattle.json_values.specs.Json.{Span, Items, elements, value}
+use Rattle.json_values.specs.Fold.{fold_from}
+use Rattle.json_values.proofs.Bounds.{value_in}
+use Rattle.json_values.proofs.Shift.{shifted_span, ItemsShifts, both-items, no_items, value-shifts, elements-shift}
 use Rattle.entries.specs.Places.{and_then, all, is_string, contents, array_at}
-use Rattle.json.specs.Names.{inner}
+use Rattle.json_values.specs.Names.{inner}
 use Rattle.entries.specs.Rows.{Row, Entry, sided, row_k, row_m, row_of, entry_of, entries_at, sided_at, is_bad_price, is_bad_size, bad_price, bad_size, is_bad, number_in, number_at, numbers_at}
 use Rattle.entries.specs.Tally.{told_not, one_more, or_not, one_span, spans_tally, array_tally, told_at, met, Met}
 use Rattle.entries.specs.declared.Form.{Form}

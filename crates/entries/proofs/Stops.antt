@@ -12,9 +12,9 @@ use Rattle.decimal.specs.Digits.{Reading, refused}
 use Rattle.json_tokens.specs.Tokens.{End, At, Broken, blanks, closing, separator, string}
 use Rattle.json_tokens.proofs.Laws.{closing-no, separator-no, string-no}
 use Rattle.json_tokens.proofs.Bounds.{bounds, blanks-in, separator-in, string-in}
-use Rattle.json.specs.Json.{Span, Next, item, ends, wrong, Items, items, no_items, next, prepended, onward, element, elements, value}
-use Rattle.json.proofs.Laws.{value-string, element-is, later-item, later-ends, later-wrong}
-use Rattle.json.proofs.Walk.{Walk, walk_start, walk_is, walk-item}
+use Rattle.json_values.specs.Json.{Span, Next, item, ends, wrong, Items, items, no_items, next, prepended, onward, element, elements, value}
+use Rattle.json_values.proofs.Laws.{value-string, element-is, later-item, later-ends, later-wrong}
+use Rattle.json_values.proofs.Walk.{Walk, walk_start, walk_is, walk-item}
 use Rattle.entries.specs.Places.{is_string}
 use Rattle.entries.specs.Rows.{Row}
 

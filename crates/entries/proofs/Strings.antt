@@ -14,10 +14,10 @@ use Rattle.json_tokens.specs.Bytes.{hex_digit, escaped}
 use Rattle.json_tokens.specs.Tokens.{End, At, Broken, chars, escape, hexes, string_rest, string}
 use Rattle.json_tokens.proofs.Laws.{string-yes}
 use Rattle.json_tokens.proofs.Bounds.{In, within, none, bounds, in-when, in-sub, string-in}
-use Rattle.json.specs.Json.{Span, Items, items, no_items, elements, value}
-use Rattle.json.specs.Claims.{InOrder, then, IsElement}
-use Rattle.json.proofs.Laws.{value-string}
-use Rattle.json.proofs.Claims.{elements-in-order}
+use Rattle.json_values.specs.Json.{Span, Items, items, no_items, elements, value}
+use Rattle.json_values.specs.Claims.{InOrder, then, IsElement}
+use Rattle.json_values.proofs.Laws.{value-string}
+use Rattle.json_values.proofs.Claims.{elements-in-order}
 use Rattle.entries.specs.Places.{and_then, is_string, contents, array_at}
 use Rattle.entries.specs.Rows.{Row, row_k, row_m, row_of, entry_of}
 use Rattle.entries.specs.declared.Form.{Form}

@@ -12,8 +12,8 @@ use Rattle.edit.specs.declared.Side.{Side}
 use Rattle.edit.specs.declared.Side.TheVariants.{Bids, Asks}
 use Rattle.json_tokens.specs.Tokens.{End, At, Broken}
 use Rattle.json_tokens.specs.Ends.{end_of}
-use Rattle.json.specs.Json.{Span, value}
-use Rattle.json.specs.Fold.{fold_from}
+use Rattle.json_values.specs.Json.{Span, value}
+use Rattle.json_values.specs.Fold.{fold_from}
 use Rattle.entries.specs.Places.{and_then, all, and_also, array_at}
 use Rattle.entries.specs.Rows.{Row, Entry, sided, entry_of, entries_at, sided_at, numbers_at}
 use Rattle.entries.specs.Tally.{none_yet, told_not, one_bid, one_ask, with_entry, one_more, tally_of, Tells, Kept, or_not, one_span, spans_tally, array_tally, told_at, met, Met}

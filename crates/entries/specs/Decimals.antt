@@ -4,7 +4,7 @@ use Rattle.std.specs.Prelude.{ℕ, List, ◌≡◌}
 use Rattle.decimal.specs.Digits.{reads}
 use Rattle.decimal.specs.Decimal.{number, read}
 use Rattle.json_tokens.specs.Tokens.{At, string}
-use Rattle.json.specs.Names.{inner}
+use Rattle.json_values.specs.Names.{inner}
 use Rattle.entries.specs.Found.{price_span, size_span}
 use Rattle.entries.specs.Front.{Two}
 use Rattle.entries.specs.declared.EntryPlace.{EntryPlace}

@@ -6,7 +6,7 @@ use Rattle.decimal.specs.Digits.{reads, refused}
 use Rattle.json_tokens.specs.Bytes.{open_array, comma, close_array}
 use Rattle.json_tokens.specs.Tokens.{End, At, Broken, blanks, separator, string}
 use Rattle.json_tokens.specs.Ends.{end_of}
-use Rattle.json.specs.Json.{list, items_end, element, value}
+use Rattle.json_values.specs.Json.{list, items_end, element, value}
 use Rattle.entries.specs.Rows.{entry_of}
 use Rattle.entries.specs.Found.{entry_place_of, row_from, entry_place_at}
 use Rattle.entries.specs.declared.Form.{Form}

@@ -6,8 +6,8 @@ use Rattle.decimal.specs.Digits.{Reading, reads, refused}
 use Rattle.decimal.specs.Whole.{read_whole, read_checksum}
 use Rattle.json_tokens.specs.Bytes.{quote, open_array, open_object}
 use Rattle.json_tokens.specs.Tokens.{At, Broken, blanks}
-use Rattle.json.specs.Json.{Span, Pair, Items, items, no_items, elements, members, value, max_depth}
-use Rattle.json.specs.Names.{part, inner, means}
+use Rattle.json_values.specs.Json.{Span, Pair, Items, items, no_items, elements, members, value, max_depth}
+use Rattle.json_values.specs.Names.{part, inner, means}
 
 -- What was read, and then what is read of it.
 unfoldable pub and_then : {A B : Type 0} → Reading A → (A → Reading B) → Reading B

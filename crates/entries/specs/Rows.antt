@@ -5,9 +5,9 @@ use Rattle.decimal.specs.Digits.{Reading, reads, refused}
 use Rattle.decimal.specs.Decimal.{Number, read, is_zero}
 use Rattle.edit.specs.Edit.{Numbers}
 use Rattle.edit.specs.declared.Side.{Side}
-use Rattle.json.specs.Json.{Span}
+use Rattle.json_values.specs.Json.{Span}
 use Rattle.entries.specs.Places.{and_then, all, is_string, array_at}
-use Rattle.json.specs.Names.{inner}
+use Rattle.json_values.specs.Names.{inner}
 use Rattle.entries.specs.declared.Form.{Form}
 use Rattle.entries.specs.declared.Form.TheVariants.{Triple, Pair}
 

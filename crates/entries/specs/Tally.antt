@@ -7,8 +7,8 @@ use Rattle.edit.specs.Buffer.{max_buffered, buffer_words, entries_in, Put}
 use Rattle.edit.specs.declared.Side.{Side}
 use Rattle.edit.specs.declared.Side.TheVariants.{Bids, Asks}
 use Rattle.json_tokens.specs.Tokens.{At, Broken}
-use Rattle.json.specs.Json.{Span, value}
-use Rattle.json.specs.Fold.{fold_from}
+use Rattle.json_values.specs.Json.{Span, value}
+use Rattle.json_values.specs.Fold.{fold_from}
 use Rattle.entries.specs.Places.{array_at}
 use Rattle.entries.specs.Rows.{Row, Entry, sided, entry_of, sided_at, is_bad, number_at, numbers_at}
 use Rattle.entries.specs.Found.{price_span, size_span, row_from}

@@ -18,8 +18,8 @@ ghost use Rattle.decimal.specs.Reads.{parsed};
 ghost use Rattle.edit.specs.Buffer.{buffer_words};
 ghost use Rattle.json_tokens.specs.Bytes.{open_array};
 ghost use Rattle.json_tokens.specs.Ends.{end_of};
-ghost use Rattle.json.specs.Json.{value};
-ghost use Rattle.json.specs.Names.{inner};
+ghost use Rattle.json_values.specs.Json.{value};
+ghost use Rattle.json_values.specs.Names.{inner};
 ghost use Rattle.entries.specs.Rows.{is_bad_price, is_bad_size, number_in};
 ghost use Rattle.entries.specs.Found.{entry_place_of, entry_place_at, Quoted, Laid};
 ghost use Rattle.entries.specs.Tally.{none_yet, told_not, earliest, with_entry, Counted, Met};
@@ -28,7 +28,7 @@ ghost use Rattle.entries.specs.Decimals.{QuotedAt, TwoDecimals};
 
 use decimal::{Decimal, Parsed, ParsedFront, parse};
 use edit::{BUFFER_WORDS, Side, put};
-use json::{MAX_DEPTH, value_end};
+use json_values::{MAX_DEPTH, value_end};
 use json_tokens::{OPEN_ARRAY, QUOTE, array_close_end, comma_end, skip_blanks, string_end};
 use text::{byte_at, either};
 

@@ -9,10 +9,10 @@ use borrow.Author.Tests.{eq-eqb, ne_eqb, eqb-true, eqb-false}
 use lib.Dec.{eqb}
 use lib.ListN.{length}
 use Rattle.decimal.specs.Digits.{Reading, reads, refused}
-use Rattle.json.specs.Json.{Span, Pair}
-use Rattle.json.specs.Names.{means}
+use Rattle.json_values.specs.Json.{Span, Pair}
+use Rattle.json_values.specs.Names.{means}
 use Rattle.entries.specs.Places.{and_then, values_of, only}
-use Rattle.json.specs.Fold.{fold_from}
+use Rattle.json_values.specs.Fold.{fold_from}
 use Rattle.layout.specs.MemberSpans.{few, few_more, no_member_span, with_member_span, member_span_of, once_at, on_hit, on_member}
 use Rattle.layout.specs.declared.MemberSpan.{MemberSpan}
 

@@ -11,11 +11,11 @@ use Rattle.decimal.specs.Digits.{Reading, reads, refused}
 use Rattle.text.specs.Text.{byte_at}
 use Rattle.json_tokens.specs.Tokens.{Broken, blanks, closing}
 use Rattle.json_tokens.specs.Ends.{end_of}
-use Rattle.json.specs.Json.{Span, Pair, Items, items, no_items, items_end, members, value}
-use Rattle.json.proofs.Laws.{value-object}
+use Rattle.json_values.specs.Json.{Span, Pair, Items, items, no_items, items_end, members, value}
+use Rattle.json_values.proofs.Laws.{value-object}
 use Rattle.entries.specs.Places.{contents, object_at}
-use Rattle.json.specs.Fold.{fold_from, folded_in}
-use Rattle.json.proofs.Fold.{over_members, Left, fold-empty, fold_start, pair_at}
+use Rattle.json_values.specs.Fold.{fold_from, folded_in}
+use Rattle.json_values.proofs.Fold.{over_members, Left, fold-empty, fold_start, pair_at}
 use Rattle.layout.specs.MemberSpans.{member_at}
 
 pub contents-broken : {A : Type 0} (x : Items A) → items_end x ≡ Broken → contents x ≡ refused

@@ -1,6 +1,6 @@
 -- How deep arrays and objects may nest in what lies in a message, in either dialect. Assumes nothing: these are definitions.
 use Rattle.std.specs.Prelude.{ℕ, ◌-◌}
-use Rattle.json.specs.Json.{max_depth}
+use Rattle.json_values.specs.Json.{max_depth}
 
 -- In an item of the message: an element in K, a member in M.
 abbrev pub item_depth : ℕ

@@ -2,8 +2,8 @@
 use Rattle.std.specs.Prelude.{ℕ, Bool, true, false, cond, List, [], ◌∷◌}
 use Rattle.decimal.specs.Digits.{Reading, reads}
 use Rattle.edit.specs.declared.Side.TheVariants.{Bids, Asks}
-use Rattle.json.specs.Json.{Pair}
-use Rattle.json.specs.Names.{means}
+use Rattle.json_values.specs.Json.{Pair}
+use Rattle.json_values.specs.Names.{means}
 use Rattle.entries.specs.Places.{and_then, and_also}
 use Rattle.entries.specs.Rows.{Entry, sided_at}
 use Rattle.entries.specs.declared.Form.{Form}

@@ -3,9 +3,9 @@
 use Rattle.std.specs.Prelude.{ℕ, zero, suc, Bool, cond, List, eqb}
 use Rattle.decimal.specs.Digits.{Reading, reads, refused}
 use Rattle.json_tokens.specs.Ends.{end_of}
-use Rattle.json.specs.Json.{Span, Pair, value}
-use Rattle.json.specs.Names.{means}
-use Rattle.json.specs.Fold.{fold_from}
+use Rattle.json_values.specs.Json.{Span, Pair, value}
+use Rattle.json_values.specs.Names.{means}
+use Rattle.json_values.specs.Fold.{fold_from}
 use Rattle.layout.specs.declared.MemberSpan.{MemberSpan}
 
 -- none, one, or more

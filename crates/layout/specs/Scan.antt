@@ -2,7 +2,7 @@
 use Rattle.std.specs.Prelude.{ℕ, Bool, true, false, cond, List, ◌≡◌}
 use Rattle.decimal.specs.Digits.{Reading, reads, refused}
 use Rattle.json_tokens.specs.Tokens.{At, Broken}
-use Rattle.json.specs.Json.{Span, value, max_depth}
+use Rattle.json_values.specs.Json.{Span, value, max_depth}
 use Rattle.entries.specs.Tally.{tally_of, Kept}
 use Rattle.entries.specs.declared.Tally.{Tally}
 use Rattle.layout.specs.Layout.{is_snapshot, Printed, printed, unprinted, Layout, Envelope}

@@ -8,7 +8,7 @@ ghost use Rattle.layout.specs.Layout.{is_snapshot};
 ghost use Rattle.layout.specs.Scan.{bad_at, outline_from, no_outline, not_framed};
 
 use entries::Tally;
-use json::MAX_DEPTH;
+use json_values::MAX_DEPTH;
 
 // How deep arrays and objects may nest in an item of the message (an element in K, a member in M), and in an item of that, as a
 // side's array of entries is one.

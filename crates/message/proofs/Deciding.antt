@@ -11,8 +11,8 @@ use lib.ListN.{length}
 use Rattle.decimal.specs.Digits.{Reading, reads, refused}
 use Rattle.json_tokens.specs.Tokens.{End, At, Broken, blanks, ended}
 use Rattle.json_tokens.proofs.Bounds.{bounds}
-use Rattle.json.specs.Json.{Span, value, text}
-use Rattle.json.proofs.Bounds.{value_in}
+use Rattle.json_values.specs.Json.{Span, value, text}
+use Rattle.json_values.proofs.Bounds.{value_in}
 use Rattle.entries.specs.Places.{top}
 use Rattle.edit.specs.declared.Side.TheVariants.{Bids, Asks}
 use Rattle.entries.specs.Rows.{bad_texts}

@@ -10,7 +10,7 @@ use lib.Dec.{ltb}
 use lib.ListN.{length}
 use Rattle.decimal.specs.Digits.{Reading, reads, refused}
 use Rattle.edit.specs.declared.Side.TheVariants.{Bids, Asks}
-use Rattle.json.specs.Json.{Span, text}
+use Rattle.json_values.specs.Json.{Span, text}
 use Rattle.settings.specs.Settings.{Config, good, good_depth}
 use Rattle.settings.specs.Rules.{rules_of}
 use Rattle.settings.specs.declared.Dialect.{Dialect}

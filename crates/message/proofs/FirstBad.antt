@@ -9,7 +9,7 @@ use borrow.Author.Tests.{eqb-true, eqb-false, eq-eqb, ne_eqb}
 use lib.Dec.{eqb}
 use lib.ListN.{length}
 use Rattle.decimal.specs.Digits.{reads}
-use Rattle.json.specs.Json.{Span}
+use Rattle.json_values.specs.Json.{Span}
 use Rattle.settings.specs.Settings.{Config, good}
 use Rattle.entries.specs.Rows.{bad_price, bad_texts, first_of}
 use Rattle.entries.specs.Found.{entry_place_at, price_span, size_span, Placed}

@@ -10,9 +10,9 @@ use Rattle.text.specs.Text.{byte_at}
 use Rattle.decimal.specs.Digits.{Reading, reads, refused}
 use Rattle.json_tokens.specs.Tokens.{At, scalar}
 use Rattle.json_tokens.proofs.Bounds.{bounds, string-in, separator-in}
-use Rattle.json.specs.Json.{Span, Pair, Items, items, no_items, items_end, elements, members, value}
-use Rattle.json.specs.Claims.{InOrder, end, then, IsElement, IsMember}
-use Rattle.json.proofs.Claims.{elements-in-order, members-in-order, ends-within}
+use Rattle.json_values.specs.Json.{Span, Pair, Items, items, no_items, items_end, elements, members, value}
+use Rattle.json_values.specs.Claims.{InOrder, end, then, IsElement, IsMember}
+use Rattle.json_values.proofs.Claims.{elements-in-order, members-in-order, ends-within}
 use Rattle.entries.specs.Places.{and_then, all, contents, array_at, object_at}
 use Rattle.entries.specs.Rows.{Entry}
 use Rattle.entries.specs.declared.Form.{Form}

@@ -11,7 +11,7 @@ use lib.ListN.{length}
 use Rattle.decimal.specs.Digits.{Reading, reads, refused}
 use Rattle.json_tokens.specs.Tokens.{End, At, Broken, blanks, ended}
 use Rattle.json_tokens.specs.Ends.{end_of}
-use Rattle.json.specs.Json.{Span, value, text}
+use Rattle.json_values.specs.Json.{Span, value, text}
 use Rattle.entries.specs.Places.{top}
 use Rattle.entries.specs.Tally.{Kept}
 use Rattle.settings.specs.Settings.{Config, good_depth, good_name, good}

@@ -12,10 +12,10 @@ use Rattle.decimal.specs.Decimal.{is_whole}
 use Rattle.decimal.specs.Whole.{read_whole, at_most, read_checksum}
 use Rattle.decimal.proofs.Digits.{Digits, leading-digits, value-below, tens-mono}
 use Rattle.decimal.proofs.Scan.{leading-whole}
-use Rattle.json.specs.Names.{part, means, inner}
+use Rattle.json_values.specs.Names.{part, means, inner}
 use Rattle.edit.specs.declared.Side.TheVariants.{Bids, Asks}
-use Rattle.json.specs.Json.{Span, Pair, text}
-use Rattle.json.specs.Claims.{InOrder, IsElement}
+use Rattle.json_values.specs.Json.{Span, Pair, text}
+use Rattle.json_values.specs.Claims.{InOrder, IsElement}
 use Rattle.settings.specs.Settings.{Config}
 use Rattle.settings.specs.Rules.{is_linked, rules_of}
 use Rattle.settings.specs.declared.Dialect.{Dialect}

@@ -5,7 +5,7 @@ use Rattle.decimal.specs.Digits.{Reading, reads, refused}
 use Rattle.edit.specs.Edit.{PriceLevel, Edit, Numbers, edit_of, for_side}
 use Rattle.edit.specs.declared.Side.{Side}
 use Rattle.edit.specs.declared.Side.TheVariants.{Bids, Asks}
-use Rattle.json.specs.Json.{Span, text}
+use Rattle.json_values.specs.Json.{Span, text}
 use Rattle.settings.specs.Settings.{Config, good}
 use Rattle.settings.specs.Rules.{is_linked, rules_of}
 use Rattle.entries.specs.Places.{top}

@@ -1,6 +1,6 @@
 // The first text of a message that breaks a rule of decimals.
 ghost use Rattle.std.specs.Prelude.{◌≡◌, ◌+◌, true};
-ghost use Rattle.json.specs.Names.{part};
+ghost use Rattle.json_values.specs.Names.{part};
 ghost use Rattle.settings.specs.Settings.{good};
 ghost use Rattle.entries.specs.Found.{entry_depth, entry_place_at, Placed};
 ghost use Rattle.message.specs.Meaning.{bad_decimal, first_bad_of, framed};

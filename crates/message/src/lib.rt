@@ -15,7 +15,7 @@ ghost use Rattle.message.specs.Deciding.{decided, addressed_scan, laid_outline};
 use answer::Answer;
 pub use bad::{bad_decimal, bad_place};
 use edit::BUFFER_WORDS;
-use json::{MAX_DEPTH, value_end};
+use json_values::{MAX_DEPTH, value_end};
 use json_tokens::{is_ended, skip_blanks};
 use layout::{Outline, Scan, not_framed};
 use message_k::k_message;

@@ -10,9 +10,9 @@ use lib.ListN.{length}
 use Rattle.text.specs.Text.{byte_at}
 use Rattle.decimal.specs.Digits.{Reading, reads, refused}
 use Rattle.json_tokens.specs.Tokens.{At}
-use Rattle.json.specs.Json.{Span, Pair, Items, items, elements, value}
-use Rattle.json.specs.Fold.{fold_from, folded_in}
-use Rattle.json.proofs.Fold.{Loop, Left, made, over_elements}
+use Rattle.json_values.specs.Json.{Span, Pair, Items, items, elements, value}
+use Rattle.json_values.specs.Fold.{fold_from, folded_in}
+use Rattle.json_values.proofs.Fold.{Loop, Left, made, over_elements}
 use Rattle.entries.specs.Places.{object_at}
 use Rattle.entries.specs.Tally.{met, none_yet, Tells, Kept}
 use Rattle.entries.proofs.Tallies.{tells_none, kept-none}

@@ -11,10 +11,10 @@ use Rattle.decimal.specs.Digits.{Reading, reads, refused}
 use Rattle.json_tokens.specs.Tokens.{At, separator, closing}
 use Rattle.json_tokens.specs.Ends.{end_of}
 use Rattle.json_tokens.proofs.Bounds.{bounds}
-use Rattle.json.specs.Json.{Pair, Items, items, no_items, member, members, value}
-use Rattle.json.specs.Fold.{fold_from, folded_in}
-use Rattle.json.proofs.Bounds.{value_in}
-use Rattle.json.proofs.Fold.{Loop, Left, Stands, made, over_members, fold_start, fold-empty, fold_on, fold-last}
+use Rattle.json_values.specs.Json.{Pair, Items, items, no_items, member, members, value}
+use Rattle.json_values.specs.Fold.{fold_from, folded_in}
+use Rattle.json_values.proofs.Bounds.{value_in}
+use Rattle.json_values.proofs.Fold.{Loop, Left, Stands, made, over_members, fold_start, fold-empty, fold_on, fold-last}
 use Rattle.entries.specs.Places.{contents, object_at}
 use Rattle.entries.specs.Rows.{Entry}
 use Rattle.entries.specs.Tally.{met, none_yet, Tells, Kept}

@@ -11,9 +11,9 @@ use borrow.Author.Tests.{eqb-true, leb-true}
 use Rattle.text.specs.Text.{ascii}
 use Rattle.decimal.specs.Digits.{Reading, reads, refused}
 use Rattle.edit.specs.declared.Side.TheVariants.{Bids, Asks}
-use Rattle.json.specs.Json.{Span, Pair}
-use Rattle.json.specs.Names.{means}
-use Rattle.json.specs.Fold.{fold_from}
+use Rattle.json_values.specs.Json.{Span, Pair}
+use Rattle.json_values.specs.Names.{means}
+use Rattle.json_values.specs.Fold.{fold_from}
 use Rattle.entries.specs.Places.{and_then, and_also, values_of, only, quoted_checksum_at}
 use Rattle.entries.specs.Rows.{Entry, sided_at}
 use Rattle.entries.specs.Tally as tallies·

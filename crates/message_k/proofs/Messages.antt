@@ -12,17 +12,17 @@ use Rattle.decimal.specs.Digits.{Reading, reads, refused, written}
 use Rattle.text.specs.Text.{byte_at}
 use Rattle.json_tokens.specs.Tokens.{End, At, Broken}
 use Rattle.json_tokens.specs.Ends.{end_of}
-use Rattle.json.specs.Json.{Span, Pair, Items, items, no_items, items_end, elements, value}
-use Rattle.json.proofs.Laws.{value-array}
+use Rattle.json_values.specs.Json.{Span, Pair, Items, items, no_items, items_end, elements, value}
+use Rattle.json_values.proofs.Laws.{value-array}
 use Rattle.entries.specs.Places.{and_then, all, contents, array_at, object_at, whole_at}
-use Rattle.json.specs.Names.{means}
-use Rattle.json.proofs.Names.{means-no-quote}
+use Rattle.json_values.specs.Names.{means}
+use Rattle.json_values.proofs.Names.{means-no-quote}
 use Rattle.entries.specs.Rows.{Entry}
 use Rattle.entries.specs.Tally.{Kept}
 use Rattle.entries.proofs.Tallies.{fold-append}
 use Rattle.layout.specs.Layout.{Layout, Envelope}
 use Rattle.layout.specs.Scan.{outline_of, not_framed, scan_of, scan_at}
-use Rattle.json.specs.Fold.{fold_from, folded_in}
+use Rattle.json_values.specs.Fold.{fold_from, folded_in}
 use Rattle.layout.specs.declared.Scan.{Scan}
 use Rattle.message_k.specs.LayoutK.{together, Frame, frame_of, ours_k, objects_layout, layout_k, envelope_k}
 use Rattle.message_k.specs.MembersK.{is_read, with_held, held_in, with_member, no_members, closed_at, members_of}

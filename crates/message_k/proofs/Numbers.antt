@@ -13,10 +13,10 @@ use Rattle.text.specs.Text.{byte_at}
 use Rattle.json_tokens.specs.Tokens.{At}
 use Rattle.json_tokens.specs.Ends.{end_of}
 use Rattle.json_tokens.proofs.Bounds.{bounds, end-broken}
-use Rattle.json.specs.Json.{value}
-use Rattle.json.specs.Names.{part}
-use Rattle.json.proofs.Laws.{value-string}
-use Rattle.json.proofs.Bounds.{value_in}
+use Rattle.json_values.specs.Json.{value}
+use Rattle.json_values.specs.Names.{part}
+use Rattle.json_values.proofs.Laws.{value-string}
+use Rattle.json_values.proofs.Bounds.{value_in}
 use Rattle.entries.specs.Places.{is_string, whole_at, quoted_checksum_at}
 use Rattle.entries.proofs.Stops.{broken-at}
 use Rattle.entries.proofs.Strings.{string-two}

@@ -8,10 +8,10 @@ use Rattle.decimal.specs.Digits.{Reading, reads, refused}
 use Rattle.text.specs.Text.{byte_at}
 use Rattle.json_tokens.specs.Tokens.{End, At, Broken}
 use Rattle.json_tokens.specs.Ends.{end_of}
-use Rattle.json.specs.Json.{Pair, Items, items, no_items, items_end, members, value}
-use Rattle.json.proofs.Laws.{value-object}
+use Rattle.json_values.specs.Json.{Pair, Items, items, no_items, items_end, members, value}
+use Rattle.json_values.proofs.Laws.{value-object}
 use Rattle.entries.specs.Places.{contents, object_at}
-use Rattle.json.specs.Fold.{folded_in}
+use Rattle.json_values.specs.Fold.{folded_in}
 use Rattle.message_k.specs.MembersK.{with_member, no_members, closed_at, members_of, members_at}
 use Rattle.message_k.specs.declared.Members.{Members}
 

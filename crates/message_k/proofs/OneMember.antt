@@ -14,10 +14,10 @@ use Rattle.json_tokens.specs.Tokens.{End, At, Broken}
 use Rattle.json_tokens.specs.Ends.{end_of}
 use Rattle.json_tokens.proofs.Laws.{end-at}
 use Rattle.json_tokens.proofs.Bounds.{bounds}
-use Rattle.json.specs.Json.{Span, Pair, value}
-use Rattle.json.specs.Names.{means}
-use Rattle.json.proofs.Bounds.{value_in}
-use Rattle.json.proofs.Which.{meant, only_at, one-meant}
+use Rattle.json_values.specs.Json.{Span, Pair, value}
+use Rattle.json_values.specs.Names.{means}
+use Rattle.json_values.proofs.Bounds.{value_in}
+use Rattle.json_values.proofs.Which.{meant, only_at, one-meant}
 use Rattle.entries.specs.Places.{and_also}
 use Rattle.entries.specs.Rows.{Entry, sided_at}
 use Rattle.entries.specs.Tally.{met, told_not, told_at, array_tally, Tells, Kept, Met}

@@ -9,7 +9,7 @@ use borrow.Author.Tests.{eq-eqb, ne_eqb}
 use Rattle.json_tokens.specs.Tokens.{At}
 use Rattle.json_tokens.specs.Ends.{end_of}
 use Rattle.json_tokens.proofs.Laws.{end-at}
-use Rattle.json.specs.Json.{value}
+use Rattle.json_values.specs.Json.{value}
 use Rattle.entries.specs.Places.{object_at, whole_at}
 use Rattle.message_k.specs.MembersK.{is_read, no_members, members_of, members_at}
 use Rattle.message_k.specs.PartsK.{up_to_six, with_outer, with_part}

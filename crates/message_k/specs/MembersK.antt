@@ -8,9 +8,9 @@ use Rattle.edit.specs.declared.Side.TheVariants.{Bids, Asks}
 use Rattle.json_tokens.specs.Bytes.{open_object}
 use Rattle.json_tokens.specs.Tokens.{At, Broken}
 use Rattle.json_tokens.specs.Ends.{end_of}
-use Rattle.json.specs.Json.{Span, Pair, value}
-use Rattle.json.specs.Names.{means}
-use Rattle.json.specs.Fold.{fold_from}
+use Rattle.json_values.specs.Json.{Span, Pair, value}
+use Rattle.json_values.specs.Names.{means}
+use Rattle.json_values.specs.Fold.{fold_from}
 use Rattle.entries.specs.Places.{and_also, object_at, quoted_checksum_at}
 use Rattle.entries.specs.Rows.{Entry, sided_at}
 use Rattle.entries.specs.Tally.{none_yet, met, array_tally, Tells, Kept}

@@ -4,13 +4,13 @@ use Rattle.text.specs.Text.{ascii, byte_at}
 use Rattle.decimal.specs.Digits.{written, reads}
 use Rattle.edit.specs.Buffer.{buffer_words}
 use Rattle.json_tokens.specs.Bytes.{open_object}
-use Rattle.json.specs.Json.{Span, Pair, Items, items}
+use Rattle.json_values.specs.Json.{Span, Pair, Items, items}
 use Rattle.entries.specs.Tally.{Kept}
-use Rattle.json.specs.Names.{means}
+use Rattle.json_values.specs.Names.{means}
 use Rattle.entries.specs.Places.{is_string, object_at, whole_at}
 use Rattle.layout.specs.Depths.{item_depth}
 use Rattle.layout.specs.Scan.{no_outline}
-use Rattle.json.specs.Fold.{folded_in}
+use Rattle.json_values.specs.Fold.{folded_in}
 use Rattle.layout.specs.declared.Outline.{Outline}
 use Rattle.layout.specs.declared.Scan.{Scan}
 use Rattle.message_k.specs.MembersK.{is_read, no_members, members_of, held_in, has_more, snapshot_by, update_by, outline_by}

@@ -11,8 +11,8 @@ ghost use Rattle.std.specs.Prelude.{◌≡◌, ◌++◌, ◌≤◌, ◌<◌, len
 ghost use Rattle.text.specs.Text.{ascii};
 ghost use Rattle.decimal.specs.Digits.{written};
 ghost use Rattle.json_tokens.specs.Tokens.{At};
-ghost use Rattle.json.specs.Json.{elements, value};
-ghost use Rattle.json.specs.Names.{means};
+ghost use Rattle.json_values.specs.Json.{elements, value};
+ghost use Rattle.json_values.specs.Names.{means};
 ghost use Rattle.entries.specs.Places.{whole_at};
 ghost use Rattle.layout.specs.Depths.{item_depth, side_depth};
 ghost use Rattle.edit.specs.Buffer.{buffer_words};
@@ -25,7 +25,7 @@ ghost use Rattle.message_k.specs.PartsK.{up_to_six, no_outer, with_outer, no_par
 use decimal::{ParsedChecksum, ParsedWhole, parse_checksum, parse_whole};
 use edit::{BUFFER_WORDS, Side};
 use entries::{Form, Tally, entries_at, none_yet};
-use json::{MAX_DEPTH, is_name, item_end, value_end};
+use json_values::{MAX_DEPTH, is_name, item_end, value_end};
 use json_tokens::{
     OPEN_ARRAY, OPEN_OBJECT, QUOTE, array_close_end, colon_end, comma_end, object_close_end,
     skip_blanks, string_end,

@@ -13,10 +13,10 @@ use Rattle.json_tokens.specs.Tokens.{End, At, Broken, blanks, closing, separator
 use Rattle.json_tokens.specs.Ends.{end_of}
 use Rattle.json_tokens.proofs.Laws.{end-at}
 use Rattle.json_tokens.proofs.Bounds.{bounds, end-broken, blanks-in, closing-in, separator-in}
-use Rattle.json.specs.Json.{Span, Next, item, wrong, Items, items, no_items, items_end, prepended, onward, element, elements, value}
-use Rattle.json.proofs.Laws.{value-array, element-is, element-wrong}
-use Rattle.json.proofs.Bounds.{value_in}
-use Rattle.json.proofs.Walk.{Walk, walk-empty, walk_start, walk-wrong, walk-on, walk-last, walk-broken}
+use Rattle.json_values.specs.Json.{Span, Next, item, wrong, Items, items, no_items, items_end, prepended, onward, element, elements, value}
+use Rattle.json_values.proofs.Laws.{value-array, element-is, element-wrong}
+use Rattle.json_values.proofs.Bounds.{value_in}
+use Rattle.json_values.proofs.Walk.{Walk, walk-empty, walk_start, walk-wrong, walk-on, walk-last, walk-broken}
 use Rattle.entries.specs.Places.{and_then, contents, array_at, object_at, only}
 use Rattle.entries.proofs.Strings.{no_row, same_row}
 use Rattle.message_l.specs.Collected.{one_in, not_one, data_from, data_span, data_at, ObjectRead, DataRead}

@@ -9,8 +9,8 @@ use Rattle.decimal.specs.Digits.{Reading, reads, refused}
 use Rattle.edit.specs.declared.Side.{Side}
 use Rattle.edit.specs.declared.Side.TheVariants.{Bids, Asks}
 use Rattle.json_tokens.specs.Tokens.{At}
-use Rattle.json.specs.Json.{Span, value}
-use Rattle.json.specs.Fold.{fold_from}
+use Rattle.json_values.specs.Json.{Span, value}
+use Rattle.json_values.specs.Fold.{fold_from}
 use Rattle.entries.specs.Places.{and_then, and_also}
 use Rattle.entries.specs.Tally.{one_bid, one_ask}
 use Rattle.entries.proofs.Strings.{no_row, same_row}

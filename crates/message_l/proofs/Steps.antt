@@ -15,11 +15,11 @@ use Rattle.json_tokens.specs.Tokens.{End, At, Broken}
 use Rattle.json_tokens.specs.Ends.{end_of}
 use Rattle.json_tokens.proofs.Laws.{end-at}
 use Rattle.json_tokens.proofs.Bounds.{bounds}
-use Rattle.json.specs.Json.{Span, Pair, elements, value}
-use Rattle.json.specs.Names.{means}
-use Rattle.json.proofs.Bounds.{value_in}
-use Rattle.json.proofs.Laws.{value-array}
-use Rattle.json.proofs.Which.{one-meant}
+use Rattle.json_values.specs.Json.{Span, Pair, elements, value}
+use Rattle.json_values.specs.Names.{means}
+use Rattle.json_values.proofs.Bounds.{value_in}
+use Rattle.json_values.proofs.Laws.{value-array}
+use Rattle.json_values.proofs.Which.{one-meant}
 use Rattle.entries.specs.Places.{and_then, and_also, all, contents, array_at}
 use Rattle.entries.proofs.Tallies.{also-none}
 use Rattle.layout.specs.MemberSpans.{few_more, with_member_span, on_hit}

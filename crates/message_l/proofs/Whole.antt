@@ -8,12 +8,12 @@ use Rattle.text.specs.Text.{byte_at}
 use Rattle.decimal.specs.Digits.{Reading, reads, refused}
 use Rattle.json_tokens.specs.Tokens.{blanks, closing, separator}
 use Rattle.json_tokens.specs.Ends.{end_of}
-use Rattle.json.specs.Json.{Span, Pair, Items, items, no_items, items_end, member, members, value}
-use Rattle.json.specs.Fold.{fold_from, folded_in}
-use Rattle.json.proofs.Laws.{value-object}
-use Rattle.json.proofs.Fold.{Loop, Left, Stands, made, over_members, fold_on, fold-last}
+use Rattle.json_values.specs.Json.{Span, Pair, Items, items, no_items, items_end, member, members, value}
+use Rattle.json_values.specs.Fold.{fold_from, folded_in}
+use Rattle.json_values.proofs.Laws.{value-object}
+use Rattle.json_values.proofs.Fold.{Loop, Left, Stands, made, over_members, fold_on, fold-last}
 use Rattle.json_tokens.proofs.Bounds.{bounds}
-use Rattle.json.proofs.Bounds.{value_in}
+use Rattle.json_values.proofs.Bounds.{value_in}
 use Rattle.entries.specs.Places.{and_also, contents, object_at}
 use Rattle.entries.proofs.Strings.{no_row, same_row}
 use Rattle.entries.proofs.Tallies.{none-also, also-none, also-assoc}

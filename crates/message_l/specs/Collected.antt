@@ -5,9 +5,9 @@ use Rattle.decimal.specs.Digits.{Reading, reads, refused}
 use Rattle.edit.specs.declared.Side.TheVariants.{Bids, Asks}
 use Rattle.json_tokens.specs.Bytes.{open_object}
 use Rattle.json_tokens.specs.Ends.{end_of}
-use Rattle.json.specs.Json.{Span, Pair, value}
-use Rattle.json.specs.Names.{means}
-use Rattle.json.specs.Fold.{fold_from}
+use Rattle.json_values.specs.Json.{Span, Pair, value}
+use Rattle.json_values.specs.Names.{means}
+use Rattle.json_values.specs.Fold.{fold_from}
 use Rattle.entries.specs.Places.{and_then, and_also, array_at, object_at, only}
 use Rattle.layout.specs.Depths.{item_depth}
 use Rattle.layout.specs.MemberSpans.{few_more, no_member_span, with_member_span, on_member}

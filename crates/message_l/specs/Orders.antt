@@ -5,9 +5,9 @@ use Rattle.text.specs.Text.{ascii}
 use Rattle.decimal.specs.Digits.{Reading, reads}
 use Rattle.edit.specs.declared.Side.{Side}
 use Rattle.edit.specs.declared.Side.TheVariants.{Bids, Asks}
-use Rattle.json.specs.Json.{Span, Pair}
-use Rattle.json.specs.Names.{means}
-use Rattle.json.specs.Fold.{fold_from}
+use Rattle.json_values.specs.Json.{Span, Pair}
+use Rattle.json_values.specs.Names.{means}
+use Rattle.json_values.specs.Fold.{fold_from}
 use Rattle.entries.specs.Places.{and_then, and_also}
 use Rattle.layout.specs.Depths.{side_depth}
 use Rattle.order_edit.specs.Buffer.{OrderEntry}

@@ -4,7 +4,7 @@
 
 ghost use Rattle.std.specs.Prelude.{◌≡◌, ◌&&◌, ◌≤◌, length};
 ghost use Rattle.text.specs.Text.{ascii};
-ghost use Rattle.json.specs.Names.{means};
+ghost use Rattle.json_values.specs.Names.{means};
 ghost use Rattle.layout.specs.MemberSpans.{member_at};
 ghost use Rattle.order_edit.specs.Buffer.{buffer_words};
 ghost use Rattle.order_arrays.specs.Tally.{met as count};
@@ -12,7 +12,7 @@ ghost use Rattle.message_l.specs.Orders.{orders_depth};
 ghost use Rattle.message_l.specs.Collected.{no_sides, no_listing, listing_end, MoreSides, MoreListing, ObjectRead, not_one, DataRead};
 
 use edit::Side;
-use json::{is_name, item_end, value_end};
+use json_values::{is_name, item_end, value_end};
 use json_tokens::{
     OPEN_ARRAY, OPEN_OBJECT, array_close_end, colon_end, comma_end, object_close_end, skip_blanks,
     string_end,

@@ -8,9 +8,9 @@ use Rattle.text.specs.Text.{byte_at}
 use Rattle.decimal.specs.Digits.{Reading, reads, refused}
 use Rattle.json_tokens.specs.Tokens.{separator, closing}
 use Rattle.json_tokens.specs.Ends.{end_of}
-use Rattle.json.specs.Json.{Span, Pair, Items, items, no_items, member, members, value}
-use Rattle.json.specs.Fold.{fold_from, folded_in}
-use Rattle.json.proofs.Fold.{Loop, Left, Stands, made, over_members, fold_on, fold-last}
+use Rattle.json_values.specs.Json.{Span, Pair, Items, items, no_items, member, members, value}
+use Rattle.json_values.specs.Fold.{fold_from, folded_in}
+use Rattle.json_values.proofs.Fold.{Loop, Left, Stands, made, over_members, fold_on, fold-last}
 use Rattle.entries.specs.Places.{contents, object_at}
 use Rattle.entries.specs.Rows.{Entry}
 use Rattle.entries.specs.Tally.{Tells, Kept}

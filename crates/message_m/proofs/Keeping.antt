@@ -10,12 +10,12 @@ use Rattle.decimal.specs.Digits.{Reading, reads, refused}
 use Rattle.json_tokens.specs.Tokens.{At}
 use Rattle.json_tokens.specs.Ends.{end_of}
 use Rattle.json_tokens.proofs.Bounds.{bounds}
-use Rattle.json.specs.Json.{Span, Pair, Items, items, no_items, items_end, members, value}
-use Rattle.json.specs.Names.{means}
-use Rattle.json.specs.Fold.{fold_from}
-use Rattle.json.proofs.Laws.{value-object}
-use Rattle.json.proofs.Bounds.{value_in}
-use Rattle.json.proofs.Fold.{Left}
+use Rattle.json_values.specs.Json.{Span, Pair, Items, items, no_items, items_end, members, value}
+use Rattle.json_values.specs.Names.{means}
+use Rattle.json_values.specs.Fold.{fold_from}
+use Rattle.json_values.proofs.Laws.{value-object}
+use Rattle.json_values.proofs.Bounds.{value_in}
+use Rattle.json_values.proofs.Fold.{Left}
 use Rattle.entries.specs.Places.{and_then, contents, object_at, values_of, only, whole_at}
 use Rattle.entries.specs.Rows.{Entry}
 use Rattle.entries.specs.Tally.{met as count, Tells, Kept}

@@ -7,8 +7,8 @@ use Prim.Native.Nat.{ℕ}
 use borrow.Author.Tests.{eq-eqb, ne_eqb}
 use Rattle.text.specs.Text.{ascii}
 use Rattle.decimal.specs.Digits.{Reading, reads, refused}
-use Rattle.json.specs.Json.{Span}
-use Rattle.json.specs.Names.{means}
+use Rattle.json_values.specs.Json.{Span}
+use Rattle.json_values.specs.Names.{means}
 use Rattle.entries.specs.Places.{and_then, whole_at, checksum_at}
 use Rattle.entries.specs.declared.Tally.{Tally}
 use Rattle.layout.specs.Layout.{is_snapshot}

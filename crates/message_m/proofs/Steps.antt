@@ -16,11 +16,11 @@ use Rattle.json_tokens.specs.Tokens.{End, At, Broken}
 use Rattle.json_tokens.specs.Ends.{end_of}
 use Rattle.json_tokens.proofs.Laws.{end-at}
 use Rattle.json_tokens.proofs.Bounds.{bounds}
-use Rattle.json.specs.Json.{Span, Pair, elements, value}
-use Rattle.json.specs.Names.{means}
-use Rattle.json.proofs.Bounds.{value_in}
-use Rattle.json.proofs.Laws.{value-array}
-use Rattle.json.proofs.Which.{numbered, meant, one-meant, which-meant}
+use Rattle.json_values.specs.Json.{Span, Pair, elements, value}
+use Rattle.json_values.specs.Names.{means}
+use Rattle.json_values.proofs.Bounds.{value_in}
+use Rattle.json_values.proofs.Laws.{value-array}
+use Rattle.json_values.proofs.Which.{numbered, meant, one-meant, which-meant}
 use Rattle.entries.specs.Places.{and_also, contents, array_at, object_at}
 use Rattle.entries.specs.Rows.{Entry, sided_at}
 use Rattle.entries.specs.Tally.{met as count, told_not, told_at, spans_tally, array_tally, Tells, Kept, Met}

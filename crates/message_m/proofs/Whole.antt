@@ -12,10 +12,10 @@ use Rattle.decimal.specs.Digits.{Reading, reads, refused}
 use Rattle.edit.specs.declared.Side.TheVariants.{Bids, Asks}
 use Rattle.json_tokens.specs.Tokens.{End, At, Broken, blanks, closing}
 use Rattle.json_tokens.specs.Ends.{end_of}
-use Rattle.json.specs.Json.{Span, Pair, value}
-use Rattle.json.specs.Names.{means}
-use Rattle.json.specs.Fold.{fold_from}
-use Rattle.json.proofs.Fold.{Loop, Left, over_members}
+use Rattle.json_values.specs.Json.{Span, Pair, value}
+use Rattle.json_values.specs.Names.{means}
+use Rattle.json_values.specs.Fold.{fold_from}
+use Rattle.json_values.proofs.Fold.{Loop, Left, over_members}
 use Rattle.entries.specs.Places.{and_then, and_also, object_at, values_of, only, whole_at, checksum_at}
 use Rattle.entries.specs.Rows.{Entry, sided_at}
 use Rattle.entries.specs.Tally.{none_yet, array_tally, Tells}

@@ -8,8 +8,8 @@ ghost use Rattle.std.specs.Prelude.{◌≡◌, ◌&&◌, eqb, ◌≤◌, length}
 ghost use Rattle.text.specs.Text.{ascii};
 ghost use Rattle.decimal.specs.Reads.{parsed_checksum, parsed_whole};
 ghost use Rattle.json_tokens.specs.Ends.{end_of};
-ghost use Rattle.json.specs.Json.{value};
-ghost use Rattle.json.specs.Names.{means};
+ghost use Rattle.json_values.specs.Json.{value};
+ghost use Rattle.json_values.specs.Names.{means};
 ghost use Rattle.entries.specs.Places.{and_then, whole_at, checksum_at};
 ghost use Rattle.layout.specs.Depths.{item_depth, side_depth};
 ghost use Rattle.layout.specs.MemberSpans.{with_member_span, on_hit, member_at, once_at};
@@ -22,7 +22,7 @@ ghost use Rattle.message_m.specs.Collected.{no_data, data_end, MoreData, DataRea
 use decimal::{ParsedChecksum, ParsedWhole, parse_checksum, parse_whole};
 use edit::{BUFFER_WORDS, Side};
 use entries::{Form, Tally, entries_at, none_yet};
-use json::{MAX_DEPTH, is_name, item_end, value_end};
+use json_values::{MAX_DEPTH, is_name, item_end, value_end};
 use json_tokens::{OPEN_OBJECT, colon_end, comma_end, object_close_end, skip_blanks, string_end};
 use layout::{
     ITEM_DEPTH, Kind, MemberSpan, Outline, SIDE_DEPTH, Scan, few_more, is_snapshot, no_member_span,

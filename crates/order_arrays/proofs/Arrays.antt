@@ -15,10 +15,10 @@ use Rattle.json_tokens.specs.Tokens.{End, At, Broken, blanks, closing, separator
 use Rattle.json_tokens.specs.Ends.{end_of}
 use Rattle.json_tokens.proofs.Laws.{end-at}
 use Rattle.json_tokens.proofs.Bounds.{bounds, blanks-in, closing-in}
-use Rattle.json.specs.Json.{Span, items, no_items, items_end, element, elements, value}
-use Rattle.json.specs.Fold.{fold_from}
-use Rattle.json.proofs.Laws.{value-array}
-use Rattle.json.proofs.Fold.{Left, Stands, no-element, element-stands, fold-empty, fold_start, fold-wrong, fold-further, fold_on, fold-last, fold-broken}
+use Rattle.json_values.specs.Json.{Span, items, no_items, items_end, element, elements, value}
+use Rattle.json_values.specs.Fold.{fold_from}
+use Rattle.json_values.proofs.Laws.{value-array}
+use Rattle.json_values.proofs.Fold.{Left, Stands, no-element, element-stands, fold-empty, fold_start, fold-wrong, fold-further, fold_on, fold-last, fold-broken}
 use Rattle.entries.specs.Places.{and_then, all, and_also, contents, array_at}
 use Rattle.entries.specs.Tally.{one_bid, one_ask}
 use Rattle.entries.proofs.Stops.{broken-at}

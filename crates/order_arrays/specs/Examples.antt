@@ -7,9 +7,9 @@ use Rattle.decimal.specs.Digits as d1·
 use Rattle.decimal.specs.Decimal as d2·
 use Rattle.json_tokens.specs.Bytes as t1·
 use Rattle.json_tokens.specs.Tokens as t2·
-use Rattle.json.specs.Json as j1·
-use Rattle.json.specs.Names as j2·
-use Rattle.json.specs.Fold as j3·
+use Rattle.json_values.specs.Json as j1·
+use Rattle.json_values.specs.Names as j2·
+use Rattle.json_values.specs.Fold as j3·
 use Rattle.entries.specs.Places as p·
 use Rattle.entries.specs.Rows as e·
 use Rattle.settings.specs.Settings as n·

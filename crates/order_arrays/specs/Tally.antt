@@ -4,8 +4,8 @@ use Rattle.std.specs.Prelude.{ℕ, ◌+◌, ◌-◌, ◌≤◌, ◌≡◌, Bool,
 use Rattle.decimal.specs.Digits.{Reading, reads, refused}
 use Rattle.edit.specs.declared.Side.{Side}
 use Rattle.json_tokens.specs.Tokens.{At, Broken}
-use Rattle.json.specs.Json.{Span, value}
-use Rattle.json.specs.Fold.{fold_from}
+use Rattle.json_values.specs.Json.{Span, value}
+use Rattle.json_values.specs.Fold.{fold_from}
 use Rattle.entries.specs.Places.{and_then, all, array_at}
 use Rattle.entries.specs.Tally.{one_bid, one_ask}
 use Rattle.order_edit.specs.Buffer.{max_buffered, buffer_words, entries_in, Put}

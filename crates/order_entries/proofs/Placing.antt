@@ -9,8 +9,8 @@ use lib.Dec.{eqb}
 use lib.ListN.{take, drop}
 use Rattle.text.specs.Text.{ascii, byte_at}
 use Rattle.decimal.specs.Digits.{reads, refused}
-use Rattle.json.specs.Json.{Span}
-use Rattle.json.specs.Names.{inner, means}
+use Rattle.json_values.specs.Json.{Span}
+use Rattle.json_values.specs.Names.{inner, means}
 use Rattle.entries.specs.Places.{and_then, is_string}
 use Rattle.layout.specs.MemberSpans.{once_at}
 use Rattle.layout.specs.declared.MemberSpan.{MemberSpan}

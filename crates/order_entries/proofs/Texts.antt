@@ -6,8 +6,8 @@ use native.Mathlib.Omega.{arith}
 use lib.ListN.{take, drop}
 use Rattle.decimal.specs.Digits.{leading, refused}
 use Rattle.decimal.specs.Decimal.{is_whole, prefix, read}
-use Rattle.json.specs.Json.{Span}
-use Rattle.json.specs.Names.{inner}
+use Rattle.json_values.specs.Json.{Span}
+use Rattle.json_values.specs.Names.{inner}
 use Rattle.order_edit.specs.Ids.{id_of}
 
 module _ (s : List ℕ) (a : Span) (h : a.to - a.from < 2) where

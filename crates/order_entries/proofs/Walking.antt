@@ -9,10 +9,10 @@ use Rattle.text.specs.Text.{ascii, byte_at}
 use Rattle.decimal.specs.Digits.{Reading, reads, refused}
 use Rattle.json_tokens.specs.Tokens.{End, At, Broken, blanks, closing}
 use Rattle.json_tokens.specs.Ends.{end_of}
-use Rattle.json.specs.Json.{Span, Pair, value}
-use Rattle.json.specs.Names.{means}
-use Rattle.json.specs.Fold.{fold_from}
-use Rattle.json.proofs.Fold.{Loop, Left, over_members}
+use Rattle.json_values.specs.Json.{Span, Pair, value}
+use Rattle.json_values.specs.Names.{means}
+use Rattle.json_values.specs.Fold.{fold_from}
+use Rattle.json_values.proofs.Fold.{Loop, Left, over_members}
 use Rattle.entries.specs.Places.{and_then, object_at, values_of}
 use Rattle.layout.specs.MemberSpans.{with_member_span, member_span_of, once_at, on_hit}
 use Rattle.layout.specs.declared.MemberSpan.{MemberSpan}

@@ -3,7 +3,7 @@ use Rattle.std.specs.Prelude.{ℕ, ◌≤◌, ◌≡◌, Bool, true, false, ◌&
 use Rattle.text.specs.Text.{ascii}
 use Rattle.decimal.specs.Digits.{Reading, reads, refused}
 use Rattle.json_tokens.specs.Tokens.{At, Broken}
-use Rattle.json.specs.Json.{Span, Pair, value}
+use Rattle.json_values.specs.Json.{Span, Pair, value}
 use Rattle.entries.specs.Places.{and_then, is_string}
 use Rattle.layout.specs.MemberSpans.{no_member_span, with_member_span, once_at, on_member}
 use Rattle.layout.specs.declared.MemberSpan.{MemberSpan}

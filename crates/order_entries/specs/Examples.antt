@@ -8,8 +8,8 @@ use Rattle.order_edit.specs.declared.Event.TheVariants.{Add, Modify}
 use Rattle.text.specs.Text as x·
 use Rattle.json_tokens.specs.Bytes as t1·
 use Rattle.json_tokens.specs.Tokens as t2·
-use Rattle.json.specs.Json as j1·
-use Rattle.json.specs.Names as j2·
+use Rattle.json_values.specs.Json as j1·
+use Rattle.json_values.specs.Names as j2·
 use Rattle.entries.specs.Places as p·
 use Rattle.settings.specs.Settings as n·
 use Rattle.order_edit.specs.Ids as i·

@@ -3,8 +3,8 @@
 use Rattle.std.specs.Prelude.{ℕ, cond, List}
 use Rattle.text.specs.Text.{ascii}
 use Rattle.decimal.specs.Digits.{Reading, reads, refused}
-use Rattle.json.specs.Json.{Span, Pair}
-use Rattle.json.specs.Names.{inner, means}
+use Rattle.json_values.specs.Json.{Span, Pair}
+use Rattle.json_values.specs.Names.{inner, means}
 use Rattle.entries.specs.Places.{and_then, is_string, object_at, values_of, only}
 use Rattle.order_edit.specs.Ids.{is_id}
 use Rattle.order_edit.specs.declared.Event.{Event}

@@ -4,7 +4,7 @@ use Rattle.decimal.specs.Digits.{Reading, reads, refused}
 use Rattle.decimal.specs.Decimal.{number}
 use Rattle.decimal.specs.Limits.{Within}
 use Rattle.edit.specs.declared.Side.{Side}
-use Rattle.json.specs.Names.{inner}
+use Rattle.json_values.specs.Names.{inner}
 use Rattle.entries.specs.Rows.{bad_price, bad_size, number_at}
 use Rattle.order_edit.specs.declared.Event.{Event}
 use Rattle.order_edit.specs.declared.Event.TheVariants.{Add, Modify, Delete}

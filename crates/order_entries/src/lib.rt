@@ -12,12 +12,12 @@ mod saying;
 
 ghost use Rattle.std.specs.Prelude.{◌≡◌, ◌≤◌};
 ghost use Rattle.decimal.specs.Digits.{refused};
-ghost use Rattle.json.specs.Names.{inner};
+ghost use Rattle.json_values.specs.Names.{inner};
 ghost use Rattle.layout.specs.MemberSpans.{with_member_span, on_member};
 ghost use Rattle.order_edit.specs.Ids.{is_id};
 ghost use Rattle.order_entries.specs.Collected.{order_place_of, order_place_at, no_members, more_members, once_string, event_of, place_in, Placed, Inside, Found};
 
-use json::{is_name, value_end};
+use json_values::{is_name, value_end};
 use json_tokens::{
     OPEN_OBJECT, QUOTE, colon_end, comma_end, object_close_end, skip_blanks, string_end,
 };

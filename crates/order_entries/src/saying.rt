@@ -2,7 +2,7 @@
 ghost use Rattle.std.specs.Prelude.{◌≡◌};
 ghost use Rattle.decimal.specs.Decimal.{read};
 ghost use Rattle.decimal.specs.Reads.{parsed};
-ghost use Rattle.json.specs.Names.{inner};
+ghost use Rattle.json_values.specs.Names.{inner};
 ghost use Rattle.order_edit.specs.Ids.{id_of};
 ghost use Rattle.order_entries.specs.Collected.{Placed, Laid};
 ghost use Rattle.order_entries.specs.Saying.{event_or, stays_of, first_bad, read_event, ReadAs};

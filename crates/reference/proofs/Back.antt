@@ -13,14 +13,14 @@ use Rattle.decimal.specs.Digits.{Reading, reads, refused}
 use Rattle.decimal.specs.Decimal.{Number, read, is_zero, value}
 use Rattle.decimal.specs.Limits.{Within}
 use Rattle.decimal.proofs.RoundTrip.{read-within}
-use Rattle.json.specs.Json.{Span}
+use Rattle.json_values.specs.Json.{Span}
 use Rattle.settings.specs.Settings.{Config, good, kept}
 use Rattle.settings.specs.Rules.{summed_in, rules_of}
 use Rattle.settings.specs.declared.Dialect.{Dialect}
 use Rattle.settings.specs.declared.Dialect.TheVariants.{K, M, Unknown}
 use Rattle.settings.specs.declared.Edition.{Edition}
 use Rattle.settings.specs.declared.Edition.TheVariants.{M1, M2}
-use Rattle.json.specs.Names.{inner}
+use Rattle.json_values.specs.Names.{inner}
 use Rattle.entries.specs.Rows.{Entry, is_bad_price, number_in, number_at, numbers_at, bad_price, bad_size, bad_texts}
 use Rattle.edit.specs.Edit.{PriceLevel, shown_price, Edit, sets, removes, Numbers, edit_of, is_same, for_side}
 use Rattle.level.specs.Side.{nearer, place, apply, apply_all, ranked, names_twice}

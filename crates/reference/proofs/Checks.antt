@@ -6,7 +6,7 @@ use Prim.Native.Nat.{ℕ}
 use lib.Dec.{ltb}
 use lib.ListN.{length}
 use Rattle.decimal.specs.Digits.{Reading, reads, refused}
-use Rattle.json.specs.Json.{Span, text}
+use Rattle.json_values.specs.Json.{Span, text}
 use Rattle.settings.specs.Settings.{Config}
 use Rattle.settings.specs.Rules.{rules_of}
 use Rattle.entries.specs.Places.{top}

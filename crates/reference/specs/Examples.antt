@@ -15,8 +15,8 @@ use Rattle.decimal.specs.Decimal as d2·
 use Rattle.decimal.specs.Whole as d3·
 use Rattle.json_tokens.specs.Bytes as t1·
 use Rattle.json_tokens.specs.Tokens as t2·
-use Rattle.json.specs.Json as j1·
-use Rattle.json.specs.Names as j2·
+use Rattle.json_values.specs.Json as j1·
+use Rattle.json_values.specs.Names as j2·
 use Rattle.edit.specs.Edit as e·
 use Rattle.entries.specs.Places as p·
 use Rattle.entries.specs.Rows as r·

@@ -6,8 +6,8 @@ use mathlib.Core.List.{List, [], ◌∷◌, ◌++◌, map, append_assoc}
 use native.Mathlib.Omega.{arith}
 use lib.ListN.{length, get_or, drop, length-append}
 use Rattle.json_tokens.specs.Tokens.{Broken, blanks, closing}
-use Rattle.json.specs.Json.{Next, item, Items, items, prepended, onward, list, list_of}
-use Rattle.json.proofs.Laws.{first_ends, first-item, later-item, later-ends}
+use Rattle.json_values.specs.Json.{Next, item, Items, items, prepended, onward, list, list_of}
+use Rattle.json_values.proofs.Laws.{first_ends, first-item, later-item, later-ends}
 use Rattle.writer.specs.Snapshot.{comma_joined}
 use Rattle.round_trip.specs.Claims.{Each, each_more}
 use Rattle.round_trip.proofs.Places.{past, past-byte, no-blanks, in-text, Starts, starts-append, Stops, comma-stops}

@@ -12,8 +12,8 @@ use Rattle.text.specs.Text.{byte_at, is_digit}
 use Rattle.json_tokens.specs.Bytes.{blank}
 use Rattle.json_tokens.specs.Tokens.{blanks}
 use Rattle.json_tokens.proofs.Laws.{blanks-stop, in_some}
-use Rattle.json.specs.Json.{Span}
-use Rattle.json.specs.Names.{part}
+use Rattle.json_values.specs.Json.{Span}
+use Rattle.json_values.specs.Names.{part}
 
 module _ (s : List ℕ) (i : ℕ) where
   pub byte-here : (u : List ℕ) → drop i s ≡ u → byte_at s i ≡ get_or u 0 0

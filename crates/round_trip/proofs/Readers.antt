@@ -10,10 +10,10 @@ use lib.ListN.{length, take, drop}
 use lib.Seq.{take-append_seam}
 use Rattle.decimal.specs.Digits.{Reading, reads}
 use Rattle.text.specs.Text.{byte_at}
-use Rattle.json.specs.Json.{Span, Pair, value}
-use Rattle.json.specs.Names.{meaning, same, means, inner}
-use Rattle.json.specs.Claims.{holds}
-use Rattle.json.proofs.Names.{plain-text, same_self}
+use Rattle.json_values.specs.Json.{Span, Pair, value}
+use Rattle.json_values.specs.Names.{meaning, same, means, inner}
+use Rattle.json_values.specs.Claims.{holds}
+use Rattle.json_values.proofs.Names.{plain-text, same_self}
 use Rattle.entries.specs.Places.{is_string, contents, array_at, object_at, values_of}
 use Rattle.writer.specs.Snapshot.{quoted, array}
 use Rattle.round_trip.specs.Claims.{Each}

@@ -12,9 +12,9 @@ use Rattle.decimal.specs.Decimal.{Number, read, text, after_point, is_zero}
 use Rattle.decimal.proofs.Digits.{Digits, none, one, digit-in, written-digits, fixed-digits}
 use Rattle.decimal.proofs.RoundTrip.{read-text}
 use Rattle.json_tokens.specs.Ends.{unescaped}
-use Rattle.json.specs.Json.{Span}
+use Rattle.json_values.specs.Json.{Span}
 use Rattle.entries.specs.Places.{and_then, all, and_also, array_at}
-use Rattle.json.specs.Names.{inner}
+use Rattle.json_values.specs.Names.{inner}
 use Rattle.entries.specs.Rows.{Row, row_k, row_m, entry_of, entries_at, Entry, sided, sided_at, bad_price, bad_size, bad_texts, number_at, numbers_at}
 use Rattle.entries.specs.declared.Form.{Form}
 use Rattle.entries.specs.declared.Form.TheVariants.{Triple, Pair}

@@ -11,8 +11,8 @@ use Rattle.decimal.specs.Decimal.{is_whole}
 use Rattle.decimal.specs.Whole.{read_whole}
 use Rattle.decimal.proofs.Digits.{written-digits}
 use Rattle.json_tokens.specs.Ends.{unescaped}
-use Rattle.json.specs.Json.{Span, Pair}
-use Rattle.json.specs.Names.{meaning}
+use Rattle.json_values.specs.Json.{Span, Pair}
+use Rattle.json_values.specs.Names.{meaning}
 use Rattle.entries.specs.Places.{and_then, all, array_at, object_at, values_of, whole_at}
 use Rattle.entries.specs.declared.Form.TheVariants.{Triple}
 use Rattle.settings.specs.Rules.{rules_of}

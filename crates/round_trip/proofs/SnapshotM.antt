@@ -12,8 +12,8 @@ use Rattle.decimal.proofs.Digits.{length-written}
 use Rattle.decimal.proofs.WholeNumber.{below-bound}
 use Rattle.decimal.proofs.RoundTrip.{written_read}
 use Rattle.json_tokens.specs.Ends.{unescaped}
-use Rattle.json.specs.Json.{Span, Pair}
-use Rattle.json.specs.Names.{meaning}
+use Rattle.json_values.specs.Json.{Span, Pair}
+use Rattle.json_values.specs.Names.{meaning}
 use Rattle.entries.specs.Places.{and_then, object_at, values_of, only, whole_at, checksum_at}
 use Rattle.entries.specs.declared.Form.TheVariants as forms
 use Rattle.settings.specs.Rules.{is_linked, rules_of}

@@ -11,8 +11,8 @@ use Rattle.decimal.specs.Digits.{written}
 use Rattle.decimal.proofs.Digits.{Digits, none, one, digit-in}
 use Rattle.json_tokens.specs.Tokens.{At}
 use Rattle.json_tokens.proofs.Laws.{scalar-number}
-use Rattle.json.specs.Json.{Span, Pair, Next, item, items, list_of, items_end, element, member, elements, members, value}
-use Rattle.json.proofs.Laws.{value-array, value-object, value-scalar, value-string, element-is, member_is}
+use Rattle.json_values.specs.Json.{Span, Pair, Next, item, items, list_of, items_end, element, member, elements, members, value}
+use Rattle.json_values.proofs.Laws.{value-array, value-object, value-scalar, value-string, element-is, member_is}
 use Rattle.writer.specs.Snapshot.{quoted, comma_joined, array}
 use Rattle.round_trip.specs.Claims.{Each, each_none, each_more}
 use Rattle.round_trip.proofs.Places.{byte-here, past, past-byte, Starts, starts-append, Stops, array-stops, object-stops, Is}

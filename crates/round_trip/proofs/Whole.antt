@@ -11,9 +11,9 @@ use lib.Seq.{drop-length}
 use Rattle.decimal.specs.Digits.{Reading, reads}
 use Rattle.json_tokens.specs.Bytes.{blank}
 use Rattle.json_tokens.specs.Tokens.{At, skip_while, blanks, ended}
-use Rattle.json.specs.Json.{Span, value}
-use Rattle.json.specs.Json as json·
-use Rattle.json.proofs.Laws.{text-ends}
+use Rattle.json_values.specs.Json.{Span, value}
+use Rattle.json_values.specs.Json as json·
+use Rattle.json_values.proofs.Laws.{text-ends}
 use Rattle.settings.specs.Rules.{rules_of}
 use Rattle.settings.specs.Settings.{Config}
 use Rattle.entries.specs.Places.{top}

@@ -7,7 +7,7 @@ use lib.ListN.{length}
 use Rattle.decimal.specs.Digits.{reads}
 use Rattle.decimal.specs.Decimal.{number, read, is_zero}
 use Rattle.decimal.proofs.RoundTrip.{read-within}
-use Rattle.json.specs.Names.{inner}
+use Rattle.json_values.specs.Names.{inner}
 use Rattle.entries.specs.Found.{entry_place_of, price_span, size_span, entry_place_at}
 use Rattle.entries.specs.Tally.{told_not}
 use Rattle.entries.specs.Decimals.{TwoDecimals}

@@ -9,9 +9,9 @@ use native.Mathlib.Omega.{arith}
 use Rattle.json_tokens.proofs.Bounds.{end-broken, separator-in}
 use Rattle.json_tokens.proofs.Laws.{end-at}
 use Rattle.json_tokens.specs.Tokens.{separator}
-use Rattle.json.proofs.Bounds.{value_in}
-use Rattle.json.proofs.Walk.{Walk}
-use Rattle.json.specs.Json.{items_end, list, next, value}
+use Rattle.json_values.proofs.Bounds.{value_in}
+use Rattle.json_values.proofs.Walk.{Walk}
+use Rattle.json_values.specs.Json.{items_end, list, next, value}
 use Rattle.entries.proofs.Entry.{rest-close, rest-further, rest-on, rest-wrong}
 use Rattle.entries.proofs.Stops.{one}
 use Rattle.entries.proofs.rest_end.Statement.{statement}

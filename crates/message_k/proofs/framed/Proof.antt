@@ -5,8 +5,8 @@ use mathlib.Core.Bool.{◌&&◌}
 use mathlib.Core.List.{◌++◌}
 use Rattle.text.specs.Text.{ascii}
 use Rattle.decimal.specs.Digits.{written}
-use Rattle.json.specs.Json.{Span}
-use Rattle.json.specs.Names.{means}
+use Rattle.json_values.specs.Json.{Span}
+use Rattle.json_values.specs.Names.{means}
 use Rattle.message_k.specs.PartsK.{ours_by}
 use borrow.Author.Rules.{rules}
 use Rattle.message_k.proofs.framed.Statement.{statement}

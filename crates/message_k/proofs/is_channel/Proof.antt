@@ -2,7 +2,7 @@
 -- Assumes nothing.
 use mathlib.Core.Path.{◌≡◌, ap, ◌∙◌}
 use native.Mathlib.Omega.{arith}
-use Rattle.json.specs.Names.{means}
+use Rattle.json_values.specs.Names.{means}
 use Rattle.message_k.proofs.Channel.{channel-three}
 use borrow.Author.Rules.{rules}
 use Rattle.message_k.proofs.is_channel.Statement.{statement}

@@ -14,8 +14,8 @@ use Rattle.json_tokens.proofs.Bounds.{bounds, blanks-in, closing-in, separator-i
 use Rattle.json_tokens.specs.Ends.{end_of}
 use Rattle.json_tokens.specs.Tokens.{closing, separator, string}
 use Rattle.json_tokens.specs.Tokens as tokens·
-use Rattle.json.specs.Json.{Pair, wrong, member, members, value}
-use Rattle.json.proofs.Fold.{Left, Stands, pair_at, no_name, no-colon, no_value, member-stands, fold-empty, fold_start, fold-wrong, fold-further, fold_on, fold-last, fold-broken}
+use Rattle.json_values.specs.Json.{Pair, wrong, member, members, value}
+use Rattle.json_values.proofs.Fold.{Left, Stands, pair_at, no_name, no-colon, no_value, member-stands, fold-empty, fold_start, fold-wrong, fold-further, fold_on, fold-last, fold-broken}
 use Rattle.entries.specs.Rows.{Entry}
 use Rattle.entries.specs.Tally.{met, Tells, Kept}
 use Rattle.message_k.specs.MembersK.{with_member, no_members, closed_at, members_at}

@@ -9,8 +9,8 @@ use borrow.Author.Rules.{rules}
 use native.Mathlib.Omega.{arith}
 use lib.ListN.{length}
 use Rattle.json_tokens.proofs.Bounds.{blanks-in}
-use Rattle.json.specs.Json.{Span, element, elements, value}
-use Rattle.json.proofs.Fold.{Left, Stands, made, no-element, element-stands, fold-empty, fold_start, fold-wrong, fold-further, fold_on, fold-last, fold-broken}
+use Rattle.json_values.specs.Json.{Span, element, elements, value}
+use Rattle.json_values.proofs.Fold.{Left, Stands, made, no-element, element-stands, fold-empty, fold_start, fold-wrong, fold-further, fold_on, fold-last, fold-broken}
 use Rattle.entries.specs.Tally.{met}
 use Rattle.message_k.specs.MembersK.{no_members, members_at, ObjectRead}
 use Rattle.message_k.specs.PartsK.{no_parts, with_outer, with_part, ended_at, parts_in}

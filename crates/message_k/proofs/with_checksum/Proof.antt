@@ -2,7 +2,7 @@
 -- Assumes nothing.
 use mathlib.Core.Path.{refl}
 use Rattle.json_tokens.proofs.Laws.{end-at}
-use Rattle.json.specs.Json.{value}
+use Rattle.json_values.specs.Json.{value}
 use Rattle.message_k.proofs.Numbers.{sum-none, sum_told}
 use borrow.Author.Rules.{rules}
 use Rattle.message_k.proofs.with_checksum.Statement.{statement}

@@ -1,8 +1,8 @@
 -- `message_l::is_symbol` meets its contract: only a `symbol` is compared.
 -- Assumes nothing.
 use mathlib.Core.Path.{◌∙◌, sym}
-use Rattle.json.specs.Json.{Span}
-use Rattle.json.specs.Names.{means}
+use Rattle.json_values.specs.Json.{Span}
+use Rattle.json_values.specs.Names.{means}
 use Rattle.text.specs.Text.{ascii}
 use Rattle.message_l.proofs.Steps.{and-hit, and-miss}
 use borrow.Author.Rules.{rules}

@@ -8,7 +8,7 @@ use mathlib.Core.List.{List}
 use native.Mathlib.Omega.{arith}
 use Rattle.json_tokens.specs.Ends.{end_of}
 use Rattle.json_tokens.proofs.Laws.{in-byte}
-use Rattle.json.specs.Json.{value}
+use Rattle.json_values.specs.Json.{value}
 use Rattle.text.specs.Text.{byte_at}
 use Rattle.message_l.specs.declared.Listing.{Listing}
 use Rattle.message_l.proofs.Whole.{listing-end-at}

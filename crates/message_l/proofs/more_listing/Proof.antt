@@ -3,7 +3,7 @@
 use mathlib.Core.Path.{ap, ◌∙◌}
 use mathlib.Core.Bool.{Bool, ◌||◌}
 use Rattle.json_tokens.specs.Ends.{end_of}
-use Rattle.json.specs.Json.{Span, value}
+use Rattle.json_values.specs.Json.{Span, value}
 use Rattle.message_l.proofs.Steps.{listing-made}
 use borrow.Author.Rules.{rules}
 use Rattle.message_l.proofs.more_listing.Statement.{statement}

@@ -2,7 +2,7 @@
 -- Assumes nothing.
 use mathlib.Core.Path.{◌∙◌, sym}
 use native.Mathlib.Omega.{arith}
-use Rattle.json.specs.Json.{Pair}
+use Rattle.json_values.specs.Json.{Pair}
 use Rattle.edit.specs.declared.Side.TheVariants.{Bids, Asks}
 use Rattle.layout.specs.MemberSpans.{member_at}
 use Rattle.message_l.proofs.Steps.{orders-end, orders-tally, orders-added, passed-added, orders-bids, orders-asks, orders-other, sides-bids, sides-asks, sides-other}

@@ -1,7 +1,7 @@
 -- `message_m::gsn_of` meets its contract: a member that was met once is read where it lies.
 -- Assumes nothing.
 use mathlib.Core.Path.{◌∙◌, sym}
-use Rattle.json.specs.Names.{part}
+use Rattle.json_values.specs.Names.{part}
 use Rattle.entries.specs.Places.{whole_at}
 use borrow.Author.Rules.{rules}
 use Rattle.layout.proofs.MemberSpans.{then-no, then-yes}

@@ -2,8 +2,8 @@
 -- Assumes nothing.
 use mathlib.Core.Path.{◌∙◌}
 use Rattle.text.specs.Text.{ascii}
-use Rattle.json.specs.Json.{Span}
-use Rattle.json.specs.Names.{means}
+use Rattle.json_values.specs.Json.{Span}
+use Rattle.json_values.specs.Names.{means}
 use Rattle.message_m.proofs.Steps.{and_yes, and_no}
 use borrow.Author.Rules.{rules}
 use Rattle.message_m.proofs.is_book.Statement.{statement}

@@ -1,8 +1,8 @@
 -- `message_m::is_product` meets its contract: only a `product` is compared.
 -- Assumes nothing.
 use mathlib.Core.Path.{◌∙◌}
-use Rattle.json.specs.Json.{Span}
-use Rattle.json.specs.Names.{means}
+use Rattle.json_values.specs.Json.{Span}
+use Rattle.json_values.specs.Names.{means}
 use Rattle.message_m.proofs.Steps.{and_yes, and_no}
 use borrow.Author.Rules.{rules}
 use Rattle.message_m.proofs.is_product.Statement.{statement}

@@ -1,7 +1,7 @@
 -- `message_m::key_of` meets its contract: one name after the other, in the order of the definition.
 -- Assumes nothing.
 use mathlib.Core.Path.{◌∙◌, sym}
-use Rattle.json.specs.Json.{Span}
+use Rattle.json_values.specs.Json.{Span}
 use Rattle.message_m.proofs.Steps.{key-channel, key-product, key-type, key-data, key-checksum, key-gsn, key-previous, key-other}
 use borrow.Author.Rules.{rules}
 use Rattle.message_m.proofs.key_of.Statement.{statement}

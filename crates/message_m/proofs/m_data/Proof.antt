@@ -13,8 +13,8 @@ use mathlib.Core.Path.{◌≡◌, ◌∙◌, sym, ap, subst}
 use mathlib.Core.List.{List}
 use Rattle.json_tokens.specs.Tokens.{closing, separator, string}
 use Rattle.json_tokens.specs.Ends.{end_of}
-use Rattle.json.specs.Json.{Pair, wrong, member, members, value}
-use Rattle.json.proofs.Fold.{Stands, pair_at, no_name, no-colon, no_value, member-stands, fold-empty, fold_start, fold-wrong, fold-further, fold_on, fold-last, fold-broken}
+use Rattle.json_values.specs.Json.{Pair, wrong, member, members, value}
+use Rattle.json_values.proofs.Fold.{Stands, pair_at, no_name, no-colon, no_value, member-stands, fold-empty, fold_start, fold-wrong, fold-further, fold_on, fold-last, fold-broken}
 use Rattle.entries.specs.Rows.{Entry}
 use Rattle.entries.specs.Tally.{met as count, Tells, Kept}
 use Rattle.layout.proofs.Objects.{value-ends, next-is}

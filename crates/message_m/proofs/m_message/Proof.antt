@@ -14,8 +14,8 @@ use mathlib.Core.Bool.{Bool}
 use mathlib.Core.List.{List, []}
 use Rattle.json_tokens.specs.Tokens.{separator, string}
 use Rattle.json_tokens.specs.Ends.{end_of}
-use Rattle.json.specs.Json.{Pair, wrong, member, members, value}
-use Rattle.json.proofs.Fold.{Stands, pair_at, no_name, no-colon, no_value, member-places, member-stands, fold-empty, fold_start, fold-wrong, fold-further, fold_on, fold-last, fold-broken}
+use Rattle.json_values.specs.Json.{Pair, wrong, member, members, value}
+use Rattle.json_values.proofs.Fold.{Stands, pair_at, no_name, no-colon, no_value, member-places, member-stands, fold-empty, fold_start, fold-wrong, fold-further, fold_on, fold-last, fold-broken}
 use Rattle.entries.proofs.Tallies.{tells_none, kept-none}
 use Rattle.layout.specs.Scan.{not_framed, scan_at, Scanned}
 use Rattle.layout.specs.declared.Scan.{Scan}

@@ -5,7 +5,7 @@ use borrow.Author.Rules.{rules}
 use borrow.Author.Tests.{eq-eqb, ne_eqb}
 use lib.Dec.{eqb}
 use Rattle.json_tokens.specs.Ends.{end_of}
-use Rattle.json.specs.Json.{Span, value}
+use Rattle.json_values.specs.Json.{Span, value}
 use Rattle.message_m.specs.declared.Data.{Data}
 use Rattle.message_m.proofs.Steps.{body-data, body-other, added-as, added-told, added_none, body-held, body-passed}
 use Rattle.message_m.proofs.more_body.Statement.{statement}

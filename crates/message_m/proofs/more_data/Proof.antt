@@ -2,7 +2,7 @@
 -- Assumes nothing.
 use mathlib.Core.Path.{◌∙◌, sym}
 use native.Mathlib.Omega.{arith}
-use Rattle.json.specs.Json.{Pair}
+use Rattle.json_values.specs.Json.{Pair}
 use Rattle.edit.specs.declared.Side.TheVariants.{Bids, Asks}
 use Rattle.layout.specs.MemberSpans.{member_at}
 use Rattle.message_m.proofs.Steps.{entries-end, entries-tally, entries-added, added-as, added_none, data-bids, data-asks, data-other, held-bids, held_asks, held-other}

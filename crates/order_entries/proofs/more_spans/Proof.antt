@@ -1,6 +1,6 @@
 -- `more_spans` meets its contract: the mark takes the place of a member of its name.
 use mathlib.Core.Path.{◌∙◌, sym}
-use Rattle.json.specs.Names.{means}
+use Rattle.json_values.specs.Names.{means}
 use Rattle.layout.specs.MemberSpans.{with_member_span}
 use Rattle.layout.proofs.MemberSpans.{hit-yes, hit-no}
 use borrow.Author.Rules.{rules}

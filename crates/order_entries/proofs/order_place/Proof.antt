@@ -9,8 +9,8 @@ use Rattle.text.specs.Text.{byte_at}
 use Rattle.decimal.specs.Digits.{refused}
 use Rattle.json_tokens.specs.Ends.{end_of}
 use Rattle.json_tokens.proofs.Laws.{in-byte}
-use Rattle.json.specs.Json.{Pair, wrong, member, value}
-use Rattle.json.proofs.Fold.{Left, Stands, pair_at, no_name, no-colon, no_value, member-places, member-stands, fold-wrong, fold-further, fold_on, fold-last, fold-broken}
+use Rattle.json_values.specs.Json.{Pair, wrong, member, value}
+use Rattle.json_values.proofs.Fold.{Left, Stands, pair_at, no_name, no-colon, no_value, member-places, member-stands, fold-wrong, fold-further, fold_on, fold-last, fold-broken}
 use Rattle.order_entries.specs.declared.OrderPlace.{OrderPlace}
 use Rattle.order_entries.specs.Collected.{order_place_of, order_place_at, no_members, more_members, Inside, Found}
 use Rattle.order_entries.proofs.Placing.{none-laid}

@@ -4,7 +4,7 @@ use Prim.Native.Nat.{ℕ, ◌+◌, ◌-◌}
 use lib.ListN.{take, drop}
 use Rattle.message.specs.declared.Part.{Part}
 use Rattle.message.specs.Bad.{part_of}
-use Rattle.json.specs.Names.{part}
+use Rattle.json_values.specs.Names.{part}
 use borrow.Author.Rules.{rules}
 use Rattle.message.proofs.bad.bad_decimal.Statement.{statement}
 use Rattle.message.proofs.bad.bad_decimal.Tie as tie

@@ -39,7 +39,7 @@ pub const MAX_DEPTH: usize = 16;
 const LONG_ESCAPE: u8 = 117;
 
 // Past the value at `at`.
-#[cycle(array_end_member_end_object_end_value_end)]
+#[cycle(values)]
 pub fn value_end(s: &[u8], at: usize, depth: usize) -> usize
     ensures { result ≡ end_of (value depth s.now at) }
 {
@@ -74,7 +74,7 @@ pub fn item_end(s: &[u8], at: usize, depth: usize) -> usize
 }
 
 // Past an array, from past its bracket.
-#[cycle(array_end_member_end_object_end_value_end)]
+#[cycle(values)]
 pub fn array_end(s: &[u8], at: usize, depth: usize) -> usize
     ensures { result ≡ end_of (items_end (elements (value depth s.now) s.now at)) }
 {
@@ -97,7 +97,7 @@ pub fn array_end(s: &[u8], at: usize, depth: usize) -> usize
 }
 
 // Past a member of an object.
-#[cycle(array_end_member_end_object_end_value_end)]
+#[cycle(values)]
 fn member_end(s: &[u8], at: usize, depth: usize) -> usize
     ensures { result ≡ end_of (member_end (value depth s.now) s.now at) }
 {
@@ -113,7 +113,7 @@ fn member_end(s: &[u8], at: usize, depth: usize) -> usize
 }
 
 // Past an object, from past its brace.
-#[cycle(array_end_member_end_object_end_value_end)]
+#[cycle(values)]
 pub fn object_end(s: &[u8], at: usize, depth: usize) -> usize
     ensures { result ≡ end_of (items_end (members (value depth s.now) s.now at)) }
 {

@@ -9,7 +9,7 @@ use Rattle.crc32_spec.specs.Rows.{entry_at}
 use Rattle.crc32_spec.proofs.Rows.{tested, alike, rows, powers, span, double, last}
 use Rattle.crc32_tables.proofs.rows0.Goals as goal
 
-table : List ℕ
+abbrev table : List ℕ
 table =
     0 ∷ 1152921504623624192 ∷ 2305843009247248384 ∷ 3458764513870872576 ∷
     4611686018494496768 ∷ 5764607523118120960 ∷ 6917529027741745152 ∷ 8070450532365369344 ∷

@@ -9,7 +9,7 @@ use Rattle.crc32_spec.specs.Rows.{entry_at}
 use Rattle.crc32_spec.proofs.Rows.{tested, alike, rows, powers, span, double, last}
 use Rattle.crc32_tables_long.proofs.rows1.Goals as goal
 
-table : List ℕ
+abbrev table : List ℕ
 table =
     0 ∷ 6347585555979276302 ∷ 12695171108826392157 ∷ 16733522104601654867 ∷
     13487607957017152251 ∷ 16373606753565596405 ∷ 793712316047387814 ∷ 5986676212080114856 ∷

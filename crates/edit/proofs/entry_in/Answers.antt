@@ -7,6 +7,6 @@ use Rattle.edit.proofs.entry_in.Goals as goal
 pub returns : goal.returns
 unfolding entries_in entry_of
 returns c =
-    let b = (goal.at.returns c).After-way_told-1 in
+    let b = c in
     rw (c.of_parts-price.ensures, c.of_parts-size.ensures, c.side_in.ensures)
     (threes-at entry_of b.args.k b.args.buffer.now no_numbers (omega (arith, b.requires.0, b.requires.1)))

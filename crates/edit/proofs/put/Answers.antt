@@ -37,7 +37,7 @@ overflow_add-rest c = let h = few (goal.at.overflow_add-rest c).After-side_numbe
 pub returns-then-k-lt-MAX_BUFFERED : goal.returns-then-k-lt-MAX_BUFFERED
 unfolding entries_in
 returns-then-k-lt-MAX_BUFFERED c =
-    let b = (goal.at.returns-then-k-lt-MAX_BUFFERED c).Then-k-lt-MAX_BUFFERED in
+    let b = c in
     let a = b.args in
     let e : Numbers = record { side = a.side; price = number a.price; size = number a.size } in
     record {

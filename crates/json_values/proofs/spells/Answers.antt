@@ -1,0 +1,29 @@
+-- `json::spells` meets its contract: past the bytes that stand for themselves, both end, an escape stands, or another byte.
+-- Assumes nothing.
+use mathlib.Core.Path.{sym, ap, ◌∙◌}
+use mathlib.Core.List.{List}
+use Prim.Native.Nat.{ℕ}
+use lib.ListN.{drop}
+use Rattle.text.specs.Text.{byte_at}
+use Rattle.json_values.specs.Names.{same}
+use Rattle.json_values.proofs.Names.{meaning-end, same_end}
+use Rattle.json_values.proofs.spells.Goals as goal
+
+pub returns-then-t-k : goal.returns-then-t-k
+returns-then-t-k c =
+    let a = c.args in
+    let p = c.plain_end-k in
+    sym (ap (λ (x : List ℕ). same x (drop p.result a.name.now)) (meaning-end a.t.now p.result c.if-t-k.true) ∙ same_end a.name.now p.result p.ensures.inside)
+    ∙ p.ensures.left
+
+pub returns-then-t-k-eq-BACKSLASH : goal.returns-then-t-k-eq-BACKSLASH
+returns-then-t-k-eq-BACKSLASH c = c.spells_from.ensures ∙ c.plain_end-k.ensures.left
+
+pub returns : goal.returns
+unfolding byte_at
+returns c =
+    let p = c.plain_end-k.ensures in
+    sym (p.stops c.if-t-k.false c.if-t-k-eq-BACKSLASH.false) ∙ p.left
+
+pub spells_from-requires : goal.spells_from-requires
+spells_from-requires c = c.plain_end-k.ensures.inside

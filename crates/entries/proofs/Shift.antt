@@ -21,7 +21,7 @@ use Rattle.json_tokens.proofs.Shift.{Shifts, shifts-at, shifts-broken, past_one,
 use Rattle.json_values.specs.Json.{Span, Items, elements, value}
 use Rattle.json_values.specs.Fold.{fold_from}
 use Rattle.json_values.proofs.Bounds.{value_in}
-use Rattle.json_values.proofs.Shift.{shifted_span, ItemsShifts, both-items, no_items, value-shifts, elements-shift}
+use Rattle.json_values.proofs.Shift.{shifted_span, ItemsShifts, both-items, no-items, value-shifts, elements-shift}
 use Rattle.entries.specs.Places.{and_then, all, is_string, contents, array_at}
 use Rattle.json_values.specs.Names.{inner}
 use Rattle.entries.specs.Rows.{Row, Entry, sided, row_k, row_m, row_of, entry_of, entries_at, sided_at, is_bad_price, is_bad_size, bad_price, bad_size, is_bad, number_in, number_at, numbers_at}
@@ -87,7 +87,7 @@ module _ (k : ℕ) (s : List ℕ) where
   contents-shift : {x y : Items Span} → ItemsShifts k (shifted_span k) x y → contents x ≡ changed (map (shifted_span k)) (contents y)
   unfolding contents changed
   contents-shift (both-items p q) = ap reads p
-  contents-shift no_items = refl
+  contents-shift no-items = refl
 
   -- where an array ends is told by its bytes: neither end is asked
   array-shift : (d i e f : ℕ) → array_at d s (record { from = k + i; to = e }) ≡ changed (map (shifted_span k)) (array_at d (drop k s) (record { from = i; to = f }))

@@ -1,0 +1,61 @@
+-- `any_entry` meets its contract: the two texts that were found are read, counted by what they say, and put as numbers.
+use mathlib.Core.Bool.{Bool, true, false, ◌||◌}
+use mathlib.Core.Path.{◌≡◌, refl, sym, ap₂, ◌∙◌, subst}
+use Rattle.decimal.specs.Decimal.{number}
+use Rattle.decimal.specs.Limits.{Within}
+use Rattle.decimal.specs.Reads.{parsed}
+use Rattle.entries.specs.Rows.{number_at}
+use Rattle.entries.specs.Found.{price_span, size_span}
+use Rattle.entries.proofs.Numbers.{number-within}
+use Rattle.entries.proofs.Decimals.{bad-by, price-by, size-by}
+use Rattle.entries.proofs.Counting.{counted-entry, counted-other}
+use Rattle.entries.proofs.any_entry.Goals as goal
+use Rattle.entries.proofs.any_entry.Goals.{After-number_of-then-found, Start}
+
+pub parse_quoted-price-requires : goal.parse_quoted-price-requires
+parse_quoted-price-requires c = (c.requires.0 c.if-found.true).0
+
+pub parse_quoted-size-requires : goal.parse_quoted-size-requires
+parse_quoted-size-requires c = (c.requires.0 c.if-found.true).1
+
+-- the numbers that are put are those of the two texts
+module _ (c : After-number_of-then-found) where
+  abbrev given : Start
+  given = c.before.before.before.before.before.before.before.before
+
+  price-number : number c.number_of.result ≡ number_at given.args.s.now (price_span given.args.found)
+  price-number =
+      c.number_of.ensures
+      ∙ price-by given.args.s.now given.args.at given.args.found (parsed c.parse_quoted-price.result) (parsed c.parse_quoted-size.result) c.parse_quoted-price.ensures c.parse_quoted-size.ensures
+
+  size_number : number c.number_of-then-found.result ≡ number_at given.args.s.now (size_span given.args.found)
+  size_number =
+      c.number_of-then-found.ensures
+      ∙ size-by given.args.s.now given.args.at given.args.found (parsed c.parse_quoted-price.result) (parsed c.parse_quoted-size.result) c.parse_quoted-price.ensures c.parse_quoted-size.ensures
+
+pub put-requires : goal.put-requires
+put-requires c =
+    let a = c.args in (
+      c.requires.2,
+      subst Within (sym (price-number (goal.at.put-requires c).After-number_of-then-found)) (number-within a.s.now (price_span a.found)),
+      subst Within (sym (size_number (goal.at.put-requires c).After-number_of-then-found)) (number-within a.s.now (size_span a.found)),
+    )
+
+pub returns-then-found : goal.returns-then-found
+returns-then-found c =
+    let a = c.args in
+    let n = (goal.at.returns-then-found c).After-number_of-then-found in
+    let p = c.parse_quoted-price in
+    let z = c.parse_quoted-size in
+    let price = c.is_bad_price-bad.ensures in
+    let bad = bad-by a.s.now a.at a.found (parsed p.result) (parsed z.result) p.ensures z.ensures in
+    counted-entry a.s.now a.side a.before a.at a.found a.buffer.now _ c.if-found.true refl
+    c.either-broken.result c.either-strict.result c.with_entry-tally.ensures
+    (c.either-broken.ensures ∙ ap₂ (λ (x y : Bool). x || y) price c.is_bad_size.ensures ∙ bad false)
+    (c.either-strict.ensures ∙ ap₂ (λ (x y : Bool). x || y) price c.is_bad_size-then-found.ensures ∙ bad true)
+    _ (number n.number_of.result) (number n.number_of-then-found.result) c.put.ensures (price-number n) (size_number n)
+
+pub returns : goal.returns
+returns c =
+    let a = c.args in
+    counted-other a.s.now a.side a.before a.at a.found a.buffer.now c.told_not.result c.if-found.false c.requires.2 c.told_not.ensures

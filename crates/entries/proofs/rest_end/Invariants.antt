@@ -1,0 +1,13 @@
+use Prim.Native.Nat.{ℕ, suc, ◌+◌, ◌-◌, ◌≤◌}
+use lib.ListN.{length}
+use mathlib.Core.Bool.{false}
+use Rattle.json_values.proofs.Walk.{Walk}
+use Rattle.json_values.specs.Json.{items_end, list, next}
+use Rattle.entries.proofs.Stops.{one}
+use Rattle.entries.proofs.rest_end.Given as goal
+
+abbrev pub invariant-loop-at : goal.invariant-loop-at
+invariant-loop-at l = (n : ℕ) → length l.s ≤ n + l.at → Walk (one l.depth l.s) 93 l.s items_end l.i (next (one l.depth l.s) 93 l.s false l.i) (items_end (list (one l.depth l.s) 93 l.s (suc n) false l.at))
+
+abbrev pub decreases-loop-at : goal.decreases-loop-at
+decreases-loop-at l = length l.s - l.i

@@ -10,7 +10,7 @@ use Rattle.entries.proofs.Numbers.{number-within}
 use Rattle.entries.proofs.Decimals.{bad-by, price-by, size-by}
 use Rattle.entries.proofs.Counting.{counted-entry, counted-other}
 use Rattle.entries.proofs.any_entry.Goals as goal
-use Rattle.entries.proofs.any_entry.Goals.{After-number_of-then-found, Start}
+use Rattle.entries.proofs.any_entry.Goals.{After-number_of-then-found}
 
 pub parse_quoted-price-requires : goal.parse_quoted-price-requires
 parse_quoted-price-requires c = (c.requires.0 c.if-found.true).0
@@ -20,18 +20,15 @@ parse_quoted-size-requires c = (c.requires.0 c.if-found.true).1
 
 -- the numbers that are put are those of the two texts
 module _ (c : After-number_of-then-found) where
-  abbrev given : Start
-  given = c.before.before.before.before.before.before.before.before
-
-  price-number : number c.number_of.result ≡ number_at given.args.s.now (price_span given.args.found)
+  price-number : number c.number_of.result ≡ number_at c.args.s.now (price_span c.args.found)
   price-number =
       c.number_of.ensures
-      ∙ price-by given.args.s.now given.args.at given.args.found (parsed c.parse_quoted-price.result) (parsed c.parse_quoted-size.result) c.parse_quoted-price.ensures c.parse_quoted-size.ensures
+      ∙ price-by c.args.s.now c.args.at c.args.found (parsed c.parse_quoted-price.result) (parsed c.parse_quoted-size.result) c.parse_quoted-price.ensures c.parse_quoted-size.ensures
 
-  size_number : number c.number_of-then-found.result ≡ number_at given.args.s.now (size_span given.args.found)
+  size_number : number c.number_of-then-found.result ≡ number_at c.args.s.now (size_span c.args.found)
   size_number =
       c.number_of-then-found.ensures
-      ∙ size-by given.args.s.now given.args.at given.args.found (parsed c.parse_quoted-price.result) (parsed c.parse_quoted-size.result) c.parse_quoted-price.ensures c.parse_quoted-size.ensures
+      ∙ size-by c.args.s.now c.args.at c.args.found (parsed c.parse_quoted-price.result) (parsed c.parse_quoted-size.result) c.parse_quoted-price.ensures c.parse_quoted-size.ensures
 
 pub put-requires : goal.put-requires
 put-requires c =

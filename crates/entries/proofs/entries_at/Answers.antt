@@ -25,8 +25,8 @@ returns-then-byte_at-ne-OPEN_ARRAY c =
 pub slice_bounds-entries_in-count : goal.slice_bounds-entries_in-count
 slice_bounds-entries_in-count c = let l = inside (goal.at.slice_bounds-entries_in-count c).Else-byte_at-ne-OPEN_ARRAY in omega arith
 
-part-start : tie.Need-slice-bounds-entries-in-start
-part-start c = let l = inside c in omega arith
+pub slice_bounds-entries_in-start : goal.slice_bounds-entries_in-start
+slice_bounds-entries_in-start c = let l = inside (goal.at.slice_bounds-entries_in-start c).Else-byte_at-ne-OPEN_ARRAY in omega arith
 
 pub entries_in-read-requires : goal.entries_in-read-requires
 entries_in-read-requires c =
@@ -58,6 +58,3 @@ pub returns : goal.returns
 returns c =
     let a = c.args in
     met-later a.at a.s.now a.depth a.form a.side a.before c.entries_in-read.ensures c.if-read-eq0.false
-
-pub slice_bounds-entries_in-start : goal.slice_bounds-entries_in-start
-slice_bounds-entries_in-start = part-start

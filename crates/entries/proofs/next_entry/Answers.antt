@@ -16,7 +16,7 @@ use Rattle.entries.proofs.Found.{found-broken, found-laid, found-past}
 use Rattle.entries.proofs.Decimals.{decimals-formed, decimals-end, price-reads, size-reads, bad-by, price-by, size-by}
 use Rattle.entries.proofs.Counting.{counted-entry, counted-other, counted-found}
 use Rattle.entries.proofs.next_entry.Goals as goal
-use Rattle.entries.proofs.next_entry.Goals.{Start, Then-end-gt0}
+use Rattle.entries.proofs.next_entry.Goals.{Then-end-gt0}
 
 or-false : (a : Bool) → a ≡ (a || false)
 or-false true = refl
@@ -24,34 +24,31 @@ or-false false = refl
 
 -- two decimals, and the end of the entry
 module _ (c : Then-end-gt0) where
-  abbrev given : Start
-  given = c.before.before.before.before.before.before
-
   abbrev found : EntryPlace
-  found = entry_place_at given.args.form given.args.depth given.args.s.now given.args.at
+  found = entry_place_at c.args.form c.args.depth c.args.s.now c.args.at
 
-  two : TwoDecimals given.args.s.now given.args.at c.two_amounts-front.result
+  two : TwoDecimals c.args.s.now c.args.at c.two_amounts-front.result
   two = let some = c.if-front-gt0.true in c.two_amounts-front.ensures (λ z. omega arith)
 
   more : c.entry_end-end.result ≡ 0 → ⊥
   more = let some = c.if-end-gt0.true in λ z. omega arith
 
   ends : found.end ≡ c.entry_end-end.result
-  ends = decimals-end given.args.form given.args.depth given.args.s.now given.args.at c.two_amounts-front.result two c.entry_end-end.result c.entry_end-end.ensures more
+  ends = decimals-end c.args.form c.args.depth c.args.s.now c.args.at c.two_amounts-front.result two c.entry_end-end.result c.entry_end-end.ensures more
 
   formed : found.well_formed ≡ true
-  formed = decimals-formed given.args.form given.args.depth given.args.s.now given.args.at c.two_amounts-front.result two c.entry_end-end.result c.entry_end-end.ensures more
+  formed = decimals-formed c.args.form c.args.depth c.args.s.now c.args.at c.two_amounts-front.result two c.entry_end-end.result c.entry_end-end.ensures more
 
-  price : read (inner given.args.s.now (price_span found)) ≡ reads (number c.two_amounts-front.result.price)
-  price = price-reads given.args.form given.args.depth given.args.s.now given.args.at c.two_amounts-front.result two c.entry_end-end.result c.entry_end-end.ensures more
+  price : read (inner c.args.s.now (price_span found)) ≡ reads (number c.two_amounts-front.result.price)
+  price = price-reads c.args.form c.args.depth c.args.s.now c.args.at c.two_amounts-front.result two c.entry_end-end.result c.entry_end-end.ensures more
 
-  size : read (inner given.args.s.now (size_span found)) ≡ reads (number c.two_amounts-front.result.size)
-  size = size-reads given.args.form given.args.depth given.args.s.now given.args.at c.two_amounts-front.result two c.entry_end-end.result c.entry_end-end.ensures more
+  size : read (inner c.args.s.now (size_span found)) ≡ reads (number c.two_amounts-front.result.size)
+  size = size-reads c.args.form c.args.depth c.args.s.now c.args.at c.two_amounts-front.result two c.entry_end-end.result c.entry_end-end.ensures more
 
-  past : (given.args.at < c.entry_end-end.result) × (c.entry_end-end.result ≤ length given.args.s.now)
+  past : (c.args.at < c.entry_end-end.result) × (c.entry_end-end.result ≤ length c.args.s.now)
   past =
       let e = ends in
-      let p = found-past given.args.form given.args.depth given.args.s.now given.args.at found refl (λ z. more (sym ends ∙ z)) in
+      let p = found-past c.args.form c.args.depth c.args.s.now c.args.at found refl (λ z. more (sym ends ∙ z)) in
       (omega arith, omega arith)
 
 pub overflow_add-before : goal.overflow_add-before
@@ -74,12 +71,12 @@ returns-then-end-gt0 c =
     let a = c.args in
     let m = (goal.at.returns-then-end-gt0 c).Then-end-gt0 in
     let d = m.two_amounts-front.result in
-    let bad = bad-by a.s.now (a.base + a.at) (found m) (reads (number d.price-1)) (reads (number d.size-1)) (sym (price m)) (sym (size m)) in
+    let bad = bad-by a.s.now (a.base + a.at) (found m) (reads (number d.price)) (reads (number d.size)) (sym (price m)) (sym (size m)) in
     counted-entry a.s.now a.side a.before (a.base + a.at) (found m) a.buffer.now _ (formed m) (sym (ends m))
     c.is_zero-broken.result c.either-strict.result c.with_entry-tally.ensures
-    (c.is_zero-broken.ensures ∙ or-false (is_zero (number d.price-1)) ∙ bad false)
+    (c.is_zero-broken.ensures ∙ or-false (is_zero (number d.price)) ∙ bad false)
     (c.either-strict.ensures ∙ ap₂ (λ (x y : Bool). x || y) c.is_zero-broken.ensures c.is_zero.ensures ∙ bad true)
-    _ (number d.price-1) (number d.size-1) c.put.ensures
+    _ (number d.price) (number d.size) c.put.ensures
     (price-by a.s.now a.at (found m) (reads (number d.price-1)) (reads (number d.size-1)) (sym (price m)) (sym (size m)))
     (size-by a.s.now a.at (found m) (reads (number d.price-1)) (reads (number d.size-1)) (sym (price m)) (sym (size m)))
 

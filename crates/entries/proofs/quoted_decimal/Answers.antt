@@ -30,10 +30,10 @@ overflow_add-result c =
 pub returns-else-byte_at-ne-QUOTE-2 : goal.returns-else-byte_at-ne-QUOTE-2
 returns-else-byte_at-ne-QUOTE-2 c =
     let a = c.args in
-    let d = c.decimal-1.given in
-    let h = sym (ap (parsed_front (a.at + 1)) d.1) ∙ c.parse_at.ensures in
+    let d = c.in-Number in
+    let h = sym (ap (parsed_front (a.at + 1)) d.is) ∙ c.parse_at.ensures in
     let opens = sym c.byte_at.ensures ∙ c.if-byte_at-ne-QUOTE.false in
-    λ n. decimal-quoted a.s.now a.at d.0.1.0 d.0.0 h opens (sym c.byte_at-in-Number.ensures ∙ c.if-byte_at-ne-QUOTE-2.false)
+    λ n. decimal-quoted a.s.now a.at d.end d.decimal h opens (sym c.byte_at-in-Number.ensures ∙ c.if-byte_at-ne-QUOTE-2.false)
 
 pub returns-in-Refused : goal.returns-in-Refused
 returns-in-Refused c = λ n. absurd (n c.no_decimal-in-Refused.ensures)

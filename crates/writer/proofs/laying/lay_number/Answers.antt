@@ -1,0 +1,46 @@
+-- `lay_number` meets its contract: the text is laid, and then the digits.
+use Prim.Native.Nat.{ℕ}
+use mathlib.Core.Path.{refl}
+use mathlib.Core.List.{List, ◌++◌}
+use Rattle.decimal.specs.Digits.{written}
+use Rattle.writer.proofs.Owed.{Whole, owed_all, owed-rest, room-first, put_last}
+use Rattle.writer.proofs.laying.lay_number.Goals as goal
+use Rattle.writer.proofs.laying.lay_number.Lts as lts
+use Rattle.writer.proofs.laying.lay_number.Tie as tie
+use Rattle.writer.proofs.laying.lay_number.Reads as reads
+
+-- Places in the code.
+abbrev Start : Type 0
+Start = lts.Start tie.the-claims reads.Pre reads.Post
+
+abbrev After-lay-start : Type 0
+After-lay-start = lts.After-lay tie.the-claims reads.Pre reads.Post
+
+-- ---- the texts, and what is owed after each
+abbrev text : Start → List ℕ
+text s = s.args.before.now
+
+abbrev rest : Start → List ℕ
+rest s = written s.args.n
+
+abbrev Left : Start → List ℕ → ℕ → List ℕ → Type 0
+Left s = Whole s.args.buffer.now s.args.at (text s ++ rest s)
+
+left : (s : Start) → Left s s.args.buffer.now s.args.at (text s ++ rest s)
+left s = owed_all s.requires
+
+abbrev start₁ : After-lay-start → Start
+start₁ c = c.before.before.before.before
+
+left-rest : (c : After-lay-start) → Left (start₁ c) c.lay-start.new.buffer c.lay-start.result (rest (start₁ c))
+left-rest c = owed-rest (left (start₁ c)) c.lay-start.ensures
+
+-- ---- needs
+pub lay-start-requires : goal.lay-start-requires
+lay-start-requires c = room-first (text c.before.before.before.before) (rest c.before.before.before.before) (left c.before.before.before.before)
+
+pub lay_whole-requires : goal.lay_whole-requires
+lay_whole-requires c = (left-rest c.before.before.before.before).room
+
+pub returns : goal.returns
+returns c = put_last (left-rest c.before.before.before.before.before.before.before) refl c.lay_whole.ensures

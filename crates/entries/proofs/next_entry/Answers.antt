@@ -77,8 +77,8 @@ returns-then-end-gt0 c =
     (c.is_zero-broken.ensures ∙ or-false (is_zero (number d.price)) ∙ bad false)
     (c.either-strict.ensures ∙ ap₂ (λ (x y : Bool). x || y) c.is_zero-broken.ensures c.is_zero.ensures ∙ bad true)
     _ (number d.price) (number d.size) c.put.ensures
-    (price-by a.s.now a.at (found m) (reads (number d.price-1)) (reads (number d.size-1)) (sym (price m)) (sym (size m)))
-    (size-by a.s.now a.at (found m) (reads (number d.price-1)) (reads (number d.size-1)) (sym (price m)) (sym (size m)))
+    (price-by a.s.now a.at (found m) (reads (number d.price)) (reads (number d.size)) (sym (price m)) (sym (size m)))
+    (size-by a.s.now a.at (found m) (reads (number d.price)) (reads (number d.size)) (sym (price m)) (sym (size m)))
 
 pub returns-then-found-eq0 : goal.returns-then-found-eq0
 unfolding entry_place_of

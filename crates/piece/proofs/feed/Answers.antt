@@ -14,7 +14,7 @@ use Rattle.piece.proofs.feed.Reads as reads
 
 -- Places in the code.
 abbrev In-Byte : Type 0
-In-Byte = lts.After-known_told tie.the-claims reads.Pre reads.Post goal.the-invariant-loop-b goal.the-decreases-loop-b
+In-Byte = lts.Past-After-known_told tie.the-claims reads.Pre reads.Post goal.the-invariant-loop-b goal.the-decreases-loop-b
 
 -- the text before the last byte, and how much longer it is with it
 abbrev shorter : In-Byte → Tail

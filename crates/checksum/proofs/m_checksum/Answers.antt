@@ -1,0 +1,36 @@
+-- `m_checksum` meets its contract: the pairs, then what one side has more, are the best levels in turn; a colon leads into the text.
+use Prim.Native.Nat.{ℕ}
+use mathlib.Core.Path.{ap, ◌∙◌}
+use mathlib.Core.Logic.{⊎_elim, inl, inr}
+use lib.ListN.{take, drop}
+use Rattle.crc32_spec.specs.Crc.{finish}
+use Rattle.level.specs.Words.{levels_in}
+use Rattle.level.specs.Kept.{held}
+use Rattle.checksum.specs.Carried.{summed}
+use Rattle.checksum.proofs.Pieces.{enough, m-none, m-all}
+use Rattle.checksum.proofs.m_checksum.Goals as goal
+
+pub returns-then-ask_end-eq0 : goal.returns-then-ask_end-eq0
+unfolding held
+returns-then-ask_end-eq0 c =
+    let a = c.args in
+    m-none a.most a.bid-count a.ask-count c.at_most-bid_end.result c.at_most-ask_end.result (levels_in a.bids.now) (levels_in a.asks.now)
+    c.at_most-bid_end.ensures c.at_most-ask_end.ensures c.if-bid_end-eq0.true c.if-ask_end-eq0.true
+
+pub returns : goal.returns
+unfolding held
+returns c =
+    let s = c in
+    let a = s.args in
+    let bids = levels_in a.bids.now in
+    let asks = levels_in a.asks.now in
+    let b = c.at_most-bid_end in
+    let k = c.at_most-ask_end in
+    let both = c.at_most-both in
+    ap finish
+    (c.sum_levels.ensures
+    ∙ ap (λ (sum : ℕ). summed sum (drop both.result (take k.result asks)))
+    (c.sum_levels-after_bids.ensures ∙ ap (λ (sum : ℕ). summed sum (drop both.result (take b.result bids))) c.sum_pairs-paired.ensures))
+    ∙ m-all a.most a.bid-count a.ask-count b.result k.result bids asks b.ensures k.ensures both.result
+    (enough a.bid-count a.bids.now s.requires.0.few s.requires.0.room) (enough a.ask-count a.asks.now s.requires.1.few s.requires.1.room) both.ensures
+    (⊎_elim (λ w. inr w.1.left) (λ w. inl w.left) c.if-bid_end-eq0.branch) s.requires.2 s.requires.3

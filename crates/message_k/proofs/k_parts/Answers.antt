@@ -3,7 +3,6 @@
 -- Assumes nothing.
 use mathlib.Core.Path.{◌≡◌, refl, ap, ◌∙◌}
 use mathlib.Core.List.{List, [], ◌∷◌, ◌++◌}
-use mathlib.Core.Logic.{⊎_elim}
 use Prim.Native.Nat.{ℕ, ◌-◌, ◌≤◌}
 use native.Mathlib.Omega.{arith}
 use Rattle.json_values.specs.Json.{element, elements, value}
@@ -16,6 +15,7 @@ use Rattle.message_k.specs.declared.Outer.{Outer}
 use Rattle.message_k.proofs.OnePart.{Step, with_outer_of, step-one, step-two, step_other, step_value, step_part}
 use Rattle.message_k.proofs.Bearing.{over_parts, over_spans, Bears, no-element as none_yet, bears-few, Moved, moved-one, moved-two, moved_other, bears-next, parts-broken, parts-read}
 use Rattle.message_k.proofs.k_parts.Goals as goal
+use Rattle.message_k.proofs.k_parts.Goals.{then-outer-eq1, else-outer-eq1+then-outer-eq2, else-outer-eq1+else-outer-eq2}
 use Rattle.message_k.proofs.k_parts.Lts as lts
 use Rattle.message_k.proofs.k_parts.Tie as tie
 use Rattle.message_k.proofs.k_parts.Reads as reads
@@ -41,21 +41,19 @@ module _ (c : Joined-outer-eq1) where
 
   read : Step (text at) at.loop-buffer.parts at.loop-buffer.i c.if-outer-eq1.parts c.if-outer-eq1.past
   read =
-      ⊎_elim
-      (λ w. step-one (text at) at.loop-buffer.parts at.loop-buffer.i w.3.result w.0.taken (w.3.ensures.told ∙ ap (λ x. members_at (text at) x at.loop-buffer.i) w.1.ensures) w.5 w.6)
-      (⊎_elim
-      (λ w. step-two (text at) at.loop-buffer.parts at.loop-buffer.i w.4.result w.2.taken w.4.ensures.told w.6 w.7)
-      (λ w. step_other (text at) at.loop-buffer.parts at.loop-buffer.i w.0.left w.2.left w.3.result w.3.ensures w.5 w.6))
-      c.if-outer-eq1.branch
+      elim c.if-outer-eq1.branch [
+        then-outer-eq1 w ↦ step-one (text at) at.loop-buffer.parts at.loop-buffer.i w.k_object-parts.result w.if-outer-eq1.true (w.k_object-parts.ensures.told ∙ ap (λ x. members_at (text at) x at.loop-buffer.i) w.no_members.ensures) w.parts-is w.past-is
+      | else-outer-eq1+then-outer-eq2 w ↦ step-two (text at) at.loop-buffer.parts at.loop-buffer.i w.k_object-parts-then-outer-eq2.result w.if-outer-eq2.true w.k_object-parts-then-outer-eq2.ensures.told w.parts-is w.past-is
+      | else-outer-eq1+else-outer-eq2 w ↦ step_other (text at) at.loop-buffer.parts at.loop-buffer.i w.if-outer-eq1.false w.if-outer-eq2.false w.item_end.result w.item_end.ensures w.parts-is w.past-is
+      ]
 
   moved : Moved (text at) at.loop-buffer.parts at.loop-buffer.i at.loop-buffer.buffer c.if-outer-eq1.buffer c.if-outer-eq1.parts c.if-outer-eq1.past
   moved =
-      ⊎_elim
-      (λ w. moved-one (text at) at.loop-buffer.parts at.loop-buffer.i at.loop-buffer.buffer c.if-outer-eq1.buffer c.if-outer-eq1.parts c.if-outer-eq1.past w.1.result _ w.3.result w.0.taken w.1.ensures w.3.ensures w.4 w.5 w.6)
-      (⊎_elim
-      (λ w. moved-two (text at) at.loop-buffer.parts at.loop-buffer.i at.loop-buffer.buffer c.if-outer-eq1.buffer c.if-outer-eq1.parts c.if-outer-eq1.past (no_members 0) _ w.4.result w.2.taken w.4.ensures w.5 w.6)
-      (λ w. moved_other (text at) at.loop-buffer.parts at.loop-buffer.i at.loop-buffer.buffer c.if-outer-eq1.buffer c.if-outer-eq1.parts c.if-outer-eq1.past (no_members 0) [] (no_members 0) w.0.left w.2.left at.loop-buffer.invariant.room w.4))
-      c.if-outer-eq1.branch
+      elim c.if-outer-eq1.branch [
+        then-outer-eq1 w ↦ moved-one (text at) at.loop-buffer.parts at.loop-buffer.i at.loop-buffer.buffer c.if-outer-eq1.buffer c.if-outer-eq1.parts c.if-outer-eq1.past w.no_members.result _ w.k_object-parts.result w.if-outer-eq1.true w.no_members.ensures w.k_object-parts.ensures w.buffer-is w.parts-is w.past-is
+      | else-outer-eq1+then-outer-eq2 w ↦ moved-two (text at) at.loop-buffer.parts at.loop-buffer.i at.loop-buffer.buffer c.if-outer-eq1.buffer c.if-outer-eq1.parts c.if-outer-eq1.past (no_members 0) _ w.k_object-parts-then-outer-eq2.result w.if-outer-eq2.true w.k_object-parts-then-outer-eq2.ensures w.buffer-is w.parts-is
+      | else-outer-eq1+else-outer-eq2 w ↦ moved_other (text at) at.loop-buffer.parts at.loop-buffer.i at.loop-buffer.buffer c.if-outer-eq1.buffer c.if-outer-eq1.parts c.if-outer-eq1.past (no_members 0) [] (no_members 0) w.if-outer-eq1.false w.if-outer-eq2.false at.loop-buffer.invariant.room w.buffer-is
+      ]
 
   stands : (c.if-outer-eq1.past ≡ 0 → ⊥) → Stands (element (value 15 (text at))) (text at) at.loop-buffer.i (record { from = at.loop-buffer.i; to = c.if-outer-eq1.past }) c.if-outer-eq1.past
   stands = element-stands 15 (text at) at.loop-buffer.i c.if-outer-eq1.past read.ends

@@ -154,8 +154,8 @@ returns-then-j-eq0 c =
     let m = c.before.before.before.before.before.before.before.before in
     let a = at m in
     record {
-      is = c.IsPlace-in.ensures.is ∙ fold-last (order_loop (text a) (start a).args.at (inner a)) a.loop-met.met a.loop-met.invariant.0 (stands m c.if-to-eq0.false) c.comma_end-j.result c.comma_end-j.ensures c.if-j-eq0.true c.object_close_end-end.result c.object_close_end-end.ensures c.if-end-eq0.false c.more_members-next.ensures;
-      laid = c.IsPlace-in.ensures.laid;
+      is = c.place_in.ensures.is ∙ fold-last (order_loop (text a) (start a).args.at (inner a)) a.loop-met.met a.loop-met.invariant.0 (stands m c.if-to-eq0.false) c.comma_end-j.result c.comma_end-j.ensures c.if-j-eq0.true c.object_close_end-end.result c.object_close_end-end.ensures c.if-end-eq0.false c.more_members-next.ensures;
+      laid = c.place_in.ensures.laid;
     }
 
 pub loop-met-smaller : goal.loop-met-smaller

@@ -1,0 +1,46 @@
+-- `message_m::more_body` meets its contract: the value of a member `data` is read as such, and any other is passed over.
+-- Assumes nothing.
+use mathlib.Core.Path.{ap, ◌∙◌}
+use borrow.Author.Tests.{eq-eqb, ne_eqb}
+use lib.Dec.{eqb}
+use Rattle.json_tokens.specs.Ends.{end_of}
+use Rattle.json_values.specs.Json.{Span, value}
+use Rattle.message_m.specs.declared.Data.{Data}
+use Rattle.message_m.proofs.Steps.{body-data, body-other, added-as, added-told, added_none, body-held, body-passed}
+use Rattle.message_m.proofs.more_body.Goals as goal
+
+pub m_data-data-requires : goal.m_data-data-requires
+m_data-data-requires c = let p = c.requires in (p.0, p.1)
+
+pub returns-then-key-eq-DATA : goal.returns-then-key-eq-DATA
+returns-then-key-eq-DATA c =
+    let a = c.args in
+    let s = a.s.now in
+    let v : Span = record { from = a.from; to = end_of (value 15 s a.from) } in
+    let d = c.m_data-data in
+    let m = c.with_member_span in
+    let y = c.if-key-eq-DATA.true in
+    record {
+      told =
+          ap (λ (x : Data). record { end = d.result.end; mark = m.result; last = x }) c.by_fields.ensures
+          ∙ body-data s a.body v a.key 4 y d.result d.ensures.told m.result m.ensures;
+      added =
+          added-told (ap (λ (x : Data). x.tally) c.by_fields.ensures)
+          (added-as d.ensures.added (λ x. body-held s (eqb a.key 4) x v (eq-eqb a.key 4 y)));
+    }
+
+pub returns : goal.returns
+returns c =
+    let b = c in
+    let a = b.args in
+    let s = a.s.now in
+    let v : Span = record { from = a.from; to = end_of (value 15 s a.from) } in
+    let n = c.if-key-eq-DATA.false in
+    record {
+      told =
+          ap (λ (x : Data). record { end = c.item_end.result; mark = a.body.mark; last = x }) c.by_fields-2.ensures
+          ∙ body-other s a.body v a.key 4 n c.item_end.ensures;
+      added =
+          added-told (ap (λ (x : Data). x.tally) c.by_fields-2.ensures)
+          (added-as (added_none s 15 a.from a.body.last.tally a.buffer.now b.requires.0 b.requires.1) (λ x. body-passed s (eqb a.key 4) x v (ne_eqb a.key 4 n)));
+    }

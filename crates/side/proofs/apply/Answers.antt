@@ -1,7 +1,6 @@
 -- `apply` meets its contract: the loop over the entries keeps `Turn`, that what is left of the message on the working side gives the same as the
 -- whole message on the side that was kept. The search brackets the price's place, and a shift is known in closed form.
 use mathlib.Core.Path.{◌≡◌, refl, sym, ap, ◌∙◌, subst}
-use mathlib.Core.Logic.{⊎_elim}
 use mathlib.Core.Bool.{Bool, true, false, not, ◌||◌, or-false, or-true}
 use mathlib.Core.List.{List}
 use Prim.Native.Nat.{ℕ, ◌+◌, ◌-◌, ◌/◌, ◌≤◌, ◌<◌}
@@ -35,6 +34,7 @@ use Rattle.level.proofs.Stored.{length-levels, past_more}
 use Rattle.side.proofs.Find.{bracket-start, bracket-up, bracket-down, past, past_same, past-none, bracket-head, bracket-place, set_new, set_same, remove-same, remove-none, none-standing}
 use Rattle.side.proofs.Entries.{Sound, given-length, does, does-named, summed-does, plain-within, Turn, turn-start, turn-pass, turn-room, turn_step, turn-levels, turn-count, turn_moved, turn-met, key, sound-at, ahead-at, same_at, other_at, copied, cut_short, cut-whole}
 use Rattle.side.proofs.apply.Goals as goal
+use Rattle.side.proofs.apply.Goals.{then-low-count+else-is_equal, else-low-count, then-depth-left, else-depth-left}
 use Rattle.side.proofs.apply.Lts as lts
 use Rattle.side.proofs.apply.Tie as tie
 use Rattle.side.proofs.apply.Reads as reads
@@ -161,16 +161,16 @@ module _ (v : After-with_sum-change) where
   this = does s.args.text e
 
   own : is_same e.side s.args.side ≡ true
-  own = sym (tested v.before.before.before.before.before) ∙ not-false _ v.if-not-is_same.false
+  own = sym (tested v.before.before.before.before.before) ∙ v.if-not-is_same.false
 
   long : length A ≡ 200
-  long = E.entry.inv.long
+  long = E.entry.invariant.long
 
   few : N < 200
-  few = turn-room s.args.text s.args.side es s₀ s.args.kept s.requires.0.few g.own A N G K E.entry.replaced E.entry.inv (in-message E below) own
+  few = turn-room s.args.text s.args.side es s₀ s.args.kept s.requires.0.few g.own A N G K E.entry.replaced E.entry.invariant (in-message E below) own
 
   little : G ≤ 40000
-  little = omega (arith, E.entry.inv.small, below, g.few)
+  little = omega (arith, E.entry.invariant.small, below, g.few)
 
   room : N ≤ length A
   room = omega (arith, few, long)
@@ -197,7 +197,7 @@ module _ (v : After-with_sum-change) where
       → by ≡ moves level_price s.args.side this S → now ≡ (E.entry.replaced || replaces level_price this S)
       → Turn s.args.text s.args.side es s₀ s.args.kept c m (G + by) now (K + 1)
   stepped =
-      turn_step s.args.text s.args.side es s₀ s.args.kept s.requires.0.few g.own A N G K E.entry.replaced E.entry.inv (in-message E below) own (entry-within E below)
+      turn_step s.args.text s.args.side es s₀ s.args.kept s.requires.0.few g.own A N G K E.entry.replaced E.entry.invariant (in-message E below) own (entry-within E below)
 
   -- an entry that moves none
   unmoved : {c : List Level} {m : ℕ} {now : Bool} → Turn s.args.text s.args.side es s₀ s.args.kept c m (G + 0) now (K + 1)
@@ -249,33 +249,33 @@ behind-all c =
     let v = c.before.before.before in
     let p = c.find in
     let out : p.high ≤ p.low = c.find-test.false in
-    ⊎_elim
-    (λ w.
-    let lt : p.low < length (S v) = omega (arith, side-long v, w.0.taken) in
-    past level_price (s v).args.side (S v) (P v) (E v).entry.invariant.sorted p.low no_level lt
-    (bracket-head level_price (s v).args.side (S v) (P v) p.low p.high no_level p.invariant.0 out lt)
-    (other_at (A v) (N v) p.low w.0.taken w.2.result (price v) w.3.result w.2.ensures w.3.ensures w.4.result w.4.ensures w.5.left))
-    (λ w. past-none level_price (s v).args.side (S v) (P v) p.low (omega (arith, side-long v, w.left)))
-    c.if-low-count.branch
+    elim c.if-low-count.branch [
+      then-low-count+else-is_equal w ↦
+        let lt : p.low < length (S v) = omega (arith, side-long v, w.if-low-count.true) in
+        past level_price (s v).args.side (S v) (P v) (E v).entry.invariant.sorted p.low no_level lt
+        (bracket-head level_price (s v).args.side (S v) (P v) p.low p.high no_level p.invariant.0 out lt)
+        (other_at (A v) (N v) p.low w.if-low-count.true w.price_of-then-low-count.result (price v) w.compare-then-low-count.result w.price_of-then-low-count.ensures w.compare-then-low-count.ensures w.is_equal.result w.is_equal.ensures w.if-is_equal.false)
+    | else-low-count w ↦ past-none level_price (s v).args.side (S v) (P v) p.low (omega (arith, side-long v, w.if-low-count.false))
+    ]
 
 -- the cut: no more than depth, and no more than there is
-cut-eq : (c : Joined-depth-left) → (take c.if-depth-left.false c.entry.levels ≡ take (St c.before.before).args.depth (take c.entry.count c.entry.levels)) × (c.if-depth-left.false ≤ (St c.before.before).args.depth)
+cut-eq : (c : Joined-depth-left) → (take c.if-depth-left.left c.entry.levels ≡ take (St c.before.before).args.depth (take c.entry.count c.entry.levels)) × (c.if-depth-left.left ≤ (St c.before.before).args.depth)
 cut-eq c =
     let E = c.before.before in
     let s = St E in
     let d = s.args.depth in
     let n = E.entry.count in
     let l : n ≤ length E.entry.levels = omega (arith, E.entry.invariant.long, E.entry.invariant.fits) in
-    ⊎_elim
-    (λ w.
-    let h : d < n = w.0.taken in
-    let e : c.if-depth-left.false ≡ d = w.1 in
-    (ap (λ (i : ℕ). take i E.entry.levels) e ∙ cut_short E.entry.levels n d (omega arith), omega arith))
-    (λ w.
-    let h : n ≤ d = w.0.left in
-    let e : c.if-depth-left.false ≡ n = w.1 in
-    (ap (λ (i : ℕ). take i E.entry.levels) e ∙ cut-whole E.entry.levels n d l h, omega arith))
-    c.if-depth-left.branch
+    elim c.if-depth-left.branch [
+      then-depth-left w ↦
+        let h : d < n = w.if-depth-left.true in
+        let e : c.if-depth-left.left ≡ d = w.left-is in
+        (ap (λ (i : ℕ). take i E.entry.levels) e ∙ cut_short E.entry.levels n d (omega arith), omega arith)
+    | else-depth-left w ↦
+        let h : n ≤ d = w.if-depth-left.false in
+        let e : c.if-depth-left.left ≡ n = w.left-is in
+        (ap (λ (i : ℕ). take i E.entry.levels) e ∙ cut-whole E.entry.levels n d l h, omega arith)
+    ]
 
 pub load-init : goal.load-init
 load-init c = (refl, omega arith, refl)
@@ -309,7 +309,7 @@ entry-preserved-then-not-is_same c =
     let s = St E in
     let h = c.entry-test.true in
     turn-pass s.args.text s.args.side (entries E h) (take s.args.kept E.load.levels) s.args.kept s.requires.0.few s.requires.1.own
-    E.entry.levels E.entry.count E.entry.moved E.entry.k E.entry.replaced E.entry.invariant (in-message E h) (sym (tested c.before.before) ∙ not-true _ c.if-not-is_same.true)
+    E.entry.levels E.entry.count E.entry.moved E.entry.k E.entry.replaced E.entry.invariant (in-message E h) (sym (tested c.before.before) ∙ c.if-not-is_same.true)
 
 pub entry_of-entry-requires : goal.entry_of-entry-requires
 entry_of-entry-requires c =
@@ -480,7 +480,7 @@ cut-preserved c =
     let p = c.cut in
     let q = cut-eq c.before.before.before.before.before.before in
     let E = c.before.before.before.before.before.before.before.before in
-    let t : p.i < c.if-depth-left.false = c.cut-test.true in
+    let t : p.i < c.if-depth-left.left = c.cut-test.true in
     let d : c.args.depth ≤ 100 = c.requires.2 in
     let l : length E.entry.levels ≡ 200 = E.entry.invariant.long in
     let w = c.put_level.ensures in (
@@ -500,7 +500,7 @@ returns c =
     let s = St E in
     let es = take s.args.entries (entries_in s.args.buffer.now) in
     let all = changes_for s.args.text s.args.side es in
-    let i : p.i ≡ c.if-depth-left.false = omega (arith, p.invariant.1, c.cut-test.false) in
+    let i : p.i ≡ c.if-depth-left.left = omega (arith, p.invariant.1, c.cut-test.false) in
     let o = loaded E.before in
     let eq = (rw i at p.invariant.2) ∙ q.0 in
     let l : E.entry.count ≤ length E.entry.levels = omega (arith, E.entry.invariant.long, E.entry.invariant.fits) in

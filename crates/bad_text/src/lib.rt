@@ -1,4 +1,4 @@
-// Where the first text of a message lies that breaks a rule of decimals, for C, Rust or Python.
+// Where the first text of a message lies that breaks a rule of decimals. C, Rust and Python call it by `bad_text_c`.
 //
 //     huurqan_bad_decimal(b"M 100 BTC-VND", text, out)     // lays two words into `out`, and answers 2
 #![tactic(auto)]

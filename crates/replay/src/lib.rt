@@ -54,7 +54,7 @@ fn call(book: Book, call: &[u8], part: &mut [u8]) -> Book
     reply.book
 }
 
-// The same for C and Rust. The settings are text, as the line program's first line has them: dialect, depth and name, one blank between.
+// The same with settings as text, as the line program's first line has them: dialect, depth and name, one blank between. C and Rust call it by `replay_c`.
 #[unsafe(no_mangle)]
 pub extern "C" fn huurqan_replay(settings: &[u8], script: &[u8], out: &mut [u8]) -> usize
     ensures { Replayed (line_one settings.now) script.now out.old out.new result }

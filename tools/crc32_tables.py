@@ -30,20 +30,21 @@ def source(tables):
 // A `match` becomes a table in constant memory, where a `const` array would be built anew at each use;
 // and a table that is called at one place only, in a loop, is inlined there. The remainder of a length is the length:
 // it says that no key has the last arm, which stands for any other key, so that the look-up tests none.
-ghost use mathlib.Core.Path.{{_≡_}};
-ghost use Prim.Native.Nat.{{_+_, _*_, _<_}};
-ghost use Rattle·crc32_spec.specs.Crc.{{bits}};
-ghost use Rattle·crc32_spec.specs.Rows.{{entry-at}};
-use crc32_spec::four_bits;
-use crc32_spec::half;
+#![tactic(auto)]
+
+ghost use Rattle.std.specs.Prelude.{{◌≡◌, ◌+◌, ◌*◌, ◌<◌}};
+ghost use Rattle.crc32_spec.specs.Crc.{{bits}};
+ghost use Rattle.crc32_spec.specs.Rows.{{entry_at}};
+
+use crc32_spec::{{four_bits, half}};
 """
     for t in tables:
         first, values = LENGTHS * t, entries(t)
         out += f"""
 // The rows {first} to {first + ROWS - 1}.
 fn rows{t}(key: u64) -> u64
-    requires {{ ⌜ key < {16 * ROWS} ⌝ }}
-    ensures {{ λ r. ⌜ r ≡ entry-at {first} key ⌝ }}
+    requires {{ key < {16 * ROWS} }}
+    ensures {{ result ≡ entry_at {first} key }}
 {{
     match key {{
 """
@@ -54,8 +55,8 @@ fn rows{t}(key: u64) -> u64
 
 // A state moved by {first} + n bytes.
 pub fn moved{t}(s: u32, n: u64) -> u32
-    requires {{ ⌜ n < {LENGTHS} ⌝ }}
-    ensures {{ λ r. ⌜ r ≡ bits (8 * ({first} + n)) s ⌝ }}
+    requires {{ n < {LENGTHS} }}
+    ensures {{ result ≡ bits (8 * ({first} + n)) s }}
 {{
     let mut sum: u32 = 0;
     let mut j: u64 = 0;
@@ -73,85 +74,75 @@ def table_proof(crate, t):
     first, values = LENGTHS * t, entries(t)
     lines = "".join("    " + " ∷ ".join(str(x) for x in values[i:i + 4]) + " ∷\n" for i in range(0, len(values), 4))
     last = len(values) - 1
-    arms = "".join(f"    (λ c. arm (c .before .args .key) {i} (c .before .pre) (c .match .keys{i + 1}))\n" for i in range(last))
+    answer = "".join(
+        f"\npub returns-in-{i} : goal.returns-in-{i}\nreturns-in-{i} c = arm c.args.key {i} c.requires c.in-{i}.is\n" for i in range(last)
+    )
     return f"""-- `{crate}::rows{t}` meets its contract: one computed test says that the table holds what it should, and each arm is its entry.
 -- Written by tools/crc32_tables.py. Assumes nothing.
-use mathlib.Core.Path.{{_≡_}}
-use mathlib.Core.List.{{List, [], _∷_}}
-use Prim.Native.Nat.{{ℕ, _<_}}
-use lib.ListN.{{getD}}
-use Rattle·crc32_spec.specs.Crc.{{bits, bit}}
-use Rattle·crc32_spec.specs.Rows.{{entry-at}}
-use Rattle·crc32_spec.proofs.Rows.{{tested, alike, rows, powers, span, double, last}}
-use Rattle·{crate}·proofs.proofs.rows{t}.Statement.{{statement}}
-use Rattle·{crate}·proofs.proofs.rows{t}.Tie as tie
+use mathlib.Core.Path.{{◌≡◌}}
+use mathlib.Core.List.{{List, [], ◌∷◌}}
+use Prim.Native.Nat.{{ℕ, ◌<◌}}
+use lib.ListN.{{get_or}}
+use Rattle.crc32_spec.specs.Crc.{{bits, bit}}
+use Rattle.crc32_spec.specs.Rows.{{entry_at}}
+use Rattle.crc32_spec.proofs.Rows.{{tested, alike, rows, powers, span, double, last}}
+use Rattle.{crate}.proofs.rows{t}.Goals as goal
 
-table : List ℕ
+abbrev table : List ℕ
 table =
 {lines}    []
 
-arm : (i k : ℕ) → i < {len(values)} → i ≡ k → getD table k 0 ≡ entry-at {first} i
+arm : (i k : ℕ) → i < {len(values)} → i ≡ k → get_or table k 0 ≡ entry_at {first} i
 unfolding table bits bit alike rows powers span double
 arm = tested table {first} tt
+{answer}
+pub returns-in_default : goal.returns-in_default
+returns-in_default c = arm c.args.key {last} c.requires (last {last} c.args.key c.requires c.in_default.in_default-own.rest)
+"""
 
-pub rows{t}-spec : {{M : Type 1}} → statement M
-unfolding table
-rows{t}-spec =
-    tie.close
-    (tie.spec
-{arms}    (λ c. arm (c .before .args .key) {last} (c .before .pre) (last {last} (c .before .args .key) (c .before .pre) (c .match .rest))))
+
+def move_invariants(crate, t):
+    first = LENGTHS * t
+    return f"""use mathlib.Core.Path.{{◌≡◌}}
+use Prim.Native.Nat.{{◌+◌, ◌-◌, ◌*◌, ◌≤◌}}
+use lib.Bits.{{bit_xor}}
+use Rattle.crc32_spec.specs.Crc.{{bits}}
+use Rattle.crc32_spec.proofs.Rows.{{left}}
+use Rattle.{crate}.proofs.moved{t}.Given as goal
+
+abbrev pub invariant-loop-j : goal.invariant-loop-j
+invariant-loop-j l = (l.j ≤ 8) × (bit_xor l.sum (left ({first} + l.n) l.s l.j) ≡ bits (8 * ({first} + l.n)) l.s)
+
+abbrev pub decreases-loop-j : goal.decreases-loop-j
+decreases-loop-j l = 8 - l.j
 """
 
 
 def move_proof(crate, t):
     first = LENGTHS * t
-    loop = "c .before .before .before .before .loop"
-    args = "c .before .before .before .before .before .args"
-    search = "    (λ c. search needs)\n"
-    requires = "    (λ c κs. search needs)\n"
     return f"""-- `{crate}::moved{t}` meets its contract: a turn looks four bits up, and what is looked up and what is left sum up to the same.
 -- Written by tools/crc32_tables.py. Assumes nothing.
-use mathlib.Core.Path.{{_≡_, _∙_}}
-use Prim.Native.Nat.{{_+_, _-_, _*_, _≤_}}
+use mathlib.Core.Path.{{◌∙◌}}
+use Prim.Native.Nat.{{◌+◌, ◌-◌}}
 use native.Mathlib.Omega.{{arith}}
-use lib.Bits.{{bitXor}}
-use borrow.Author.Needs.{{needs}}
-use Rattle·crc32_spec.specs.Crc.{{bits}}
-use Rattle·crc32_spec.proofs.Rows.{{left, all-left, looked-up, none-left}}
-use Rattle·{crate}·proofs.proofs.moved{t}.Statement.{{statement}}
-use Rattle·{crate}·proofs.proofs.moved{t}.Tie as tie
+use Rattle.crc32_spec.proofs.Rows.{{all_left, looked-up, none_left}}
+use Rattle.{crate}.proofs.moved{t}.Goals as goal
 
-abbrev Inv-loop : tie.InvT-loop
-Inv-loop s n sum₀ j₀ sum j = (j ≤ 8) × (bitXor sum (left ({first} + n) s j) ≡ bits (8 * ({first} + n)) s)
+pub loop-j-init : goal.loop-j-init
+loop-j-init c = (omega arith, all_left ({first} + c.args.n) c.args.s)
 
-abbrev μ-loop : tie.MeasureT-loop
-μ-loop s n sum₀ j₀ sum j = 8 - j
-
-loop-holds : tie.Need-loop-holds Inv-loop μ-loop
-loop-holds c = (omega arith, all-left ({first} + c .args .n) (c .args .s))
-
-loop-again : tie.Need-loop-again Inv-loop μ-loop
-loop-again c = (
+pub loop-j-preserved : goal.loop-j-preserved
+loop-j-preserved c = (
   omega arith,
-  looked-up {first} ({args} .n) ({args} .s) ({loop} .j) ({loop} .sum) _ _ _ (omega arith) (omega arith)
-      (c .before .before .four-bits .ensures) (c .before .rows{t} .ensures) (c .half .ensures)
-      ∙ {loop} .inv .1,
+  looked-up {first} c.args.n c.args.s c.loop-j.j c.loop-j.sum _ _ _ (omega arith) (omega arith)
+      c.four_bits.ensures c.rows{t}.ensures c.half-sum.ensures
+      ∙ c.loop-j.invariant.1,
 )
 
-returns : tie.Need-returns Inv-loop μ-loop
+pub returns : goal.returns
 returns c =
-    none-left ({first} + c .before .before .args .n) (c .before .before .args .s) (c .before .loop .j) (c .before .loop .sum) _ (omega arith)
-    (c .before .before .fits .s .fits) (c .before .loop .inv .1)
-
-pub moved{t}-spec : {{M : Type 1}} → statement M
-moved{t}-spec =
-    tie.close
-    (tie.spec
-    Inv-loop
-    μ-loop
-    loop-holds
-{search * 3}{requires}{search}{requires * 2}{search * 2}    loop-again
-    returns)
+    none_left ({first} + c.args.n) c.args.s c.loop-j.j c.loop-j.sum _ (omega arith)
+    c.ranges.s.fits c.loop-j.invariant.1
 """
 
 
@@ -163,5 +154,6 @@ def write(path, text):
 
 for t, crate in enumerate(CRATES):
     write(f"crates/{crate}/src/lib.rt", source([t]))
-    write(f"crates/{crate}/proofs/rows{t}/Proof.antt", table_proof(crate, t))
-    write(f"crates/{crate}/proofs/moved{t}/Proof.antt", move_proof(crate, t))
+    write(f"crates/{crate}/proofs/rows{t}/Answers.antt", table_proof(crate, t))
+    write(f"crates/{crate}/proofs/moved{t}/Invariants.antt", move_invariants(crate, t))
+    write(f"crates/{crate}/proofs/moved{t}/Answers.antt", move_proof(crate, t))

@@ -4,10 +4,10 @@
     tools/layers.py            compares; exit status 1 if a list or the picture is not true
     tools/layers.py --write    writes the lists of crates.txt and the picture of README.md anew
 
-A crate names another by a path in its code (`json::value_end`), or by a module in its contracts, definitions and proofs
-(`Rattle·json.specs.Json`). crates.txt lists what is named, what declares a type in a field of a struct that is held (REACHED: the checker
-wants to name it), and no more; libraries of the kit stay as they are listed. The picture has a line for each crate, by layers: what it
-stands on, without what stands below that already.
+A crate names another by a path in its code (`json_values::value_end`), or by a module in its contracts, definitions and proofs
+(`Rattle.json_values.specs.Json`). crates.txt lists what is named, what declares a type in a field of a struct that is held (REACHED: the
+checker wants to name it), and no more; libraries of the kit stay as they are listed. The picture has a line for each crate, by layers: what
+it stands on, without what stands below that already.
 """
 import pathlib
 import re
@@ -16,8 +16,7 @@ import sys
 TOP = pathlib.Path(__file__).resolve().parent.parent
 LIST, PAGE = TOP / "crates.txt", TOP / "README.md"
 REACHED = {"feed": {"level", "lifecycle"}, "replay": {"lifecycle"}, "booklines": {"book", "level", "lifecycle", "settings"}}
-KIT = {"bytes", "check", "io", "libc", "os"}
-LINE = re.compile(r"^(\w+):(.*)$")
+LINE = re.compile(r"^(\w+)((?: +[\w=+]+)*):(.*)$")  # name, `staticlib` and the like, what it stands on
 PICTURE = re.compile(r"(<!-- layers -->\n```\n).*?(```\n)", re.S)
 
 
@@ -33,7 +32,7 @@ def named_by(crate, crates):
         for path in (TOP / "crates" / crate / part).rglob("*"):
             if path.suffix in (".rt", ".antt"):
                 text = code_of(path)
-                names.update(re.findall(r"Rattle·(\w+)\.(?:specs|proofs)\b", text))
+                names.update(re.findall(r"\bRattle\.(\w+)\.(?:specs|proofs)\b", text))
                 if path.suffix == ".rt":
                     names.update(re.findall(r"(?<![\w:])(\w+)::", text))
     return (names | REACHED.get(crate, set())) & crates - {crate}
@@ -60,15 +59,15 @@ def picture(order, named):
 
 def main():
     lines = LIST.read_text(encoding="utf-8").splitlines()
-    listed = {m[1]: m[2].split() for m in map(LINE.match, lines) if m}
+    listed = {m[1]: m[3].split() for m in map(LINE.match, lines) if m}
     order = list(listed)
     crates = set(listed)
     named = {crate: named_by(crate, crates) for crate in order}
-    wanted = {crate: [d for d in order if d in named[crate]] + [d for d in listed[crate] if d in KIT] for crate in order}
+    wanted = {crate: [d for d in order if d in named[crate]] + [d for d in listed[crate] if d not in crates] for crate in order}
     page = PAGE.read_text(encoding="utf-8")
     drawn = PICTURE.sub(lambda m: m[1] + picture(order, named) + m[2], page)
     if "--write" in sys.argv:
-        rows = [f"{m[1]}: {' '.join(wanted[m[1]])}".rstrip() if (m := LINE.match(line)) else line for line in lines]
+        rows = [f"{m[1]}{m[2]}: {' '.join(wanted[m[1]])}".rstrip() if (m := LINE.match(line)) else line for line in lines]
         LIST.write_text("\n".join(rows) + "\n", encoding="utf-8")
         PAGE.write_text(drawn, encoding="utf-8")
         return

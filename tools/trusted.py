@@ -16,7 +16,7 @@ import sys
 
 TOP = pathlib.Path(__file__).resolve().parent.parent
 PAGE = TOP / "docs" / "TRUSTED.md"
-WORD = re.compile(r"[^\s(){}\[\],;\\|⌜⌝]+")
+WORD = re.compile(r"[^\s(){}\[\],;\\|]+")
 HEAD = re.compile(r"(?:unfoldable |abbrev |pub )*(?:(record |data )(\S+) .*|(\S+) :( .*)?)$")
 PART = re.compile(r"\s+(?:pub )?(\S+) :")
 CLAIM = re.compile(r"\| `(\w+)` `(\w+)` `([^`]+)` \|")
@@ -80,18 +80,19 @@ def modules():
     return {(m.crate, m.name): m for m in (Module(p) for p in sorted((TOP / "crates").glob("*/specs/*.antt"))) if m.name != "Lib"}
 
 
-def target(path):
-    """The crate and the file that a module's path names, or the crate and the type of its code."""
-    if found := re.match(r"Rattle·(\w+?)(?:·specs\.specs|\.specs)\.declared\.(.+?)(?:\.the-variants)?$", path):
-        return "type", found[1], found[2].split(".")[-1]
-    if found := re.match(r"Rattle·(\w+?)(?:·specs\.specs|\.specs)\.(\w+)$", path):
-        return "file", found[1], found[2]
-    return None
+def target(path, crates):
+    """The crate and the file that a module's path names, or the crate and the type of its code; none for a library of the kit."""
+    found = re.match(r"Rattle\.(\w+)\.specs\.(.+)$", path)
+    if not found or found[1] not in crates:
+        return None
+    if declared := re.match(r"declared\.(.+?)(?:\.TheVariants)?$", found[2]):
+        return "type", found[1], declared[1].split(".")[-1]
+    return "file", found[1], found[2]
 
 
 def reached(found, claims):
     """Definitions and types of the code that the claims reach."""
-    todo, definitions, types = list(claims), set(), set()
+    todo, definitions, types, crates = list(claims), set(), set(), {crate for crate, _ in found}
     while todo:
         crate, file, name = todo.pop()
         module = found[crate, file]
@@ -102,6 +103,8 @@ def reached(found, claims):
             sys.exit(f"crates/{crate}/specs/{file}.antt has no definition of {name}")
         definitions.add((crate, file, name))
         for word in module.words[name]:
+            if (whole := word.partition(".")[0]) in module.owner or whole in module.imports:
+                word = whole  # one of its fields is asked for
             if word in module.owner:
                 todo.append((crate, file, module.owner[word]))
                 continue
@@ -109,7 +112,7 @@ def reached(found, claims):
             if path is None and "." in word:
                 alias, _, item = word.partition(".")
                 path = module.aliases.get(alias)
-            place = target(path) if path else None
+            place = target(path, crates) if path else None
             if place and place[0] == "file":
                 todo.append((place[1], place[2], item))
             elif place:

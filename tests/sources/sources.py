@@ -57,10 +57,11 @@ def closing(text, at):
 
 
 def code_of(text):
-    """A source without comments, byte strings' contents, ghost lines and contracts."""
+    """A source without comments, byte strings' contents, attributes, ghost lines and contracts."""
     text = blank(text, r"//[^\n]*")
     text = re.sub(r'b"((?:[^"\\]|\\.)*)"', lambda m: 'b"' + "_" * len(m[1]) + '"', text)
     text = re.sub(r"b'(?:[^'\\]|\\.)+'", lambda m: "0".ljust(len(m[0])), text)
+    text = blank(text, r"#!?\[[^\]]*\]")
     text = blank(text, r"^\s*ghost use [^;]*;", re.M)
     while clause := re.search(r"\b(?:requires|ensures)\b[^{}]*\{", text):
         end = closing(text, clause.end() - 1)
@@ -68,12 +69,24 @@ def code_of(text):
     return text
 
 
+def brought_by(path):
+    """What a `use` item brings in, each with its path: `a::b`, `a::{b, c::d}`."""
+    if group := re.fullmatch(rf"((?:{NAME}::)*)\{{(.*)\}}", path, re.S):
+        for item in group[2].split(","):
+            if item.strip():
+                yield from brought_by(group[1] + item.strip())
+    elif re.fullmatch(rf"(?:{NAME}::)+{NAME}", path):
+        yield path.rsplit("::", 1)[-1], path.split("::")
+    else:
+        raise Refused(f"a use of {path!r}, which is not read here")
+
+
 class Source:
     """A file: its functions, types, constants and what its `use` lines bring in."""
 
     def __init__(self, crate, path, text):
         self.crate, self.path, self.code = crate, path, code_of(text)
-        self.brought = {u[0].rsplit("::", 1)[-1]: u[0].split("::") for u in re.findall(rf"\buse ((?:{NAME}::)+{NAME})(;)", self.code)}
+        self.brought = {name: full for item in re.findall(r"\buse ([^;]*);", self.code) for name, full in brought_by(item.strip())}
         self.consts = dict(re.findall(rf"\bconst ({NAME})\s*:[^=;]*(?:;[^=\]]*\])?[^=;]*=\s*([^;]*);", self.code))
         self.const_spans = [m.span() for m in re.finditer(rf"\bconst {NAME}\s*:\s*(?:\[[^\]]*\]|[^=;])*=", self.code)]
         self.const_spans = [(a, self.code.index(";", b)) for a, b in self.const_spans]
@@ -114,7 +127,7 @@ class Tree:
     def __init__(self, planted=None):
         self.deps = {}
         for row in (TOP / "crates.txt").read_text().splitlines():
-            if m := re.match(r"^(\w+):(.*)$", row):
+            if m := re.match(r"^(\w+)(?: +[\w=+]+)*:(.*)$", row):
                 self.deps[m[1]] = m[2].split()
         self.sources = []
         for crate in self.deps:

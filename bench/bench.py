@@ -3,7 +3,7 @@
 
     bench/bench.py [--rounds N] [--messages N] [--seed N] [--feeds k10,m100] [--no-instructions] [NAME=]PROGRAM...
 
-Without a PROGRAM: target/bin/booklines (rt check booklines). In a round every program runs once on the feed, in shuffled
+Without a PROGRAM: crates/booklines/out/booklines (rt run in crates/booklines, or rt ci). In a round every program runs once on the feed, in shuffled
 order; a ratio is the median, over the rounds, of the ratio of CPU times (user and system) within a round, so that what
 else the machine does falls on all alike. What the programs print is compared byte for byte: exit status 1 if it differs.
 Instructions a message: callgrind's count for the first 5,000 messages less that for the first 1,000, by 4,000.
@@ -127,7 +127,7 @@ def main():
     wanted = options()
     os.makedirs(TARGET, exist_ok=True)
     programs = {}
-    for word in wanted.programs or [os.path.join(ROOT, "target", "bin", "booklines")]:
+    for word in wanted.programs or [os.path.join(ROOT, "crates", "booklines", "out", "booklines")]:
         name, _, path = word.rpartition("=")
         programs[name or os.path.basename(path)] = os.path.abspath(path)
     ours, order, good, counted = list(programs), random.Random(wanted.seed), True, {}

@@ -1,7 +1,7 @@
 #!/usr/bin/env python3
 """How many levels the messages of the benchmark's feeds move, as a Markdown table.
 
-    rt staticlib replay && bench/moved.py [--messages N] [--seed N] [--feeds k10,m100]
+    tools/static_library.py replay && bench/moved.py [--messages N] [--seed N] [--feeds k10,m100]
 
 Each feed goes through target/staticlib/libreplay.a as one script (docs/REPLAY.md), and what is told of each taken message
 is read from its reply. 99 in a hundred messages move no more than the 99th percentile says. Needs cc, for a shared
@@ -27,7 +27,7 @@ def library():
     """`huurqan_replay`, from the static library."""
     archive, shared = os.path.join(TARGET, "staticlib", "libreplay.a"), os.path.join(TARGET, "bench", "libreplay.so")
     if not os.path.exists(archive):
-        sys.exit(f"there is no {archive}; rt staticlib replay makes it")
+        sys.exit(f"there is no {archive}; tools/static_library.py replay makes it")
     os.makedirs(os.path.dirname(shared), exist_ok=True)
     subprocess.run(["cc", "-shared", "-o", shared, "-Wl,--whole-archive", archive, "-Wl,--no-whole-archive"], check=True)
     replay = ctypes.CDLL(shared).huurqan_replay

@@ -1,9 +1,9 @@
 #!/usr/bin/env python3
 """Runs the line program on the cases below, each whole and in pieces, and compares what it writes.
 
-    rt check booklines && python3 tools/booklines_cases.py [PROGRAM]
+    (cd crates/booklines && rt run </dev/null) && python3 tools/booklines_cases.py [PROGRAM]
 
-PROGRAM is target/bin/booklines unless it is named. The last line written has the count of cases and of those that failed;
+PROGRAM is crates/booklines/out/booklines unless it is named. The last line written has the count of cases and of those that failed;
 the exit status is 1 if one failed.
 """
 import os
@@ -13,7 +13,7 @@ import threading
 import time
 import zlib
 
-PROGRAM = os.path.abspath(sys.argv[1] if len(sys.argv) > 1 else "target/bin/booklines")
+PROGRAM = os.path.abspath(sys.argv[1] if len(sys.argv) > 1 else "crates/booklines/out/booklines")
 MAX_MESSAGE = 32_768
 # how long a run may take, in seconds
 LIMIT = 30

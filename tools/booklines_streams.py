@@ -1,9 +1,9 @@
 #!/usr/bin/env python3
 """Runs the line program on files, pipes and devices that end, fail or are slow, and compares what it writes and says.
 
-    rt check booklines && python3 tools/booklines_streams.py [PROGRAM]
+    (cd crates/booklines && rt run </dev/null) && python3 tools/booklines_streams.py [PROGRAM]
 
-PROGRAM is target/bin/booklines unless it is named. The last line written has the count of cases and of those that failed;
+PROGRAM is crates/booklines/out/booklines unless it is named. The last line written has the count of cases and of those that failed;
 the exit status is 1 if one failed.
 """
 import errno

@@ -3,7 +3,7 @@
 
     tools/mutate.py list                       the changes, a line each
     tools/mutate.py run CLONE [CRATE..]        tries them in CLONE, a clone of this repository for nothing else: its must-fail edits are
-                                               replaced by these. `rt check` there first, or it is done now.
+                                               replaced by these. `rt all check` there first, or it is done now.
     tools/mutate.py told LOG                   what became of them
 
 A change is of a constant, a comparison, a sum, a truth value, a variant, a name beside its counterpart (bids for asks), or of the order of two
@@ -25,7 +25,7 @@ TOP = pathlib.Path(__file__).resolve().parent.parent
 FUNCTION = re.compile(r"^\s*(pub )?(extern \"C\" )?fn (\w+)")
 CONSTANT = re.compile(r"^(pub )?const (\w+)")
 # What no change is made in: comments, names brought in, contracts, declarations, attributes, the patterns of a match.
-PASSED_OVER = re.compile(r"^\s*(//|use |ghost |mod |pub mod |struct |pub struct |enum |pub enum |#|requires |ensures |invariant |decreases |\w+: [\w&\[\]; ]+,$)|⌜|\bfn ")
+PASSED_OVER = re.compile(r"^\s*(//|use |ghost |mod |pub mod |struct |pub struct |enum |pub enum |#|requires |ensures |invariant |decreases |\w+: [\w&\[\]; ]+,$)|\bfn ")
 
 COUNTERPARTS = [("bids", "asks"), ("bid_side", "ask_side"), ("price", "size"), ("true", "false"), ("both", "either"), ("Bids", "Asks"),
                 ("Snapshot", "Update"), ("Current", "LastGood"), ("K", "M"), ("min", "max")]
@@ -130,14 +130,18 @@ def lay(options):
 
 
 def tell(log):
-    """By a proof, by the compiler, or not refused."""
+    """By a proof, for a name that a proof file cites or at a limit (which both say little of a contract), by the compiler, or not refused."""
     by = collections.Counter()
     for line in pathlib.Path(log).read_text(encoding="utf-8", errors="replace").splitlines():
         if not (found := re.match(r"rt: must-fail (\S+): (.*)", line)):
             continue
-        if found[2].startswith("refused"):
+        if "only because a proof file names" in found[2]:
+            by["refused for a name in a proof file"] += 1
+        elif "only by a limit" in found[2]:
+            by["refused at a limit"] += 1
+        elif found[2].startswith("refused"):
             by["refused by the checker"] += 1
-        elif "did not reach the prover" in found[2]:
+        elif "did not reach the prover" in found[2] or "the prover cannot read" in found[2]:
             by["refused by the compiler"] += 1
         else:
             by["other"] += 1

@@ -4,7 +4,7 @@
     tests/stack/frames.py [LIBRARY [FUNCTION]]     target/staticlib/libreplay.a, huurqan_replay
 
 A frame is counted from above: the return address, every push, and every constant taken from the stack pointer. A frame of
-many pages is taken page by page in a loop, down to an address in r11: what that address is below counts. Calls of functions outside the library (memcpy and the like) count 512 bytes. `json::value_end`, which calls itself for a nested
+many pages is taken page by page in a loop, down to an address in r11: what that address is below counts. Calls of functions outside the library (memcpy and the like) count 512 bytes. `json_values::value_end`, which calls itself for a nested
 value and goes no deeper than 16, counts 17 times. Calls by address, a stack pointer moved by anything else than a
 constant, or another function that calls itself end the count with exit status 1, as do more than 48 KB: the call lends no table to sum by.
 """
@@ -13,7 +13,7 @@ import subprocess
 import sys
 
 OUTSIDE = 512
-NESTED = {"json::value_end": 17}
+NESTED = {"json_values::value_end": 17}
 MOST = 48 * 1024
 
 

@@ -102,7 +102,7 @@ order_at-requires c = omega (arith, some c.before, (there c.before).requires.0.r
 
 pub lay_order-end-requires : goal.lay_order-end-requires
 lay_order-end-requires c =
-    let r = c.before.before.before in
+    let r = c.before.before in
     let s = there r.before in
     (subst Sound (sym r.order_at.ensures) (sound-at s.args.words.now s.args.n s.requires.0 0 (some r.before)), room-first-as (first s) (from s 1) (read_first r) (left r.before))
 

@@ -37,7 +37,7 @@ turned : (c : After-order_length) →
     let sum = t.loop-i.sum + (1 + c.order_length.result) in
     (sum + length (led (drop (t.loop-i.i + 1) (held a.words.now a.n))) ≡ length (led (held a.words.now a.n))) × (sum ≤ (max_entry + 1) * (t.loop-i.i + 1)) × (t.loop-i.i + 1 ≤ a.n)
 turned c =
-    let t = c.before.before.before in
+    let t = c.before.before in
     let s = start t.before in
     let l = length-led s.args.words.now s.args.n s.requires t.loop-i.i t.loop-i-test.true in
     let e = c.order_length.ensures.0 ∙ ap (λ (x : Order). length (entry x)) c.order_at.ensures in
@@ -66,7 +66,7 @@ order_at-requires c = let p = (start c.before.before).requires in omega (arith, 
 
 pub order_length-requires : goal.order_length-requires
 order_length-requires c =
-    let t = c.before.before.before in
+    let t = c.before.before in
     let s = start t.before in
     subst Sound (sym c.order_at.ensures) (sound-at s.args.words.now s.args.n s.requires t.loop-i.i t.loop-i-test.true)
 

@@ -28,7 +28,7 @@ summed : (c : After-whole_length) →
 summed c =
     let s = start c in
     let k = length-text s.args.name.now s.args.bids.now s.args.b s.args.asks.now s.args.a s.args.checksum in
-    let w = checksum-short s.args.checksum s.fits.checksum.fits in
+    let w = checksum-short s.args.checksum s.ranges.checksum.fits in
     let e = c.whole_length.ensures in
     let b = c.side_length.ensures in
     let a = c.side_length-2.ensures in

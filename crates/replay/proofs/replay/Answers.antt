@@ -7,7 +7,7 @@ use Rattle.replay.proofs.Replaying.{going-none, stop, call-within, reply-within,
 use Rattle.replay.proofs.replay.Goals as goal
 
 pub loop-book-init : goal.loop-book-init
-loop-book-init c = going-none c.args.script.now c.args.out.now c.«open».result c.«open».ensures.good
+loop-book-init c = going-none c.args.script.now c.args.out.now c.open-book.result c.open-book.ensures.good
 
 pub call_length-requires : goal.call_length-requires
 call_length-requires c = (sym c.is_whole.ensures ∙ c.loop-book-test.true)
@@ -79,7 +79,7 @@ loop-book-smaller c =
     omega arith
 
 pub loop-book-preserved : goal.loop-book-preserved
-loop-book-preserved c = going_more c.loop-book.invariant (rw (rest-is c.args.script.now c.loop-book.at) at (sym c.is_whole.ensures ∙ c.loop-book-test.true)) (rw (rest-is c.args.script.now c.loop-book.at) at c.call_length.ensures) (rw (rest-is c.args.script.now c.loop-book.at) at c.reply_length.ensures) c.call-after.result c.call-after.new.part c.call-after.auto.1.1.0 c.call-after.ensures
+loop-book-preserved c = going_more c.loop-book.invariant (rw (rest-is c.args.script.now c.loop-book.at) at (sym c.is_whole.ensures ∙ c.loop-book-test.true)) (rw (rest-is c.args.script.now c.loop-book.at) at c.call_length.ensures) (rw (rest-is c.args.script.now c.loop-book.at) at c.reply_length.ensures) c.call-after.result c.call-after.new.part c.call-after.auto.part c.call-after.ensures
 
 pub returns : goal.returns
-returns c = stop c.loop-book.invariant _ c.before.before.before.before.before.«open».ensures.same (rw (rest-is c.args.script.now c.loop-book.at) at (sym c.is_whole.ensures ∙ c.loop-book-test.false))
+returns c = stop c.loop-book.invariant _ c.open-book.ensures.same (rw (rest-is c.args.script.now c.loop-book.at) at (sym c.is_whole.ensures ∙ c.loop-book-test.false))

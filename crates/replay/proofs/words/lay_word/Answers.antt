@@ -16,7 +16,7 @@ In-loop-i = lts.In-loop reads.Pre reads.Post goal.the-invariant-loop-i goal.the-
 room-byte : (c : In-loop-i) → c.loop-i.end < length c.loop-i.part
 room-byte c =
     let r = c.loop-i.invariant.0.room in
-    let l = length-bytes c.loop-i.i c.loop-i.false in
+    let l = length-bytes c.loop-i.i c.loop-i.left in
     omega arith
 
 pub loop-i-init : goal.loop-i-init
@@ -30,16 +30,16 @@ overflow_add-end c = let r = room-byte c in omega arith
 
 pub loop-i-preserved : goal.loop-i-preserved
 loop-i-preserved c = (
-  owed-byte (rw (next-byte c.loop-i.i c.loop-i.false (omega arith)) at c.loop-i.invariant.0),
+  owed-byte (rw (next-byte c.loop-i.i c.loop-i.left (omega arith)) at c.loop-i.invariant.0),
   omega arith,
-  length-set c.loop-i.part c.loop-i.end (c.loop-i.false % 256) ∙ c.loop-i.invariant.2,
+  length-set c.loop-i.part c.loop-i.end (c.loop-i.left % 256) ∙ c.loop-i.invariant.2,
 )
 
 pub shape_of-part : goal.shape_of-part
 shape_of-part c = c.loop-i.invariant.2
 
 pub returns : goal.returns
-returns c = put-none (rw (no_bytes c.loop-i.i c.loop-i.false (omega arith)) at c.loop-i.invariant.0)
+returns c = put-none (rw (no_bytes c.loop-i.i c.loop-i.left (omega arith)) at c.loop-i.invariant.0)
 
 pub overflow_cast-part : goal.overflow_cast-part
 overflow_cast-part c = omega arith

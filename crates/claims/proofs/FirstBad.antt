@@ -41,11 +41,13 @@ join hi mid lo l m (more i a k g o) p = more lo a (k ++ m) g (join hi mid a.from
 
 -- the first of them is one of them, and begins at or before each
 each : (hi lo : ℕ) (l : List Span) → Ordered hi lo l → (a : Span) → Has a l → lo ≤ a.from
+each hi _ _ (none lo _) a x = elim x [ ]
 each hi lo l (more i b m g o) a (here k) = g
 each hi lo l (more i b m g o) a (later c k h) = let z = each hi b.from m o a h in omega arith
 
 first-of : (hi lo : ℕ) (l : List Span) → Ordered hi lo l → (a : Span) → Has a l → Has (first_of l) l × ((first_of l).from ≤ a.from)
 unfolding first_of
+first-of hi lo _ (none _ _) a h = elim h [ ]
 first-of hi lo l (more i b m g o) a h = (here m, each hi b.from (b ∷ m) (more b.from b m (omega arith) o) a h)
 
 -- ---- where a row lies

@@ -12,6 +12,7 @@ use Rattle.book.specs.declared.Header.{Header}
 use Rattle.book.specs.declared.BookParts.{BookParts}
 use Rattle.book.proofs.Asking.{counts-told}
 use Rattle.claims.specs.Calls.{Seen, seen}
+use Rattle.crc32.specs.Table.{ShiftTable}
 use Rattle.claims.specs.Lent.{MadeIn, no_call_in, a_message_in, a_count_in, ThirdDemandLent}
 
 module _ (p : Reference) (ask : Ask) (buffer : List ℕ) (q : Reference) (a : Answer) (v : Value) (x : List ℕ) where
@@ -23,8 +24,8 @@ module _ (p : Reference) (ask : Ask) (buffer : List ℕ) (q : Reference) (a : An
 made_in : {h : Header} {bids asks : List ℕ} {cs : List Call} {rs : List Seen} → Good (book_of bids asks h) → MadeIn h bids asks cs rs → rs ≡ map seen (replies_to (shows (book_of bids asks h)) cs)
 unfolding does replied replies_to
 made_in g no_call_in = refl
-made_in {h} g (a_message_in {r = r} {buffer = w} {cs = cs} {rs = rs} κs u v x y s t κt t0 f l k) =
-    let e = (l (g, f.right)).received in
+made_in {h} g (a_message_in {r = r} {buffer = w} {cs = cs} {rs = rs} κs u v x y s t κt t0 t1 f n l k) =
+    let e = (l (g, subst ShiftTable (sym n) f.right)).received in
     one_more (shows (book_of u.now v.now h)) (message s.now) w (shows (book_of x.now y.now r.header)) r.answer (amount r.moved) w e.same e.answer (ap amount e.moved) refl cs rs (made_in e.good k)
 made_in {h} {bids} {asks} g (a_count_in {buffer = w} {scope = c} {r = r} {cs = cs} {rs = rs} κs l k) =
     let e = counts-told h c r l bids asks g in

@@ -2,7 +2,7 @@
 -- book, writings-out into buffers of any length and content. Assumes nothing: these are definitions.
 use Rattle.std.specs.Prelude.{ℕ, ◌≡◌, Bool, true, false, List, [], ◌∷◌, map, take}
 use contract.Lifetimes.{Lfts}
-use Rattle.std.specs.Borrow.{Bor}
+use Rattle.std.specs.Borrow.{Bor, MutBor}
 use Rattle.decimal.specs.Decimal.{number as number_of}
 use Rattle.answer.specs.declared.Answer.{Answer}
 use Rattle.settings.specs.declared.Dialect.{Dialect}
@@ -56,7 +56,7 @@ pub data Made : Book → List Call → List Seen → Book → Type 0 where
   an_updates : {b e : Book} {scope : Scope} {buffer : List ℕ} {r : NumberReply} {cs : List Call} {rs : List Seen} (κs : Lfts 0)
       → (updates.Asked κs (b, (scope, tt)) → updates.Learnt κs (b, (scope, tt)) r (b, (scope, tt))) → Made r.book cs rs e
       → Made b (call (question (how_many_updates scope)) buffer ∷ cs) (record { answer = r.answer; value = amount r.value; buffer = buffer } ∷ rs) e
-  a_write : {b e : Book} {r : NumberReply} {cs : List Call} {rs : List Seen} (κs : Lfts 1) (u w : Bor (List ℕ))
+  a_write : {b e : Book} {r : NumberReply} {cs : List Call} {rs : List Seen} (κs : Lfts 1) (u w : MutBor (List ℕ))
       → (writes.Asked κs (b, (u, tt)) → writes.Learnt κs (b, (u, tt)) r (b, (w, tt))) → Made r.book cs rs e
       → Made b (call (question write) u.now ∷ cs) (record { answer = r.answer; value = amount r.value; buffer = w.now } ∷ rs) e
 

@@ -2,7 +2,7 @@
 -- and asked how many bids and asks there are. Assumes nothing: these are definitions.
 use Rattle.std.specs.Prelude.{ℕ, ◌≡◌, List, [], ◌∷◌, map}
 use contract.Lifetimes.{Lfts}
-use Rattle.std.specs.Borrow.{Bor}
+use Rattle.std.specs.Borrow.{Bor, MutBor}
 use Rattle.settings.specs.declared.Dialect.{Dialect}
 use Rattle.lifecycle.specs.declared.Counts.{Counts}
 use Rattle.reference.specs.Reference.{opened, counts, amount, message, question, how_many, Call, replies_to}
@@ -23,8 +23,8 @@ use Rattle.claims.specs.Calls.{Seen, seen}
 -- reads it. The table to sum by is one that `fill_table` left.
 pub data MadeIn : Header → List ℕ → List ℕ → List Call → List Seen → Type 0 where
   no_call_in : {h : Header} {bids asks : List ℕ} → MadeIn h bids asks [] []
-  a_message_in : {h : Header} {r : Answered} {buffer : List ℕ} {cs : List Call} {rs : List Seen} (κs : Lfts 4) (u v x y s t : Bor (List ℕ)) (κt : Lfts 1) (t0 : Bor (List ℕ))
-      → fills.Learnt κt (t0, tt) tt (t, tt)
+  a_message_in : {h : Header} {r : Answered} {buffer : List ℕ} {cs : List Call} {rs : List Seen} (κs : Lfts 4) (u v x y : MutBor (List ℕ)) (s t : Bor (List ℕ)) (κt : Lfts 1) (t0 t1 : MutBor (List ℕ))
+      → fills.Learnt κt (t0, tt) tt (t1, tt) → t.now ≡ t1.now
       → (takes.Asked κs (h, (u, (v, (s, (t, tt))))) → takes.Learnt κs (h, (u, (v, (s, (t, tt))))) r (h, (x, (y, (s, (t, tt)))))) → MadeIn r.header x.now y.now cs rs
       → MadeIn h u.now v.now (call (message s.now) buffer ∷ cs) (record { answer = r.answer; value = amount r.moved; buffer = buffer } ∷ rs)
   a_count_in : {h : Header} {bids asks buffer : List ℕ} {scope : Scope} {r : Counts} {cs : List Call} {rs : List Seen} (κs : Lfts 0)

@@ -1,10 +1,10 @@
 -- Laws of the value and of the order by value. Assumes nothing.
-use Rattle.std.proofs.Common.{◌≡◌, ℕ, zero, suc, ◌+◌, ◌-◌, ◌*◌, ◌^◌, ◌<◌, ◌≤◌, Bool, true, false, eqb, ltb, ◌↔◌, sym, refl, ap, ◌∙◌, subst, zero-le, le_trans, lt_trans, lt_of_lt_of_le, mul-le-mul_right, mul_assoc, mul_comm, mul-le-mul_left, mul-lt-mul_of_pos_right, zero-mul, mul_right_comm, mul_left_comm, arith, lit<, lit≤, pow-add, ltb-false, ltb-true, le-ltb, lt-ltb, eq-eqb, ne_eqb, eqb-true}
+use Rattle.std.proofs.Common.{◌≡◌, ℕ, zero, suc, ◌+◌, ◌-◌, ◌*◌, ◌^◌, ◌<◌, ◌≤◌, Bool, true, false, eqb, ltb, ◌↔◌, sym, refl, ap, ◌∙◌, subst, zero-le, le_trans, lt_of_lt_of_le, mul_assoc, mul_comm, mul-lt-mul_of_pos_right, zero-mul, mul_left_comm, arith, lit<, lit≤, pow-add, ltb-false, ltb-true, le-ltb, lt-ltb, eq-eqb, ne_eqb, eqb-true}
 use native.Mathlib.Nat.{eq_of_mul-eq-mul_right}
 use borrow.Author.Tests.{eqb-false}
 use lib.Arith.{lt_of_le-ne}
 use Rattle.decimal.specs.Decimal.{Number, value, is_zero, near, max_decimals, max_whole}
-use Rattle.decimal.specs.Limits.{order_of, order, Within}
+use Rattle.decimal.specs.Limits.{order_of, Within}
 use Rattle.decimal.specs.declared.Order.{Order}
 use Rattle.decimal.specs.declared.Order.TheVariants.{Less, Equal, Greater}
 use Rattle.decimal.proofs.Digits.{tens, tens-mono}

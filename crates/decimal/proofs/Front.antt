@@ -1,14 +1,14 @@
 -- What the runs of digits that a reader finds say of the decimal at the front of a text. Assumes nothing.
-use Rattle.std.proofs.Common.{◌≡◌, ℕ, zero, suc, ◌+◌, ◌-◌, ◌*◌, ◌^◌, ◌<◌, ◌≤◌, min, Bool, true, false, ◌&&◌, eqb, ltb, leb, List, [], ◌∷◌, ◌++◌, length, get_or, take, drop, sym, refl, ap, ◌∙◌, subst, ap₂, lt_of_lt_of_le, not-suc-le-zero, add-zero, le_of_lt, add_assoc, one-mul, arith, lit<, lit≤, length-drop, take-append-drop, length-take, length-take-le, get_or-drop, take_all, drop-drop, ltb-false, ltb-true, lt-ltb, eq-eqb, ne_eqb}
+use Rattle.std.proofs.Common.{◌≡◌, ℕ, suc, ◌+◌, ◌-◌, ◌*◌, ◌^◌, ◌<◌, ◌≤◌, min, Bool, true, false, ◌&&◌, eqb, ltb, List, ◌++◌, length, get_or, take, drop, sym, refl, ap, ◌∙◌, subst, ap₂, not-suc-le-zero, le_of_lt, one-mul, arith, lit<, length-drop, take-append-drop, length-take, get_or-drop, take_all, drop-drop, ltb-false, ltb-true}
 use lib.ListN.{get_or-eq_default}
 use Rattle.text.specs.Text.{is_digit}
 use Rattle.decimal.specs.Digits.{Reading, reads, refused, leading, value_from, value_of}
-use Rattle.decimal.specs.Decimal.{is_whole, Number, Prefix, prefixed, fractional, pointed, prefix, number_of, near, max_whole, max_decimals}
+use Rattle.decimal.specs.Decimal.{is_whole, Number, Prefix, fractional, prefix, number_of, near, max_whole, max_decimals}
 use Rattle.decimal.specs.Reads.{Ran}
 use Rattle.decimal.specs.declared.reading.Run.{Run}
-use Rattle.decimal.proofs.Digits.{Digits, leading-digits, value-append, value-base, value_low, value-below, tens-mono}
+use Rattle.decimal.proofs.Digits.{leading-digits, value-append, value-base, value-below, tens-mono}
 use Rattle.decimal.proofs.Words.{number-near, number-far}
-use Rattle.decimal.proofs.Scan.{past-digits, leading-drop, leading-here, leading-none, digit-within, length-leading, whole-empty, whole_long, whole-zero, whole-good, prefix-refused, prefix-pointed, pointed-plain, pointed-fraction, fraction-none, fraction-long, fraction-good}
+use Rattle.decimal.proofs.Scan.{past-digits, leading-drop, leading-here, leading-none, length-leading, whole-empty, whole_long, whole-zero, whole-good, prefix-refused, prefix-pointed, pointed-plain, pointed-fraction, fraction-none, fraction-long, fraction-good}
 
 -- ---- a run of digits, `most` at the most
 

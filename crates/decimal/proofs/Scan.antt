@@ -1,13 +1,13 @@
 -- Laws of `leading`, `prefix` and `read` at a position of a text: what a reader that goes byte by byte finds there.
 -- Assumes nothing.
-use Rattle.std.proofs.Common.{◌≡◌, ℕ, zero, suc, ◌+◌, ◌-◌, ◌*◌, ◌%◌, ◌^◌, ◌<◌, ◌≤◌, Bool, true, false, not, ◌&&◌, eqb, ltb, leb, List, [], ◌∷◌, ◌++◌, length, get_or, take, drop, sym, refl, ap, ◌∙◌, subst, ap₂, zero-le, le_trans, not-suc-le-zero, mul-le-mul_right, zero-lt-suc, mul_assoc, mul_comm, mul-le-mul_left, pow-suc, mul-one, add-one, arith, lit<, drop_of_length-le, get_or-drop, take_all, drop-cons, drop-drop, ltb-false, ltb-true, le-ltb, lt-ltb, eq-eqb, ne_eqb, eqb-true, le-leb, leb-false, leb-true}
+use Rattle.std.proofs.Common.{◌≡◌, ℕ, zero, suc, ◌+◌, ◌-◌, ◌*◌, ◌%◌, ◌^◌, ◌<◌, ◌≤◌, Bool, true, false, not, ◌&&◌, eqb, ltb, leb, List, [], ◌∷◌, ◌++◌, length, get_or, take, drop, sym, refl, ap, ◌∙◌, subst, ap₂, zero-le, le_trans, not-suc-le-zero, mul-le-mul_right, zero-lt-suc, mul_assoc, mul_comm, mul-le-mul_left, pow-suc, mul-one, add-one, arith, drop_of_length-le, drop-cons, ltb-false, ltb-true, le-ltb, lt-ltb, eq-eqb, ne_eqb, le-leb}
 use native.Mathlib.Decide.{dec_lt}
-use borrow.Author.Tests.{lt-leb, eqb-false}
+use borrow.Author.Tests.{lt-leb}
 use lib.ListN.{get_or-eq_default}
 use lib.Seq.{take-nil}
 use Rattle.text.specs.Text.{is_digit}
-use Rattle.decimal.specs.Digits.{Reading, reads, refused, leading, value_from, value_of}
-use Rattle.decimal.specs.Decimal.{is_whole, Number, Prefix, prefixed, fractional, pointed, prefix, read, max_whole, max_decimals, point}
+use Rattle.decimal.specs.Digits.{reads, refused, leading}
+use Rattle.decimal.specs.Decimal.{is_whole, Prefix, prefixed, fractional, pointed, prefix, read, max_whole, max_decimals}
 use Rattle.decimal.specs.Reads.{DigitOf}
 use Rattle.decimal.proofs.Digits.{leading-more, leading-stop, digit-in, is-digit, tens}
 

@@ -4,7 +4,6 @@ use native.Mathlib.Nat.{div-div-eq-div-mul}
 use borrow.Author.Tests.{eqb-false}
 use lib.Arith.{digits_div}
 use lib.Seq.{drop-append-le}
-use Rattle.text.specs.Text.{is_digit}
 use Rattle.decimal.specs.Digits.{digit, value_from, fixed, significant, written}
 use Rattle.decimal.specs.Decimal.{Number, near, far_of, past_of, decimals_of, number_of, point, text, after_point, without_point, without_zeros, stripped, max_whole, max_decimals}
 use Rattle.decimal.specs.Limits.{Within}
@@ -13,7 +12,7 @@ use Rattle.decimal.specs.Words.{Tidied}
 use Rattle.decimal.specs.declared.Tail.{Tail}
 use Rattle.decimal.specs.declared.Part.{Part}
 use Rattle.decimal.specs.declared.Part.TheVariants.{Fraction, Units, Higher}
-use Rattle.decimal.proofs.Digits.{Digits, none, one, digit-in, digits_append, fixed-digits, significant-digits, written-digits, div-tens, length-fixed, significant-zero, significant-step, significant-value, value-fixed, written-positive, first-significant, length-significant, length-written, tens}
+use Rattle.decimal.proofs.Digits.{Digits, none, one, digit-in, fixed-digits, written-digits, div-tens, length-fixed, significant-zero, significant-step, significant-value, value-fixed, written-positive, first-significant, length-significant, length-written, tens}
 use Rattle.decimal.proofs.Words.{far_none, far_some, past-at, past-low, decimals-far, number-near}
 
 -- ---- the bytes that are still to come, less the last

@@ -1,6 +1,6 @@
 -- Decimals, as document 01 has them under "Decimals": 1 to 10 digits, then optionally a point and 1 to 12 digits; no sign, no exponent;
 -- no leading zero before the point unless it is the single digit 0. Assumes nothing: these are definitions.
-use Rattle.std.specs.Prelude.{ℕ, zero, suc, ◌+◌, ◌-◌, ◌*◌, ◌/◌, ◌%◌, ◌^◌, ◌<◌, ◌≤◌, Bool, true, false, cond, not, ◌&&◌, List, [], ◌∷◌, ◌++◌, length, drop, ◌==◌, nat_le, nat_lt, slice_index}
+use Rattle.std.specs.Prelude.{ℕ, zero, suc, ◌+◌, ◌-◌, ◌*◌, ◌/◌, ◌%◌, ◌^◌, Bool, true, false, cond, not, ◌&&◌, List, [], ◌∷◌, ◌++◌, length, drop, ◌==◌, nat_le, nat_lt, slice_index}
 use Rattle.decimal.specs.Digits.{Reading, reads, refused, leading, value_of, fixed, written}
 use Rattle.decimal.specs.declared.Decimal.{Decimal}
 

@@ -1,7 +1,7 @@
 -- Worked examples of the definitions. Assumes nothing.
-use Rattle.std.specs.Prelude.{◌≡◌, ℕ, ◌/◌, ◌%◌, ◌^◌, List, [], ◌∷◌, refl}
+use Rattle.std.specs.Prelude.{◌≡◌, [], ◌∷◌, refl}
 use Rattle.text.specs.Text.{is_digit}
-use Rattle.decimal.specs.Digits.{Reading, reads, refused, leading, value_from, fixed, significant_in, significant, written}
+use Rattle.decimal.specs.Digits.{reads, refused, leading, value_from, fixed, significant_in, significant, written}
 use Rattle.decimal.specs.Decimal.{Number, is_whole, fractional, pointed, prefix, read, text, after_point, without_point, without_zeros, stripped, value, number_of, far_of, past_of, decimals_of}
 use Rattle.decimal.specs.Limits.{order, order_of}
 use Rattle.text.specs.Text.{ascii}

@@ -1,6 +1,6 @@
 -- The two words that the code keeps a decimal in, as its functions hand them over. Assumes nothing: these are definitions.
 use Rattle.std.specs.Prelude.{◌≡◌, ℕ, ◌+◌, ◌-◌, ◌*◌, ◌/◌, ◌%◌, ◌^◌, ◌<◌, cond, nat_le, nat_lt}
-use Rattle.decimal.specs.Decimal.{Number, near, max_decimals, number_of, decimals_of, far_of, past_of}
+use Rattle.decimal.specs.Decimal.{Number, near, max_decimals, decimals_of, far_of, past_of}
 use Rattle.decimal.specs.declared.Parts.{Parts}
 use Rattle.decimal.specs.declared.Split.{Split}
 

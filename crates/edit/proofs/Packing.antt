@@ -1,10 +1,9 @@
 -- An entry that was packed comes back out of its three words. Assumes nothing.
 use Prim.Native.Nat.{ℕ, ◌+◌, ◌*◌, ◌/◌, ◌%◌, ◌^◌, ◌≤◌, ◌<◌}
-use mathlib.Core.Path.{◌≡◌, refl, sym, ap, ◌∙◌}
-use native.Mathlib.Nat.{zero-add, mod-eq_of_lt, div-eq_of_lt, add-mul-mod_self_left, add-mul-div_left, div-div-eq-div-mul}
+use mathlib.Core.Path.{◌≡◌, refl, ap, ◌∙◌}
+use native.Mathlib.Nat.{zero-add, mod-eq_of_lt, div-eq_of_lt, add-mul-mod_self_left, add-mul-div_left}
 use native.Mathlib.Omega.{arith}
 use lib.Dec.{lit<}
-use Rattle.decimal.specs.Decimal.{Number}
 use Rattle.decimal.specs.Limits.{Within}
 use Rattle.decimal.specs.Words.{digits_near, code_of}
 use Rattle.decimal.proofs.Words.{words-number, code-low}

@@ -14,7 +14,7 @@ use Rattle.json_tokens.specs.Ends.{end_of}
 use Rattle.json_tokens.proofs.Laws.{end-at}
 use Rattle.json_tokens.proofs.Bounds.{bounds, end-broken, closing-in, separator-in}
 use lib.ListN.{length}
-use Rattle.json_values.specs.Json.{Span, item, ends, Items, items, no_items, next, prepended, onward, list, items_end, elements, value}
+use Rattle.json_values.specs.Json.{Span, item, Items, items, no_items, next, prepended, onward, list, items_end, elements, value}
 use Rattle.json_values.proofs.Laws.{value-array, before-end, element-is, element-wrong, later-item, later-ends, later-wrong}
 use Rattle.json_values.proofs.Bounds.{value_in}
 use Rattle.json_values.proofs.Walk.{Walk, walk, walk_ends, walk-wrong, walk_is, walk-item}

@@ -1,8 +1,7 @@
 -- What is met of the entries of a message, entry by entry: how many there are for each side, the first that check 8 refuses, and the buffer that has their
 -- numbers. `base` is where the text begins in its message. Assumes nothing: these are definitions.
-use Rattle.std.specs.Prelude.{ℕ, ◌+◌, ◌-◌, ◌≤◌, ◌≡◌, Bool, true, false, ◌&&◌, ◌||◌, cond, List, [], ◌∷◌, ◌++◌, map, eqb, length, take}
+use Rattle.std.specs.Prelude.{ℕ, ◌+◌, ◌-◌, ◌≤◌, ◌≡◌, Bool, true, false, ◌&&◌, cond, List, ◌++◌, map, eqb, length, take}
 use Rattle.decimal.specs.Digits.{Reading, reads, refused}
-use Rattle.edit.specs.Edit.{Numbers}
 use Rattle.edit.specs.Buffer.{max_buffered, buffer_words, entries_in, Put}
 use Rattle.edit.specs.declared.Side.{Side}
 use Rattle.edit.specs.declared.Side.TheVariants.{Bids, Asks}

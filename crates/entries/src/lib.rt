@@ -28,8 +28,8 @@ ghost use Rattle.entries.specs.Decimals.{QuotedAt, TwoDecimals};
 
 use decimal::{Decimal, Parsed, ParsedFront, parse};
 use edit::{BUFFER_WORDS, Side, put};
-use json_values::{MAX_DEPTH, value_end};
 use json_tokens::{OPEN_ARRAY, QUOTE, array_close_end, comma_end, skip_blanks, string_end};
+use json_values::{MAX_DEPTH, value_end};
 use text::{byte_at, either};
 
 // How deep arrays and objects may nest in an entry of a message of dialect K or M.

@@ -1,7 +1,7 @@
 -- The bytes that RFC 8259 names, and the kinds of bytes that its productions are made of.
 -- Past the end of a text `byteAt` gives 0, a byte that no production takes, so no rule below asks where the text ends.
 -- Assumes nothing: these are definitions.
-use Rattle.std.specs.Prelude.{ℕ, Bool, ◌||◌, ◌&&◌, not, leb, eqb}
+use Rattle.std.specs.Prelude.{ℕ, Bool, ◌||◌, ◌&&◌, leb, eqb}
 unfoldable pub use Rattle.text.specs.Text.{byte_at, is_digit as digit}
 
 abbrev pub quote : ℕ

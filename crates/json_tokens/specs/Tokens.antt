@@ -1,7 +1,7 @@
 -- The tokens of JSON, RFC 8259: blanks, structural characters, strings, numbers, literal names. Each is a function from a text and a position
 -- to where the token that begins there ends. Its name in the RFC's grammar stands above each.
 -- Assumes nothing: these are definitions.
-use Rattle.std.specs.Prelude.{ℕ, zero, suc, ◌+◌, List, [], ◌∷◌, Bool, true, false, ◌||◌, ◌&&◌, drop, length, ltb, eqb}
+use Rattle.std.specs.Prelude.{ℕ, zero, suc, ◌+◌, List, [], ◌∷◌, Bool, true, false, ◌||◌, drop, length, ltb, eqb}
 use Rattle.text.specs.Text.{byte_at, is_digit}
 use Rattle.json_tokens.specs.Bytes.{quote, backslash, blank, hex_digit, escaped}
 

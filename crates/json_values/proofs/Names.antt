@@ -11,10 +11,9 @@ use lib.Seq.{take_all, drop-nil, drop-cons, drop-drop, get_or-drop}
 use lib.Dec.{leb, eqb}
 use borrow.Author.Tests.{eq-eqb, ne_eqb, eqb-true, leb-true, le-leb, lt-leb}
 use Rattle.text.specs.Text.{byte_at, is_digit}
-use Rattle.json_tokens.specs.Bytes.{backslash}
 use Rattle.json_tokens.proofs.Laws.{here}
 use Rattle.json_values.specs.Json.{Span}
-use Rattle.json_values.specs.Names.{part, short_meaning, hex_value, long_meaning, escape_meaning, escape_length, meaning, inner, same, means}
+use Rattle.json_values.specs.Names.{short_meaning, hex_value, long_meaning, escape_meaning, escape_length, meaning, inner, same, means}
 use Rattle.json_values.specs.Escapes.{PastEscape, Spelled, begins_otherwise}
 use Rattle.json_values.specs.Claims.{holds, PlainText}
 

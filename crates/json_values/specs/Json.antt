@@ -4,7 +4,7 @@
 use Rattle.std.specs.Prelude.{ℕ, zero, suc, ◌+◌, List, [], ◌∷◌, Bool, true, false, length, eqb}
 use Rattle.text.specs.Text.{byte_at, colon}
 use Rattle.json_tokens.specs.Bytes.{comma, open_array, close_array, open_object, close_object}
-use Rattle.json_tokens.specs.Tokens.{End, At, Broken, and_then, blanks, closing, separator, string, scalar, ended}
+use Rattle.json_tokens.specs.Tokens.{End, At, Broken, blanks, closing, separator, string, scalar, ended}
 
 -- a part of the text: its first position, and the position past it
 pub record Span : Type 0 where

@@ -13,11 +13,11 @@
 
 ghost use Rattle.std.specs.Prelude.{◌<◌, length};
 
-use json_values::{MAX_DEPTH, array_end, is_name, object_end, value_end};
 use json_tokens::{
     OPEN_ARRAY, OPEN_OBJECT, array_close_end, colon_end, comma_end, is_ended, number_end,
     object_close_end, scalar_end, skip_blanks, string_end,
 };
+use json_values::{MAX_DEPTH, array_end, is_name, object_end, value_end};
 use libc::STDOUT_FILENO;
 use lines::{LINE_END, find};
 

@@ -10,7 +10,6 @@ use Rattle.edit.specs.declared.Side.{Side}
 use Rattle.edit.specs.declared.Side.TheVariants.{Bids, Asks}
 use Rattle.level.specs.declared.Level.{Level}
 use Rattle.level.specs.declared.Levels.{Levels}
-use Rattle.level.specs.declared.MaybeLevel.{MaybeLevel}
 use Rattle.level.specs.declared.MaybeLevel.TheVariants.{At, Nothing}
 use Rattle.level.specs.Words.{levels_in}
 use Rattle.level.specs.Kept.{max_levels, max_words, held, level_at, Good, Empty}

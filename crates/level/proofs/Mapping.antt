@@ -2,17 +2,16 @@
 -- Assumes nothing.
 use Prim.Native.Nat.{ℕ, zero, suc}
 use mathlib.Core.Path.{◌≡◌, refl, sym, ap, ◌∙◌}
-use mathlib.Core.Bool.{Bool, true, false, ◌||◌, cond}
+use mathlib.Core.Bool.{Bool, true, false, cond}
 use mathlib.Core.List.{List, [], ◌∷◌, map}
-use lib.Dec.{eqb}
 use lib.ListN.{length, take, length-map}
 use Rattle.decimal.specs.Decimal.{Number, value}
 use Rattle.edit.specs.declared.Side.{Side}
 use Rattle.level.specs.declared.Level.{Level}
-use Rattle.edit.specs.Edit.{PriceLevel, shown_price}
+use Rattle.edit.specs.Edit.{shown_price}
 use Rattle.level.specs.Words.{level_price, shown}
 use Rattle.edit.specs.Edit.{Edit, sets, removes}
-use Rattle.level.specs.Side.{nearer, without, apply, apply_all, place, ranked, crosses, standing}
+use Rattle.level.specs.Side.{without, apply, apply_all, place, ranked, crosses, standing}
 use Rattle.level.specs.Ranked.{after_message, replaces, replaced, map_edit}
 use Rattle.edit.specs.Edit.{named}
 

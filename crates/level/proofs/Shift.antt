@@ -1,12 +1,12 @@
 -- What the loops that shift an array up and down leave in it, in closed form. `a` is the array where the loop begins, and it holds n elements.
 -- Assumes nothing.
-use Prim.Native.Nat.{ℕ, zero, suc, ◌+◌, ◌-◌, ◌≤◌, ◌<◌, min}
-use mathlib.Core.Path.{◌≡◌, refl, sym, ap, ◌∙◌}
+use Prim.Native.Nat.{ℕ, zero, suc, ◌+◌, ◌-◌, ◌≤◌, ◌<◌}
+use mathlib.Core.Path.{◌≡◌, sym, ap, ◌∙◌}
 use mathlib.Core.List.{List, [], ◌∷◌, ◌++◌, append_assoc, append-nil}
 use native.Mathlib.Omega.{arith}
 use native.Mathlib.Numerals.{add-one}
-use lib.ListN.{length, get_or, set, take, drop, length-append, length-drop, length-set, take-append-drop, drop_of_length-le, get_or-append}
-use lib.Seq.{length-take-le, take-suc, take-suc-set, drop-cons, drop-drop, take_at, drop_at, get_or_at, set_at, take-take, drop-append-le, get_or-take, get_or-drop, get_or-append-add, append_snoc, drop-length}
+use lib.ListN.{length, get_or, set, take, drop, length-append, length-drop, take-append-drop, drop_of_length-le, get_or-append}
+use lib.Seq.{length-take-le, take-suc, take-suc-set, drop-cons, drop-drop, take_at, set_at, take-take, drop-append-le, get_or-take, get_or-drop, get_or-append-add, append_snoc}
 
 module _ {A : Type 0} where
   -- up from `at`: slots above j have what stood one below them

@@ -1,10 +1,10 @@
 -- Worked examples of the definitions. Assumes nothing.
-use Rattle.std.specs.Prelude.{◌≡◌, refl, Bool, true, false, List, [], ◌∷◌, ℕ}
+use Rattle.std.specs.Prelude.{◌≡◌, refl, true, false, [], ◌∷◌, ℕ}
 use Rattle.decimal.specs.Decimal.{Number, value, number_of, far_of, past_of, decimals_of}
 use Rattle.decimal.specs.Words.{digits_near, digits_past, code_of}
 use Rattle.edit.specs.declared.Side.TheVariants.{Bids, Asks}
 use Rattle.edit.specs.Edit.{PriceLevel, shown_price}
-use Rattle.edit.specs.Edit.{Edit, sets, removes}
+use Rattle.edit.specs.Edit.{sets, removes}
 use Rattle.level.specs.Side.{names, names_twice, without, apply, apply_all, place, ranked, crosses, standing}
 use Rattle.level.specs.Ranked.{after_message, replaces, replaced}
 use Rattle.level.specs.Moved.{place_of, moves, moved}

@@ -1,6 +1,6 @@
 -- What contracts and laws say of sides and of entries. Assumes nothing: these are definitions.
-use Rattle.std.specs.Prelude.{ℕ, ◌≡◌, Bool, true, false, ◌||◌, List, [], ◌∷◌, eqb, take}
-use Rattle.decimal.specs.Decimal.{Number, value}
+use Rattle.std.specs.Prelude.{ℕ, ◌≡◌, Bool, true, false, ◌||◌, List, [], ◌∷◌, take}
+use Rattle.decimal.specs.Decimal.{Number}
 use Rattle.edit.specs.Edit.{Edit, sets, removes}
 use Rattle.level.specs.Side.{nearer, value_at, standing, apply, apply_all, ranked}
 use Rattle.edit.specs.declared.Side.{Side}

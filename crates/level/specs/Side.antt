@@ -1,6 +1,6 @@
 -- A side of the book, as document 01 has it under "Applying a message" and "The plain book": what stands at each price, entry by entry,
 -- then ranked. Lists alone: no array, no search and no place of the code. Assumes nothing: these are definitions.
-use Rattle.std.specs.Prelude.{ℕ, Bool, true, false, ◌||◌, not, cond, List, [], ◌∷◌, ltb, eqb}
+use Rattle.std.specs.Prelude.{ℕ, Bool, false, ◌||◌, not, cond, List, [], ◌∷◌, ltb, eqb}
 use Rattle.decimal.specs.Decimal.{Number, value}
 use Rattle.edit.specs.Edit.{Edit, sets, removes}
 use Rattle.edit.specs.declared.Side.{Side}

@@ -1,5 +1,5 @@
 -- The lines of a text: each ends at byte 10; an unfinished last line counts if it isn't empty. Assumes nothing: these are definitions.
-use Rattle.std.specs.Prelude.{ℕ, suc, Bool, cond, List, [], ◌∷◌, ◌++◌, eqb, ltb, length, take}
+use Rattle.std.specs.Prelude.{ℕ, suc, Bool, cond, List, [], ◌∷◌, ◌++◌, eqb, ltb, length}
 
 -- How many bytes a text has before a byte.
 unfoldable pub bytes_before : ℕ → List ℕ → ℕ

@@ -25,11 +25,11 @@ ghost use Rattle.message_k.specs.PartsK.{up_to_six, no_outer, with_outer, no_par
 use decimal::{ParsedChecksum, ParsedWhole, parse_checksum, parse_whole};
 use edit::{BUFFER_WORDS, Side};
 use entries::{Form, Tally, entries_at, none_yet};
-use json_values::{MAX_DEPTH, is_name, item_end, value_end};
 use json_tokens::{
     OPEN_ARRAY, OPEN_OBJECT, QUOTE, array_close_end, colon_end, comma_end, object_close_end,
     skip_blanks, string_end,
 };
+use json_values::{MAX_DEPTH, is_name, item_end, value_end};
 use layout::{
     ITEM_DEPTH, Kind, MemberSpan, Outline, SIDE_DEPTH, Scan, few_more, no_member_span, no_outline,
     not_framed, outline_of, with_member_span,

@@ -12,11 +12,11 @@ ghost use Rattle.message_l.specs.Orders.{orders_depth};
 ghost use Rattle.message_l.specs.Collected.{no_sides, no_listing, listing_end, MoreSides, MoreListing, ObjectRead, not_one, DataRead};
 
 use edit::Side;
-use json_values::{is_name, item_end, value_end};
 use json_tokens::{
     OPEN_ARRAY, OPEN_OBJECT, array_close_end, colon_end, comma_end, object_close_end, skip_blanks,
     string_end,
 };
+use json_values::{is_name, item_end, value_end};
 use layout::{ITEM_DEPTH, MemberSpan, SIDE_DEPTH, few_more, no_member_span};
 use order_arrays::{OrderTally, none_yet, orders_at};
 use order_edit::BUFFER_WORDS;

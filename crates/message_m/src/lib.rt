@@ -22,8 +22,8 @@ ghost use Rattle.message_m.specs.Collected.{no_data, data_end, MoreData, DataRea
 use decimal::{ParsedChecksum, ParsedWhole, parse_checksum, parse_whole};
 use edit::{BUFFER_WORDS, Side};
 use entries::{Form, Tally, entries_at, none_yet};
-use json_values::{MAX_DEPTH, is_name, item_end, value_end};
 use json_tokens::{OPEN_OBJECT, colon_end, comma_end, object_close_end, skip_blanks, string_end};
+use json_values::{MAX_DEPTH, is_name, item_end, value_end};
 use layout::{
     ITEM_DEPTH, Kind, MemberSpan, Outline, SIDE_DEPTH, Scan, few_more, is_snapshot, no_member_span,
     no_outline, not_framed, outline_of, with_member_span,

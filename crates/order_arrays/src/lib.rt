@@ -12,8 +12,8 @@ ghost use Rattle.order_entries.specs.Saying.{read_event};
 ghost use Rattle.order_arrays.specs.Tally.{none_yet, not_orders, told_not, is_read, or_else, counted, CountedAt, Met};
 
 use edit::Side;
-use json_values::value_end;
 use json_tokens::{OPEN_ARRAY, array_close_end, comma_end, skip_blanks};
+use json_values::value_end;
 use order_edit::{BUFFER_WORDS, put};
 use order_entries::{MaybeEvent, OrderPlace, order_place, read_order};
 use text::{both, byte_at};

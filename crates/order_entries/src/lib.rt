@@ -17,10 +17,10 @@ ghost use Rattle.layout.specs.MemberSpans.{with_member_span, on_member};
 ghost use Rattle.order_edit.specs.Ids.{is_id};
 ghost use Rattle.order_entries.specs.Collected.{order_place_of, order_place_at, no_members, more_members, once_string, event_of, place_in, Placed, Inside, Found};
 
-use json_values::{is_name, value_end};
 use json_tokens::{
     OPEN_OBJECT, QUOTE, colon_end, comma_end, object_close_end, skip_blanks, string_end,
 };
+use json_values::{is_name, value_end};
 use layout::{MemberSpan, no_member_span, with_member_span};
 use order_edit::{Buffered, Event, is_id};
 pub use saying::read_order;

@@ -58,17 +58,17 @@ unfolding change_of shown_change
 change-shown e a = event-shown e.event (order_for e) ∙ ap (entry_of e.event) (order-shown e a)
 
 -- those for one side, each seen in one way or the other
-for_side : {A B : Type 0} (f : OrderEntry → A) (g : A → B) (h : OrderEntry → B) → ((e : OrderEntry) → EntrySound e → g (f e) ≡ h e)
+seen-side : {A B : Type 0} (f : OrderEntry → A) (g : A → B) (h : OrderEntry → B) → ((e : OrderEntry) → EntrySound e → g (f e) ≡ h e)
     → (side : Side) (es : List OrderEntry) → All EntrySound es → map g (map f (for_side entry_side side es)) ≡ map h (for_side entry_side side es)
-for_side f g h is side es a = map-map f g (for_side entry_side side es) ∙ map_same EntrySound (λ e. g (f e)) h is (for_side entry_side side es) (all-sided EntrySound side es a)
+seen-side f g h is side es a = map-map f g (for_side entry_side side es) ∙ map_same EntrySound (λ e. g (f e)) h is (for_side entry_side side es) (all-sided EntrySound side es a)
 
 changes-shown : (side : Side) (es : List OrderEntry) → All EntrySound es → map (map_entry shown) (changes_for false side es) ≡ shown_changes_for side es
 unfolding changes_for shown_changes_for
-changes-shown side es a = for_side (change_of false) (map_entry shown) shown_change change-shown side es a
+changes-shown side es a = seen-side (change_of false) (map_entry shown) shown_change change-shown side es a
 
 orders-shown : (side : Side) (es : List OrderEntry) → All EntrySound es → map shown (orders_for side es) ≡ shown_orders_for side es
 unfolding orders_for shown_orders_for
-orders-shown side es a = for_side order_for shown shown_order order-shown side es a
+orders-shown side es a = seen-side order_for shown shown_order order-shown side es a
 
 -- ---- a whole message, as shown
 

@@ -1,5 +1,5 @@
 -- A level's piece of checksum text, as document 01 has it under "Checksum text", and what its sum is. Assumes nothing: these are definitions.
-use Rattle.std.specs.Prelude.{ℕ, suc, ◌+◌, ◌*◌, ◌≡◌, List, [], ◌∷◌, ◌++◌, length}
+use Rattle.std.specs.Prelude.{ℕ, ◌+◌, ◌*◌, ◌≡◌, List, ◌∷◌, ◌++◌, length}
 use Rattle.std.specs.Int.Bits.{bit_xor}
 use Rattle.text.specs.Text.{colon}
 use Rattle.decimal.specs.Decimal.{Number, text, stripped}

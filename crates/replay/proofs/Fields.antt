@@ -17,11 +17,13 @@ length-bytes (suc k) n = ap suc (length-bytes k (n / 256))
 -- the lowest byte, and the others
 pub next-byte : (i n : ℕ) → 0 < i → bytes_of i n ≡ n % 256 ∷ bytes_of (i - 1) (n / 256)
 unfolding bytes_of
+next-byte zero n h = elim h [ ]
 next-byte (suc i) n h = let e : suc i - 1 ≡ i = omega arith in rw e
 
 pub no_bytes : (i n : ℕ) → i ≤ 0 → bytes_of i n ≡ []
 unfolding bytes_of
 no_bytes zero n h = refl
+no_bytes (suc _) n h = elim h [ ]
 
 -- ---- a call that is whole
 

@@ -1,6 +1,6 @@
 -- Laws of good settings: each case of the tests. Assumes nothing.
-use Prim.Native.Nat.{ℕ, zero, suc, ◌+◌, ◌-◌, ◌≤◌, ◌<◌}
-use mathlib.Core.Path.{◌≡◌, refl, sym, ap, ap₂, ◌∙◌, subst}
+use Prim.Native.Nat.{ℕ, suc, ◌+◌, ◌-◌, ◌≤◌, ◌<◌}
+use mathlib.Core.Path.{◌≡◌, refl, sym, ap, ap₂, ◌∙◌}
 use mathlib.Core.Bool.{Bool, true, false, ◌&&◌, not}
 use mathlib.Core.List.{List, [], ◌∷◌, ◌++◌}
 use native.Mathlib.Omega.{arith}
@@ -11,7 +11,6 @@ use lib.ListN.{length, get_or, take, drop, set, replicate, drop_of_length-le, ta
 use lib.Seq.{drop-cons, take-suc, take-suc-set, drop-set-lt, drop-drop}
 use Rattle.settings.specs.Settings.{Config, good_depth, name_byte, name_bytes, good_name, good, kept, shut}
 use Rattle.settings.specs.Kept.{padded}
-use Rattle.settings.specs.declared.Dialect.{Dialect}
 use Rattle.settings.specs.declared.Dialect.TheVariants.{K, M, Unknown}
 use Rattle.settings.specs.declared.Edition.{Edition}
 

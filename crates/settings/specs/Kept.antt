@@ -1,8 +1,6 @@
 -- The settings that the code's book keeps. Assumes nothing: these are definitions.
-use Rattle.std.specs.Prelude.{ℕ, ◌-◌, ◌≤◌, ◌≡◌, List, ◌++◌, length, take, replicate, Bool, true, false}
+use Rattle.std.specs.Prelude.{ℕ, ◌-◌, ◌≤◌, ◌≡◌, List, ◌++◌, length, take, replicate}
 use Rattle.settings.specs.Settings.{Config, kept}
-use Rattle.settings.specs.declared.Dialect.{Dialect}
-use Rattle.settings.specs.declared.Dialect.TheVariants.{K, M, Unknown}
 use Rattle.settings.specs.declared.Settings.{Settings}
 
 -- The settings that the code's struct holds.

@@ -1,8 +1,6 @@
 -- `entries::rest_end` meets its contract: wherever the loop stands, past an element, the array ends where what is left of it ends.
 -- Assumes nothing.
-use Prim.Native.Nat.{◌-◌}
 use lib.ListN.{length}
-use mathlib.Core.Bool.{false}
 use mathlib.Core.Path.{refl}
 use native.Mathlib.Omega.{arith}
 use Rattle.json_tokens.proofs.Bounds.{end-broken, separator-in}

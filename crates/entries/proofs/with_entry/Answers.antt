@@ -28,7 +28,7 @@ returns c =
     let a = c.args in
     let t = a.before in
     let counted : c.match-side.tally ≡ more t a.side = elim c.match-side.branch [
-      in-Bids w ↦ w.tally-is ∙ one-bid t ∙ ap (more t) (sym w.in-Bids.is)
-    | in-Asks w ↦ w.tally-is ∙ one-ask t ∙ ap (more t) (sym w.in-Asks.is)
+      | in-Bids w ↦ w.tally-is ∙ one-bid t ∙ ap (more t) (sym w.in-Bids.is)
+      | in-Asks w ↦ w.tally-is ∙ one-ask t ∙ ap (more t) (sym w.in-Asks.is)
     ] in
     rw (counted, c.earliest.ensures, c.earliest-2.ensures) refl

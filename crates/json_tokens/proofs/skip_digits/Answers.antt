@@ -1,6 +1,5 @@
 -- `json_tokens::skip_digits` meets its contract: wherever the loop stands, what is left to pass ends where the whole does.
 -- Assumes nothing.
-use Prim.Native.Nat.{◌-◌}
 use mathlib.Core.Path.{◌∙◌, ap, refl, sym}
 use native.Mathlib.Omega.{arith}
 use Rattle.json_tokens.proofs.Laws.{digits-on, digits-stop, in-digit}

@@ -1,6 +1,6 @@
 -- `json_tokens::skip_plain` meets its contract: wherever the loop stands, the string from there ends where it does from `at` on, since the bytes of a word below its lowest mark stand for themselves.
 -- Assumes nothing.
-use Prim.Native.Nat.{◌+◌, ◌-◌, ◌/◌, ◌≤◌, ◌<◌, ℕ}
+use Prim.Native.Nat.{◌+◌, ◌/◌, ◌≤◌, ◌<◌, ℕ}
 use lib.Count.{count_trailing_zeros, trailing_le, trailing_of_zero}
 use lib.ListN.{get_or, length}
 use mathlib.Core.List.{List}

@@ -1,6 +1,5 @@
 -- `json_tokens::string_rest_end` meets its contract: wherever the loop stands, the string from there ends where the whole does, and the byte there decides.
 -- Assumes nothing.
-use Prim.Native.Nat.{◌-◌}
 use mathlib.Core.Path.{◌∙◌, ap, refl, sym}
 use native.Mathlib.Omega.{arith}
 use Rattle.json_tokens.proofs.Laws.{end_is, end_none, in-byte, rest-quote}

@@ -1,6 +1,5 @@
 -- `json_tokens::word_end` meets its contract: wherever the loop stands, what is left of w is to stand at i.
 -- Assumes nothing.
-use Prim.Native.Nat.{◌-◌}
 use mathlib.Core.Path.{◌∙◌, refl, sym}
 use native.Mathlib.Omega.{arith}
 use Rattle.json_tokens.proofs.Laws.{end_is, end_none, word-ends, word-off, word_on, word-past}

@@ -2,7 +2,7 @@
 -- nesting less, and each loop goes from item to item as the list in the definition does. The measure is three times the nesting left, and one or two more in
 -- what calls `value_end` at the same nesting.
 -- Assumes nothing.
-use Rattle.std.proofs.Common.{ℕ, ◌-◌, ◌≡◌, ◌∙◌, ap, refl, sym, arith, suc}
+use Rattle.std.proofs.Common.{◌-◌, ◌≡◌, ◌∙◌, ap, refl, sym, arith, suc}
 use Rattle.json_tokens.proofs.Bounds.{end-broken, separator-in, string-in}
 use Rattle.json_tokens.proofs.Laws.{end-at, end_none, in-byte, then_at, then-broken}
 use Rattle.json_tokens.specs.Tokens.{and_then, separator, string}

@@ -1,4 +1,4 @@
-use Rattle.std.proofs.Common.{ℕ, ◌*◌, ◌+◌, ◌-◌, length}
+use Rattle.std.proofs.Common.{◌*◌, ◌+◌, ◌-◌, length}
 use Rattle.json_values.proofs.Ends.{ends, list_end}
 use Rattle.json_values.proofs.Fold.{Left, is-brace, is-bracket}
 use Rattle.json_values.specs.Json.{element, elements, member, members, value}

@@ -1,7 +1,6 @@
 -- `json::past_character` meets its contract: an escape, or a byte that stands for itself.
 -- Assumes nothing.
 use mathlib.Core.Path.{sym, ap, ◌∙◌}
-use mathlib.Core.List.{◌∷◌}
 use Prim.Native.Nat.{◌+◌}
 use Rattle.text.specs.Text.{byte_at}
 use Rattle.json_values.specs.Names.{escape_meaning}

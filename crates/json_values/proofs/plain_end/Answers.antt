@@ -1,7 +1,6 @@
 -- `json::plain_end` meets its contract: wherever the loop stands, what is left of the bytes is to mean what is left of the name.
 -- Assumes nothing.
 use mathlib.Core.Path.{refl, sym, ◌∙◌}
-use Prim.Native.Nat.{◌-◌}
 use native.Mathlib.Omega.{arith}
 use Rattle.text.specs.Text.{byte_at}
 use Rattle.json_values.proofs.Names.{same_stop, same_step, same_over}

@@ -1,5 +1,4 @@
 -- `find` meets its contract: what stands before the byte, from a turn on, gives what it gives from the start.
-use Prim.Native.Nat.{◌-◌}
 use mathlib.Core.Path.{sym, ◌∙◌}
 use native.Mathlib.Omega.{arith}
 use Rattle.lines.proofs.Before.{found, passed, ended}

@@ -22,8 +22,8 @@ loop-k-preserved c =
     let l = c.loop-k in
     let inside : l.k < length s = omega arith in
     elim c.if-s-k.branch [
-      then-s-k w ↦ (omega arith, omega arith, w.found-is ∙ sym (hit s a.at l.k a.b l.invariant.0 inside w.if-s-k.true))
-    | else-s-k w ↦ (omega arith, omega arith, w.found-is ∙ l.invariant.2 ∙ missed s a.at l.k a.b l.invariant.0 inside w.if-s-k.false)
+      | then-s-k w ↦ (omega arith, omega arith, w.found-is ∙ sym (hit s a.at l.k a.b l.invariant.0 inside w.if-s-k.true))
+      | else-s-k w ↦ (omega arith, omega arith, w.found-is ∙ l.invariant.2 ∙ missed s a.at l.k a.b l.invariant.0 inside w.if-s-k.false)
     ]
 
 pub returns : goal.returns

@@ -1,5 +1,5 @@
 -- `move_to_front` meets its contract: at each turn one byte more stands at the front, and those not moved yet stand where they stood.
-use Prim.Native.Nat.{◌-◌, zero-le}
+use Prim.Native.Nat.{zero-le}
 use mathlib.Core.Path.{◌≡◌, refl, ap, ◌∙◌}
 use lib.ListN.{drop, length-set}
 use lib.Seq.{paste, paste-zero}

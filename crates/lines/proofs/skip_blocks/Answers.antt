@@ -1,5 +1,4 @@
 -- `skip_blocks` meets its contract: from a turn on the byte stands where it stands from the start, since no block that is passed has it.
-use Prim.Native.Nat.{◌-◌}
 use mathlib.Core.Path.{refl, sym, ◌∙◌}
 use native.Mathlib.Omega.{arith}
 use borrow.Author.Tests.{ltb-false}

@@ -42,17 +42,17 @@ module _ (c : Joined-outer-eq1) where
   read : Step (text at) at.loop-buffer.parts at.loop-buffer.i c.if-outer-eq1.parts c.if-outer-eq1.past
   read =
       elim c.if-outer-eq1.branch [
-        then-outer-eq1 w ↦ step-one (text at) at.loop-buffer.parts at.loop-buffer.i w.k_object-parts.result w.if-outer-eq1.true (w.k_object-parts.ensures.told ∙ ap (λ x. members_at (text at) x at.loop-buffer.i) w.no_members.ensures) w.parts-is w.past-is
-      | else-outer-eq1+then-outer-eq2 w ↦ step-two (text at) at.loop-buffer.parts at.loop-buffer.i w.k_object-parts-then-outer-eq2.result w.if-outer-eq2.true w.k_object-parts-then-outer-eq2.ensures.told w.parts-is w.past-is
-      | else-outer-eq1+else-outer-eq2 w ↦ step_other (text at) at.loop-buffer.parts at.loop-buffer.i w.if-outer-eq1.false w.if-outer-eq2.false w.item_end.result w.item_end.ensures w.parts-is w.past-is
+        | then-outer-eq1 w ↦ step-one (text at) at.loop-buffer.parts at.loop-buffer.i w.k_object-parts.result w.if-outer-eq1.true (w.k_object-parts.ensures.told ∙ ap (λ x. members_at (text at) x at.loop-buffer.i) w.no_members.ensures) w.parts-is w.past-is
+        | else-outer-eq1+then-outer-eq2 w ↦ step-two (text at) at.loop-buffer.parts at.loop-buffer.i w.k_object-parts-then-outer-eq2.result w.if-outer-eq2.true w.k_object-parts-then-outer-eq2.ensures.told w.parts-is w.past-is
+        | else-outer-eq1+else-outer-eq2 w ↦ step_other (text at) at.loop-buffer.parts at.loop-buffer.i w.if-outer-eq1.false w.if-outer-eq2.false w.item_end.result w.item_end.ensures w.parts-is w.past-is
       ]
 
   moved : Moved (text at) at.loop-buffer.parts at.loop-buffer.i at.loop-buffer.buffer c.if-outer-eq1.buffer c.if-outer-eq1.parts c.if-outer-eq1.past
   moved =
       elim c.if-outer-eq1.branch [
-        then-outer-eq1 w ↦ moved-one (text at) at.loop-buffer.parts at.loop-buffer.i at.loop-buffer.buffer c.if-outer-eq1.buffer c.if-outer-eq1.parts c.if-outer-eq1.past w.no_members.result _ w.k_object-parts.result w.if-outer-eq1.true w.no_members.ensures w.k_object-parts.ensures w.buffer-is w.parts-is w.past-is
-      | else-outer-eq1+then-outer-eq2 w ↦ moved-two (text at) at.loop-buffer.parts at.loop-buffer.i at.loop-buffer.buffer c.if-outer-eq1.buffer c.if-outer-eq1.parts c.if-outer-eq1.past (no_members 0) _ w.k_object-parts-then-outer-eq2.result w.if-outer-eq2.true w.k_object-parts-then-outer-eq2.ensures w.buffer-is w.parts-is
-      | else-outer-eq1+else-outer-eq2 w ↦ moved_other (text at) at.loop-buffer.parts at.loop-buffer.i at.loop-buffer.buffer c.if-outer-eq1.buffer c.if-outer-eq1.parts c.if-outer-eq1.past (no_members 0) [] (no_members 0) w.if-outer-eq1.false w.if-outer-eq2.false at.loop-buffer.invariant.room w.buffer-is
+        | then-outer-eq1 w ↦ moved-one (text at) at.loop-buffer.parts at.loop-buffer.i at.loop-buffer.buffer c.if-outer-eq1.buffer c.if-outer-eq1.parts c.if-outer-eq1.past w.no_members.result _ w.k_object-parts.result w.if-outer-eq1.true w.no_members.ensures w.k_object-parts.ensures w.buffer-is w.parts-is w.past-is
+        | else-outer-eq1+then-outer-eq2 w ↦ moved-two (text at) at.loop-buffer.parts at.loop-buffer.i at.loop-buffer.buffer c.if-outer-eq1.buffer c.if-outer-eq1.parts c.if-outer-eq1.past (no_members 0) _ w.k_object-parts-then-outer-eq2.result w.if-outer-eq2.true w.k_object-parts-then-outer-eq2.ensures w.buffer-is w.parts-is
+        | else-outer-eq1+else-outer-eq2 w ↦ moved_other (text at) at.loop-buffer.parts at.loop-buffer.i at.loop-buffer.buffer c.if-outer-eq1.buffer c.if-outer-eq1.parts c.if-outer-eq1.past (no_members 0) [] (no_members 0) w.if-outer-eq1.false w.if-outer-eq2.false at.loop-buffer.invariant.room w.buffer-is
       ]
 
   stands : (c.if-outer-eq1.past ≡ 0 → ⊥) → Stands (element (value 15 (text at))) (text at) at.loop-buffer.i (record { from = at.loop-buffer.i; to = c.if-outer-eq1.past }) c.if-outer-eq1.past

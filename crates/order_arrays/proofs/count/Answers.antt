@@ -29,7 +29,7 @@ returns c =
     let a = c.args in
     let t = a.before in
     let one : c.match-side.tally ≡ more t a.side = elim c.match-side.branch [
-      in-Bids w ↦ w.tally-is ∙ one-bid t ∙ ap (more t) (sym w.in-Bids.is)
-    | in-Asks w ↦ w.tally-is ∙ one-ask t ∙ ap (more t) (sym w.in-Asks.is)
+      | in-Bids w ↦ w.tally-is ∙ one-bid t ∙ ap (more t) (sym w.in-Bids.is)
+      | in-Asks w ↦ w.tally-is ∙ one-ask t ∙ ap (more t) (sym w.in-Asks.is)
     ] in
     rw (one, c.or_else.ensures, c.or_else-2.ensures, c.both.ensures) refl

@@ -1,6 +1,5 @@
 use Prim.Native.Nat.{◌+◌}
 use mathlib.Core.Path.{◌≡◌}
-use mathlib.Core.List.{◌∷◌}
 use lib.ListN.{length}
 use Rattle.decimal.specs.Tail.{remaining}
 use Rattle.piece.proofs.Sums.{ahead}

@@ -1,5 +1,5 @@
 -- `are_name_bytes` meets its contract: what is left of the bytes is good as all of them are.
-use Prim.Native.Nat.{◌-◌, zero-le}
+use Prim.Native.Nat.{zero-le}
 use mathlib.Core.Path.{refl, sym, ◌∙◌}
 use native.Mathlib.Omega.{arith}
 use Rattle.settings.proofs.Good.{byte-passes, byte-fails, bytes-done}

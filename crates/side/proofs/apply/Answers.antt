@@ -250,12 +250,12 @@ behind-all c =
     let p = c.find in
     let out : p.high ≤ p.low = c.find-test.false in
     elim c.if-low-count.branch [
-      then-low-count+else-is_equal w ↦
-        let lt : p.low < length (S v) = omega (arith, side-long v, w.if-low-count.true) in
-        past level_price (s v).args.side (S v) (P v) (E v).entry.invariant.sorted p.low no_level lt
-        (bracket-head level_price (s v).args.side (S v) (P v) p.low p.high no_level p.invariant.0 out lt)
-        (other_at (A v) (N v) p.low w.if-low-count.true w.price_of-then-low-count.result (price v) w.compare-then-low-count.result w.price_of-then-low-count.ensures w.compare-then-low-count.ensures w.is_equal.result w.is_equal.ensures w.if-is_equal.false)
-    | else-low-count w ↦ past-none level_price (s v).args.side (S v) (P v) p.low (omega (arith, side-long v, w.if-low-count.false))
+      | then-low-count+else-is_equal w ↦
+          let lt : p.low < length (S v) = omega (arith, side-long v, w.if-low-count.true) in
+          past level_price (s v).args.side (S v) (P v) (E v).entry.invariant.sorted p.low no_level lt
+          (bracket-head level_price (s v).args.side (S v) (P v) p.low p.high no_level p.invariant.0 out lt)
+          (other_at (A v) (N v) p.low w.if-low-count.true w.price_of-then-low-count.result (price v) w.compare-then-low-count.result w.price_of-then-low-count.ensures w.compare-then-low-count.ensures w.is_equal.result w.is_equal.ensures w.if-is_equal.false)
+      | else-low-count w ↦ past-none level_price (s v).args.side (S v) (P v) p.low (omega (arith, side-long v, w.if-low-count.false))
     ]
 
 -- the cut: no more than depth, and no more than there is
@@ -267,14 +267,14 @@ cut-eq c =
     let n = E.entry.count in
     let l : n ≤ length E.entry.levels = omega (arith, E.entry.invariant.long, E.entry.invariant.fits) in
     elim c.if-depth-left.branch [
-      then-depth-left w ↦
-        let h : d < n = w.if-depth-left.true in
-        let e : c.if-depth-left.left ≡ d = w.left-is in
-        (ap (λ (i : ℕ). take i E.entry.levels) e ∙ cut_short E.entry.levels n d (omega arith), omega arith)
-    | else-depth-left w ↦
-        let h : n ≤ d = w.if-depth-left.false in
-        let e : c.if-depth-left.left ≡ n = w.left-is in
-        (ap (λ (i : ℕ). take i E.entry.levels) e ∙ cut-whole E.entry.levels n d l h, omega arith)
+      | then-depth-left w ↦
+          let h : d < n = w.if-depth-left.true in
+          let e : c.if-depth-left.left ≡ d = w.left-is in
+          (ap (λ (i : ℕ). take i E.entry.levels) e ∙ cut_short E.entry.levels n d (omega arith), omega arith)
+      | else-depth-left w ↦
+          let h : n ≤ d = w.if-depth-left.false in
+          let e : c.if-depth-left.left ≡ n = w.left-is in
+          (ap (λ (i : ℕ). take i E.entry.levels) e ∙ cut-whole E.entry.levels n d l h, omega arith)
     ]
 
 pub load-init : goal.load-init

@@ -1,4 +1,4 @@
-use Prim.Native.Nat.{◌*◌, ◌-◌}
+use Prim.Native.Nat.{◌*◌}
 use mathlib.Core.Path.{◌≡◌}
 use Rattle.crc32_spec.specs.Crc.{bits}
 use Rattle.crc32.proofs.lookup.shift.Given as goal

@@ -1,6 +1,5 @@
 -- `crc32::text::run` meets its contract: a turn takes eight bytes in, and the state after the rest stays the same.
 -- Assumes nothing.
-use Prim.Native.Nat.{◌-◌}
 use mathlib.Core.Path.{refl, ◌∙◌}
 use native.Mathlib.Omega.{arith}
 use Rattle.crc32.proofs.Texts.{eight-absorbed}

@@ -1,6 +1,6 @@
 -- `crc32::table::fill_table` meets its contract: a turn makes one entry more right.
 -- Assumes nothing.
-use Prim.Native.Nat.{◌-◌, ◌<◌}
+use Prim.Native.Nat.{◌<◌}
 use native.Mathlib.Omega.{arith}
 use lib.ListN.{length, length-set}
 use mathlib.Core.Path.{refl, ◌∙◌}

@@ -1,4 +1,4 @@
-use Rattle.std.proofs.Common.{◌≡◌, ◌-◌, ◌≤◌, ◌∷◌, length}
+use Rattle.std.proofs.Common.{◌≡◌, ◌-◌, ◌≤◌, length}
 use Rattle.decimal.specs.Buffer.{overlaid}
 use Rattle.decimal.specs.Tail.{remaining}
 use Rattle.decimal.proofs.writing.fill.Given as goal

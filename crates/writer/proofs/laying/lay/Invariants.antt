@@ -1,6 +1,5 @@
 use Prim.Native.Nat.{◌-◌, ◌≤◌}
 use mathlib.Core.Path.{◌≡◌}
-use mathlib.Core.List.{◌∷◌}
 use lib.ListN.{length, drop}
 use Rattle.writer.proofs.Owed.{Whole}
 use Rattle.writer.proofs.laying.lay.Given as goal

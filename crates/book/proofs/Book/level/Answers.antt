@@ -1,0 +1,19 @@
+-- `level` meets its contract: by whether the question is answered, and the level is there.
+use Rattle.book.proofs.Asking.{level-here, level-none, level-no}
+use mathlib.Core.Path.{sym, ◌∙◌}
+use Rattle.book.proofs.Book.level.Goals as goal
+
+pub returns-in-At : goal.returns-in-At
+returns-in-At c =
+    let a = c.args in
+    level-here a.self a.scope a.side a.i (sym c.stands.ensures ∙ c.if-stands.true) c.in-At.level (sym c.level_in.ensures ∙ c.in-At.is) c.price_of.result c.size_of.result c.price_of.ensures c.size_of.ensures
+
+pub returns-in-Nothing : goal.returns-in-Nothing
+returns-in-Nothing c =
+    let a = c.args in
+    level-none a.self a.scope a.side a.i (sym c.stands.ensures ∙ c.if-stands.true) (sym c.level_in.ensures ∙ c.in-Nothing.is) c.no_level.ensures
+
+pub returns : goal.returns
+returns c =
+    let a = c.args in
+    level-no a.self a.scope a.side a.i (sym c.stands.ensures ∙ c.if-stands.false) c.refusal.result c.refusal.ensures c.no_level-2.ensures

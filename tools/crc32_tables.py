@@ -123,7 +123,7 @@ def move_proof(crate, t):
     return f"""-- `{crate}::moved{t}` meets its contract: a turn looks four bits up, and what is looked up and what is left sum up to the same.
 -- Written by tools/crc32_tables.py. Assumes nothing.
 use mathlib.Core.Path.{{◌∙◌}}
-use Prim.Native.Nat.{{◌+◌, ◌-◌}}
+use Prim.Native.Nat.{{◌+◌}}
 use native.Mathlib.Omega.{{arith}}
 use Rattle.crc32_spec.proofs.Rows.{{all_left, looked-up, none_left}}
 use Rattle.{crate}.proofs.moved{t}.Goals as goal

@@ -54,6 +54,10 @@ pub record Answered (p : Reference) (ask : Ask) (before after : List ℕ) (r : R
   pub words : words_in r ≡ reply_words (does p ask before)
   pub buffer : after ≡ (does p ask before).buffer
 
+-- The same of a call that leaves the lent buffer as it is, whatever that holds.
+abbrev pub AnsweredAlone : Reference → Ask → Replied → Type 0
+AnsweredAlone p ask r = (buffer : List ℕ) → Answered p ask buffer buffer r
+
 -- The same, in the call's part of `out`: the lent buffer stands behind the words.
 pub record Called (p : Reference) (ask : Ask) (before after : List ℕ) (r : Book) : Type 0 where
   pub good : Good r

@@ -3,7 +3,8 @@ ghost use Rattle.std.specs.Prelude.{◌≡◌, ◌≤◌, length};
 ghost use Rattle.writer.specs.Parts.{Put};
 ghost use Rattle.book.specs.Shown.{shows, Good};
 ghost use Rattle.replay.specs.Format.{ask_of, scope_of, side_of, words_length, words_of};
-ghost use Rattle.replay.specs.Calls.{HasHeader, Answered, words_in, step_replied, counts_replied, level_replied, number_replied};
+ghost use Rattle.reference.specs.Reference.{message, question, how_many, level_at, which_number, how_many_updates, write};
+ghost use Rattle.replay.specs.Calls.{HasHeader, Answered, AnsweredAlone, words_in, step_replied, counts_replied, level_replied, number_replied};
 
 use crate::words::{HEADER, INDEX, OPCODE, SCOPE, SIDE, lay_word};
 use answer::number_of;
@@ -25,30 +26,79 @@ pub struct Replied {
     pub sixth: u64,
 }
 
-// Makes the call that a header asks for.
-pub fn answer(book: Book, call: &[u8], buffer: &mut [u8]) -> Replied
-    requires { (Good book) × (HasHeader call.now) }
-    ensures { Answered (shows book) (ask_of call.now) buffer.old buffer.new result }
+// Makes the call that a header asks for. Each kind of call is a function of its own, which is lent the book: the copies that it makes of the book
+// then share one place on the stack.
+pub fn answer(book: &Book, call: &[u8], buffer: &mut [u8]) -> Replied
+    requires { (Good book.now) × (HasHeader call.now) }
+    ensures { Answered (shows book.now) (ask_of call.now) buffer.old buffer.new result }
 {
     let opcode = word_at(call, OPCODE);
     if opcode == 0 {
-        return step_replied(book.take(&call[HEADER..]));
+        return take(book, &call[HEADER..]);
     }
     let scope = scope_of(word_at(call, SCOPE));
     if opcode == 1 {
-        return counts_replied(book.counts(scope));
+        return counts(book, scope);
     }
     if opcode == 2 {
         let side = side_of(word_at(call, SIDE));
         let i = word_at(call, INDEX) as usize;
-        return level_replied(book.level(scope, side, i));
+        return level(book, scope, side, i);
     }
     if opcode == 3 {
-        return number_replied(book.number(scope));
+        return number(book, scope);
     }
     if opcode == 4 {
-        return number_replied(book.updates(scope));
+        return updates(book, scope);
     }
+    write(book, buffer)
+}
+
+#[inline(never)]
+fn take(book: &Book, s: &[u8]) -> Replied
+    requires { Good book.now }
+    ensures { AnsweredAlone (shows book.now) (message s.now) result }
+{
+    step_replied(book.take(s))
+}
+
+#[inline(never)]
+fn counts(book: &Book, scope: Scope) -> Replied
+    requires { Good book.now }
+    ensures { AnsweredAlone (shows book.now) (question (how_many scope)) result }
+{
+    counts_replied(book.counts(scope))
+}
+
+#[inline(never)]
+fn level(book: &Book, scope: Scope, side: Side, i: usize) -> Replied
+    requires { Good book.now }
+    ensures { AnsweredAlone (shows book.now) (question (level_at scope side i)) result }
+{
+    level_replied(book.level(scope, side, i))
+}
+
+#[inline(never)]
+fn number(book: &Book, scope: Scope) -> Replied
+    requires { Good book.now }
+    ensures { AnsweredAlone (shows book.now) (question (which_number scope)) result }
+{
+    number_replied(book.number(scope))
+}
+
+#[inline(never)]
+fn updates(book: &Book, scope: Scope) -> Replied
+    requires { Good book.now }
+    ensures { AnsweredAlone (shows book.now) (question (how_many_updates scope)) result }
+{
+    number_replied(book.updates(scope))
+}
+
+#[inline(never)]
+fn write(book: &Book, buffer: &mut [u8]) -> Replied
+    requires { Good book.now }
+    ensures { Answered (shows book.now) (question write) buffer.old buffer.new result }
+{
     number_replied(book.write(buffer))
 }
 

@@ -34,9 +34,7 @@ pub fn replay(dialect: Dialect, depth: usize, name: &[u8], script: &[u8], out: &
         let room = out.len() - done;
         let next = at + call_length(&script[at..], room);
         let end = done + reply_length(&script[at..], room);
-        let before = book;
-        let after = call(before, &script[at..next], &mut out[done..end]);
-        book = after;
+        call(&mut book, &script[at..next], &mut out[done..end]);
         at = next;
         done = end;
         calls += 1;
@@ -44,14 +42,14 @@ pub fn replay(dialect: Dialect, depth: usize, name: &[u8], script: &[u8], out: &
     calls
 }
 
-// Makes one call: its reply in its part of `out`, of which the lent buffer stands behind the words.
-fn call(book: Book, call: &[u8], part: &mut [u8]) -> Book
-    requires { (Good book) × (HasHeader call.now) × (words_length ≤ length part.old) }
-    ensures { Called (shows book) (ask_of call.now) part.old part.new result }
+// Makes one call on the book: its reply in its part of `out`, of which the lent buffer stands behind the words.
+fn call(book: &mut Book, call: &[u8], part: &mut [u8])
+    requires { (Good book.old) × (HasHeader call.now) × (words_length ≤ length part.old) }
+    ensures { Called (shows book.old) (ask_of call.now) part.old part.new book.new }
 {
     let reply = answer(book, call, &mut part[REPLY_WORDS..]);
     lay_reply(reply, part);
-    reply.book
+    *book = reply.book;
 }
 
 // The same with settings as text, as the line program's first line has them: dialect, depth and name, one blank between. C and Rust call it by `replay_c`.

@@ -63,8 +63,8 @@ slice_bounds-call-end-in-loop-book c =
     let k = reply-within c.loop-book.invariant (rw (rest-is c.args.script.now c.loop-book.at) at (sym c.is_whole.ensures ∙ c.loop-book-test.true)) (rw (rest-is c.args.script.now c.loop-book.at) at c.call_length.ensures) (rw (rest-is c.args.script.now c.loop-book.at) at c.reply_length.ensures) in
     omega arith
 
-pub call-after-requires : goal.call-after-requires
-call-after-requires c = call-ready c.loop-book.invariant (rw (rest-is c.args.script.now c.loop-book.at) at (sym c.is_whole.ensures ∙ c.loop-book-test.true)) (rw (rest-is c.args.script.now c.loop-book.at) at c.call_length.ensures) (rw (rest-is c.args.script.now c.loop-book.at) at c.reply_length.ensures)
+pub call-requires : goal.call-requires
+call-requires c = call-ready c.loop-book.invariant (rw (rest-is c.args.script.now c.loop-book.at) at (sym c.is_whole.ensures ∙ c.loop-book-test.true)) (rw (rest-is c.args.script.now c.loop-book.at) at c.call_length.ensures) (rw (rest-is c.args.script.now c.loop-book.at) at c.reply_length.ensures)
 
 pub overflow_add-calls : goal.overflow_add-calls
 overflow_add-calls c =
@@ -79,7 +79,7 @@ loop-book-smaller c =
     omega arith
 
 pub loop-book-preserved : goal.loop-book-preserved
-loop-book-preserved c = going_more c.loop-book.invariant (rw (rest-is c.args.script.now c.loop-book.at) at (sym c.is_whole.ensures ∙ c.loop-book-test.true)) (rw (rest-is c.args.script.now c.loop-book.at) at c.call_length.ensures) (rw (rest-is c.args.script.now c.loop-book.at) at c.reply_length.ensures) c.call-after.result c.call-after.new.part c.call-after.auto.part c.call-after.ensures
+loop-book-preserved c = going_more c.loop-book.invariant (rw (rest-is c.args.script.now c.loop-book.at) at (sym c.is_whole.ensures ∙ c.loop-book-test.true)) (rw (rest-is c.args.script.now c.loop-book.at) at c.call_length.ensures) (rw (rest-is c.args.script.now c.loop-book.at) at c.reply_length.ensures) c.call.new.book c.call.new.part c.call.auto.part c.call.ensures
 
 pub returns : goal.returns
 returns c = stop c.loop-book.invariant _ c.open-book.ensures.same (rw (rest-is c.args.script.now c.loop-book.at) at (sym c.is_whole.ensures ∙ c.loop-book-test.false))

@@ -12,12 +12,11 @@ use Rattle.lifecycle.specs.Lifecycle.{status_of, first_state, answers, refusal_o
 use Rattle.level.proofs.Held.{held-length}
 use Rattle.decimal.specs.Decimal.{Number, number}
 use Rattle.decimal.specs.declared.Decimal.{Decimal}
-use Rattle.settings.specs.Settings.{Config, good, good_depth, good_name, kept, shut}
+use Rattle.settings.specs.Settings.{Config, good, good_depth, kept, shut}
 use Rattle.settings.specs.Kept.{config_of, Chosen}
 use Rattle.settings.specs.declared.Settings.{Settings}
 use Rattle.settings.specs.declared.Dialect.{Dialect}
 use Rattle.settings.specs.declared.Dialect.TheVariants.{K, M, Unknown}
-use Rattle.edit.specs.Edit.{PriceLevel}
 use Rattle.level.specs.Words.{level_price, level_size, shown}
 use Rattle.level.specs.Kept as kept·
 use Rattle.level.specs.Kept.{held, Empty}
@@ -26,9 +25,7 @@ use Rattle.edit.specs.declared.Side.{Side}
 use Rattle.edit.specs.declared.Side.TheVariants.{Bids, Asks}
 use Rattle.level.specs.declared.Level.{Level}
 use Rattle.level.specs.declared.Levels.{Levels}
-use Rattle.level.specs.declared.MaybeLevel.{MaybeLevel}
 use Rattle.level.specs.declared.MaybeLevel.TheVariants.{At, Nothing}
-use Rattle.sides.specs.Worked.{Sound}
 use Rattle.answer.specs.Answers.{answer_number as number_of, is_taken}
 use Rattle.answer.specs.declared.Answer.{Answer}
 use Rattle.answer.specs.declared.Answer.TheVariants.{Taken, Shut, NoSnapshot, NoLevel}

@@ -2,7 +2,7 @@
 -- Assumes nothing.
 use mathlib.Core.Path.{◌≡◌, refl, sym, ap, ap₂, ◌∙◌, subst}
 use mathlib.Core.List.{List, [], ◌∷◌, map, ◌++◌}
-use mathlib.Core.Bool.{Bool, true, false, true≢false, ◌&&◌, cond}
+use mathlib.Core.Bool.{Bool, true, false, true≢false, cond}
 use Prim.Native.Nat.{ℕ, ◌≤◌, ◌<◌, ◌+◌, ◌^◌}
 use native.Mathlib.Omega.{arith}
 use lib.ListN.{length, take, length-map}
@@ -26,7 +26,7 @@ use Rattle.layout.specs.Layout.{is_snapshot, Printed, printed, unprinted, Layout
 use Rattle.layout.specs.Scan.{is_printed, sum_of, outline_of}
 use Rattle.layout.specs.declared.Kind.{Kind}
 use Rattle.layout.specs.declared.Outline.{Outline}
-use Rattle.message.specs.Meaning.{SidedEdit, sided_edit, Message, passes, bad, entries_for, checked, message_of}
+use Rattle.message.specs.Meaning.{SidedEdit, sided_edit, passes, bad, entries_for, checked, message_of}
 use Rattle.message.proofs.Deciding.{outline-bids, outline-asks, outline-printed, outline-checksum, outline-number, outline-previous}
 use Rattle.layout.proofs.Laws.{outline-kind}
 use Rattle.message.proofs.Entering.{also-framed, framed-few}

@@ -4,11 +4,8 @@ use mathlib.Core.Path.{◌≡◌, refl, sym, ap, ◌∙◌, subst}
 use mathlib.Core.Bool.{Bool, true, false}
 use mathlib.Core.List.{List}
 use Rattle.settings.specs.Kept.{config_of}
-use Rattle.layout.specs.Layout.{Layout}
 use Rattle.message.specs.Meaning.{Checked, fails, passes, checked, Message}
 use Rattle.message.specs.Verdict.{verdict_of}
-use Rattle.decimal.specs.Digits.{reads}
-use Rattle.layout.specs.Scan.{outline_of}
 use Rattle.message.specs.declared.Verdict.{Verdict}
 use Rattle.message.specs.declared.Verdict.TheVariants.{Fails, Passes}
 use Rattle.reference.specs.Reference.{is_shut, verdict, answered}

@@ -2,11 +2,11 @@
 -- Assumes nothing.
 use mathlib.Core.Path.{◌≡◌, refl, sym, ap, ◌∙◌, subst}
 use mathlib.Core.List.{List, map}
-use mathlib.Core.Bool.{Bool, true, false, true≢false, ◌&&◌, ◌||◌, not, cond}
+use mathlib.Core.Bool.{Bool, true, false, ◌&&◌, ◌||◌, not, cond}
 use Prim.Native.Nat.{ℕ}
 use native.Mathlib.Omega.{arith}
 use lib.Dec.{eqb, leb}
-use Rattle.lifecycle.specs.Lifecycle.{status_of, refused_lifecycle, judged_update, judged_sides}
+use Rattle.lifecycle.specs.Lifecycle.{status_of, refused_lifecycle, judged_sides}
 use Rattle.settings.specs.declared.Dialect.{Dialect}
 use Rattle.layout.specs.Layout.{is_snapshot, Printed, printed, unprinted, Layout}
 use Rattle.layout.specs.Scan.{is_printed, sum_of}
@@ -20,11 +20,10 @@ use Rattle.message.specs.declared.Verdict.TheVariants.{Fails, Passes}
 use Rattle.layout.specs.declared.Outline.{Outline}
 use Rattle.layout.specs.Scan.{outline_of}
 use Rattle.decimal.specs.Digits.{reads}
-use Rattle.reference.specs.Reference.{waiting, is_shut, is_live, Reference, rules, checksum_of, names_price_twice, lacks_snapshot, is_old, has_too_many, has_crossed, differs, has_wrong_checksum, verdict, After, taken, taken_by, with_status, refused_by, answered, received, receive}
+use Rattle.reference.specs.Reference.{waiting, is_shut, is_live, Reference, rules, checksum_of, names_price_twice, lacks_snapshot, is_old, has_too_many, has_crossed, differs, has_wrong_checksum, verdict, After, taken_by, with_status, refused_by, answered, received, receive}
 use Rattle.settings.specs.Rules.{rules_of}
 use Rattle.book.specs.Shown.{shows, Good, Received}
 use Rattle.book.specs.Taking.{refused_step, judged_checksum, weighed}
-use Rattle.lifecycle.specs.declared.State.{State}
 use Rattle.lifecycle.specs.declared.State.TheVariants.{Waiting}
 use Rattle.level.specs.Words.{level_price, shown}
 use Rattle.level.specs.Side.{crosses}
@@ -32,7 +31,6 @@ use Rattle.level.specs.Kept.{held}
 use Rattle.level.specs.declared.Levels.{Levels}
 use borrow.Author.Tests.{eq-eqb, ne_eqb}
 use Rattle.book.specs.declared.Book.{Book}
-use Rattle.lifecycle.specs.declared.Lifecycle.{Lifecycle}
 use Rattle.book.specs.declared.Step.{Step}
 
 -- ---- a refusal

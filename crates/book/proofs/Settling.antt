@@ -3,10 +3,10 @@
 use mathlib.Core.Path.{◌≡◌, refl, sym, ap, ap₂, ◌∙◌, subst}
 use mathlib.Core.List.{List, [], ◌∷◌, map}
 use mathlib.Core.Bool.{Bool, true, false, true≢false, ◌&&◌, ◌||◌, not, cond}
-use Prim.Native.Nat.{ℕ, ◌+◌, ◌≤◌, ◌<◌, ◌^◌}
+use Prim.Native.Nat.{ℕ, ◌+◌, ◌≤◌}
 use native.Mathlib.Omega.{arith}
 use borrow.Author.Tests.{ltb-false, le-ltb}
-use lib.Dec.{eqb, leb, ltb}
+use lib.Dec.{eqb, ltb}
 use lib.ListN.{length, take, length-take, length-map}
 use Rattle.lifecycle.specs.Lifecycle.{status_of, live_lifecycle, is_old_by, judged_update, judged_sides}
 use Rattle.lifecycle.specs.declared.State.{State}
@@ -21,21 +21,19 @@ use Rattle.settings.specs.declared.SumText.{SumText}
 use Rattle.settings.specs.declared.SumText.TheVariants.{Stripped, Interleaved}
 use Rattle.settings.proofs.Depth.{good-depth, good-rules}
 use Rattle.settings.specs.declared.Dialect.{Dialect}
-use Rattle.settings.specs.declared.Dialect.TheVariants.{K, M}
 use Rattle.edit.specs.Edit.{PriceLevel, shown_price, Edit, sets, removes, Numbers, edit_of, is_same, for_side, side_of}
 use Rattle.edit.specs.declared.Side.{Side}
 use Rattle.edit.specs.declared.Side.TheVariants.{Bids, Asks}
 use Rattle.level.specs.Words.{level_price, shown}
 use Rattle.level.specs.Side.{names_twice, apply_all, ranked, crosses}
 use Rattle.level.specs.Ranked.{All, IsSet, Sorted, after_message, replaced}
-use Rattle.edit.specs.Edit.{named}
 use Rattle.level.specs.Moved.{moved}
 use Rattle.level.specs.Kept.{kept_in, held}
 use Rattle.level.specs.Kept as kept·
 use Rattle.piece.specs.Piece.{k_piece, m_piece}
 use Rattle.checksum.specs.Carried.{Carries}
 use Rattle.level.specs.declared.Levels.{Levels}
-use Rattle.level.proofs.Lengths.{length-ranked, length-apply_all, after_message-whole}
+use Rattle.level.proofs.Lengths.{length-ranked, after_message-whole}
 use Rattle.level.proofs.Mapping.{shown-crosses}
 use Rattle.level.proofs.Meeting.{met-snapshot}
 use Rattle.level.proofs.Moving.{moved-few}
@@ -52,8 +50,8 @@ use Rattle.message.specs.declared.Verdict.{Verdict}
 use Rattle.message.specs.declared.Verdict.TheVariants.{Fails, Passes}
 use Rattle.answer.specs.declared.Answer.TheVariants.{Taken, PriceTwice, NoSnapshot, OldNumber, TooManyLevels, WrongChecksum, Crossed}
 use Rattle.reference.specs.Reference.{live, is_live, Sides, Reference, After, edits_for as editsOf, after_edits, sides_after, levels_moved, prices_of, checksum_of, names_price_twice, lacks_snapshot, is_old, has_too_many, has_crossed, differs, has_wrong_checksum, one_more, taken, taken_by, refused_by, receive}
-use Rattle.book.specs.Shown.{shows, text_of, Good, Received}
-use Rattle.book.specs.Taking.{entries_of, message_in, Passed, after_in, Ready, side_before, refused_step, kept_step, Judged, judged_checksum, weighed}
+use Rattle.book.specs.Shown.{shows, text_of, Received}
+use Rattle.book.specs.Taking.{entries_of, message_in, Passed, after_in, side_before, refused_step, kept_step, Judged, judged_checksum, weighed}
 use Rattle.book.specs.declared.Book.{Book}
 use Rattle.book.specs.declared.Step.{Step}
 use Rattle.book.proofs.Refusing.{refused-told, told-as, nine, ten, eleven, twelve, sixteen, thirteen, none-fits, snapshot-not-old, snapshot-lacks-none, update-names-once, update-lacks, update-old}

@@ -1,8 +1,8 @@
 -- The writer: the text that is laid into the buffer is the snapshot of the reference book.
 -- Assumes nothing.
-use mathlib.Core.Path.{◌≡◌, refl, sym, ap, ◌∙◌, subst}
+use mathlib.Core.Path.{◌≡◌, refl, sym, ap, ◌∙◌}
 use mathlib.Core.List.{List, map}
-use mathlib.Core.Bool.{Bool, true, false, true≢false, cond}
+use mathlib.Core.Bool.{Bool, true, false, cond}
 use Prim.Native.Nat.{ℕ, ◌+◌, ◌≤◌}
 use native.Mathlib.Omega.{arith}
 use borrow.Author.Tests.{leb-true, leb-false, le-leb, lt-ltb, le-ltb}
@@ -28,7 +28,7 @@ use Rattle.answer.specs.Answers.{answer_number as number_of, is_taken}
 use Rattle.answer.specs.declared.Answer.{Answer}
 use Rattle.answer.specs.declared.Answer.TheVariants.{Taken, NoRoom}
 use Rattle.writer.specs.Snapshot.{k_snapshot, m_snapshot}
-use Rattle.reference.specs.Reference.{Status, Reference, text_in, snapshot_text, write, amount, zeros, Response, respond, refusal, replied, question, does}
+use Rattle.reference.specs.Reference.{Reference, text_in, snapshot_text, write, amount, zeros, Response, respond, refusal, replied, does}
 use Rattle.book.specs.Shown.{shows, Good, Wrote}
 use Rattle.reference.specs.declared.Scope.TheVariants.{Current}
 use Rattle.book.specs.declared.Book.{Book}

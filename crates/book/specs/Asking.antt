@@ -1,22 +1,13 @@
 -- What the methods of a book ask on their way. Assumes nothing: these are definitions.
-use Rattle.std.specs.Prelude.{ℕ, ◌≡◌, Bool, true, false}
+use Rattle.std.specs.Prelude.{ℕ, ◌≡◌}
 use Rattle.decimal.specs.Decimal.{number}
 use Rattle.decimal.specs.Limits.{no_number}
-use Rattle.settings.specs.declared.Dialect.{Dialect}
-use Rattle.settings.specs.declared.Dialect.TheVariants.{K, M, Unknown}
 use Rattle.level.specs.Kept.{held}
 use Rattle.level.specs.Kept as kept·
 use Rattle.edit.specs.declared.Side.{Side}
 use Rattle.edit.specs.declared.Side.TheVariants.{Bids, Asks}
 use Rattle.level.specs.declared.MaybeLevel.{MaybeLevel}
 use Rattle.answer.specs.declared.Answer.{Answer}
-use Rattle.answer.specs.declared.Answer.TheVariants.{Taken, NoSnapshot}
-use Rattle.answer.specs.declared.Answer.TheVariants as answer·
-use Rattle.reference.specs.Reference.{Status, shut, waiting, live}
-use Rattle.reference.specs.declared.Scope.{Scope}
-use Rattle.reference.specs.declared.Scope.TheVariants.{Current, LastGood}
-use Rattle.lifecycle.specs.declared.State.{State}
-use Rattle.lifecycle.specs.declared.State.TheVariants.{Shut, Waiting, Live}
 use Rattle.book.specs.declared.Book.{Book}
 use Rattle.book.specs.declared.LevelReply.{LevelReply}
 

@@ -1,7 +1,6 @@
 -- The code's book: what it shows, what holds of it, and what each method ensures. Assumes nothing: these are definitions.
-use Rattle.std.specs.Prelude.{ℕ, ◌≤◌, ◌<◌, ◌^◌, ◌≡◌, Bool, true, false, List, map, length}
+use Rattle.std.specs.Prelude.{ℕ, ◌≤◌, ◌<◌, ◌^◌, ◌≡◌, true, false, List, map, length}
 use Rattle.decimal.specs.Decimal.{number}
-use Rattle.decimal.specs.declared.Decimal.{Decimal}
 use Rattle.settings.specs.Settings.{Config, good}
 use Rattle.settings.specs.Kept.{config_of}
 use Rattle.answer.specs.Answers.{is_taken}

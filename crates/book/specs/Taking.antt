@@ -1,5 +1,5 @@
 -- What the functions that take a message give, in terms of the code's book. Assumes nothing: these are definitions.
-use Rattle.std.specs.Prelude.{ℕ, ◌+◌, ◌≤◌, ◌<◌, ◌^◌, ◌≡◌, Bool, true, false, ◌&&◌, ◌||◌, not, cond, List, map, eqb, ltb, length, take}
+use Rattle.std.specs.Prelude.{ℕ, ◌+◌, ◌<◌, ◌^◌, ◌≡◌, Bool, true, false, ◌&&◌, ◌||◌, not, cond, List, map, eqb, ltb, length, take}
 use Rattle.lifecycle.specs.Lifecycle.{status_of, live_lifecycle, refused_lifecycle, judged_update, judged_sides}
 use Rattle.answer.specs.Answers.{is_taken}
 use Rattle.decimal.specs.Decimal.{is_zero}

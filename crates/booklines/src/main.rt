@@ -7,112 +7,108 @@
 
 mod streams;
 
-ghost use Rattle.std.specs.Prelude.{◌≡◌, ◌+◌, ◌<◌, ◌≤◌, false, length};
+ghost use Rattle.std.specs.Prelude.{◌+◌, ◌<◌, ◌≤◌, length, OnOk};
 ghost use Rattle.crc32.specs.Table.{ShiftTable};
 ghost use Rattle.feed.specs.Feed.{carried, max_reply};
 ghost use Rattle.feed.specs.Stream.{Holds};
 
 use crc32::{SHIFT_TABLE, fill_table};
 use feed::Stream;
-use libc::{STDIN_FILENO, STDOUT_FILENO};
-use streams::Sink;
+use std::io;
+use std::io::ErrorKind;
+use streams::{Failure, Sink, Source};
 
 const INPUT: usize = 65536;
 
 const OUTPUT: usize = 16384;
 
-fn main() {
+fn main(rt: HostRuntime) {
     let mut input = [0; INPUT];
     let mut output = [0; OUTPUT];
     let mut table = [0; SHIFT_TABLE];
     fill_table(&mut table);
-    run(&mut input, &mut output, &table);
+    let mut sink = Sink::new(rt.stdout());
+    if let Err(failure) = run(&rt, &mut input, &mut output, &table, &mut sink) {
+        // Where standard error takes nothing either, there is nowhere left to say it.
+        let _ = streams::fail(&rt, failure, sink.answered());
+    }
 }
 
-// A feed after a block, and standard output.
+// A feed after a block, and whether its replies were written.
 #[derive(Clone, Copy)]
 struct Served {
     stream: Stream,
-    sink: Sink,
+    written: io::Result<()>,
 }
 
 // Serves block after block until the input ends, or reading or writing fails.
-fn run(input: &mut [u8], output: &mut [u8], table: &[u32])
+fn run(
+    rt: &HostRuntime,
+    input: &mut [u8],
+    output: &mut [u8],
+    table: &[u32],
+    sink: &mut Sink,
+) -> Result<(), Failure>
     requires { (carried < length input.old) × (max_reply ≤ length output.old) × ShiftTable table.now }
 {
     let mut stream = feed::start();
-    let mut sink = streams::standard_output();
-    let mut source = STDIN_FILENO;
-    let mut turns = u64::MAX;
-    while turns > 0 {
-        turns -= 1;
-        let block = streams::read_block(source, input, stream.to);
-        if block.failed {
-            streams::fail(b"; reading standard input failed", sink.answered);
-            return;
-        }
-        source = block.fd;
-        let got = block.count;
+    let mut source = Source::new(rt.stdin());
+    for _ in 0..u64::MAX {
+        let got = source
+            .read_block(rt, input, stream.to)
+            .map_err(Failure::Reading)?;
         if got == 0 {
-            finish(stream, input, output, table, sink);
-            return;
+            return finish(rt, stream, input, output, table, sink).map_err(Failure::Writing);
         }
-        let served = serve(stream, input, got, output, table, sink);
-        let after = served.stream;
-        let written = served.sink;
-        if written.failed {
-            streams::fail(b"; writing standard output failed", written.answered);
-            return;
-        }
-        stream = after;
-        sink = written;
+        let served = serve(rt, stream, input, got, output, table, sink);
+        served.written.map_err(Failure::Writing)?;
+        stream = served.stream;
     }
+    Ok(())
 }
 
 // Writes the replies to the lines that end in what was read.
 fn serve(
+    rt: &HostRuntime,
     opened: Stream,
     input: &mut [u8],
     got: usize,
     output: &mut [u8],
     table: &[u32],
-    before: Sink,
+    sink: &mut Sink,
 ) -> Served
     requires { Holds opened input.old × (opened.to + got ≤ length input.old) × ShiftTable table.now }
-    ensures { Holds result.stream input.new × (result.sink.failed ≡ false → result.stream.to ≤ carried) }
+    ensures { Holds result.stream input.new × OnOk result.written (result.stream.to ≤ carried) }
 {
     let mut stream = opened;
-    let mut sink = before;
     let mut fresh = got;
-    let mut turns = u64::MAX;
-    while turns > 0 {
-        turns -= 1;
+    for _ in 0..u64::MAX {
         let block = feed::answer(stream, input, fresh, table, output);
-        let written = block.written;
-        let after = block.stream;
-        stream = after;
+        let laid = block.written;
+        stream = block.stream;
         fresh = 0;
-        sink = streams::write_all(sink, &output[..written]);
-        if sink.failed {
-            return Served { stream, sink };
-        }
-        if !block.more {
-            return Served { stream, sink };
+        let written = sink.write_all(rt, &output[..laid]);
+        if written.is_err() || !block.more {
+            return Served { stream, written };
         }
     }
     Served {
         stream,
-        sink: sink.stopped(),
+        written: Err(io::Error::from(ErrorKind::Interrupted)),
     }
 }
 
 // Writes the reply to a last line that has no line end.
-fn finish(stream: Stream, input: &mut [u8], output: &mut [u8], table: &[u32], sink: Sink)
+fn finish(
+    rt: &HostRuntime,
+    stream: Stream,
+    input: &mut [u8],
+    output: &mut [u8],
+    table: &[u32],
+    sink: &mut Sink,
+) -> io::Result<()>
     requires { Holds stream input.old × (stream.to < length input.old) × (max_reply ≤ length output.old) × ShiftTable table.now }
 {
     let written = feed::finish(stream, input, table, output);
-    let after = streams::write_all(sink, &output[..written]);
-    if after.failed {
-        streams::fail(b"; writing standard output failed", after.answered);
-    }
+    sink.write_all(rt, &output[..written])
 }

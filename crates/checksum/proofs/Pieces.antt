@@ -1,12 +1,12 @@
 -- Laws of the state after the pieces of levels: it is that of their joined text, and the text of a book is such a joined text. Assumes nothing.
 use mathlib.Core.Path.{◌≡◌, refl, sym, ap, ap₂, ◌∙◌, subst}
 use mathlib.Core.Logic.{◌⊎◌, ⊎_elim}
-use mathlib.Core.List.{List, [], ◌∷◌, ◌++◌, map, append_assoc, append-nil}
-use Prim.Native.Nat.{ℕ, zero, suc, ◌+◌, ◌-◌, ◌*◌, ◌^◌, ◌≤◌, ◌<◌, min, zero-le}
-use native.Mathlib.Nat.{mul-add, add_comm, le_of_suc-le-suc, not-suc-le-zero, zero-lt-suc}
+use mathlib.Core.List.{List, [], ◌∷◌, ◌++◌, map, append-nil}
+use Prim.Native.Nat.{ℕ, zero, suc, ◌+◌, ◌-◌, ◌*◌, ◌^◌, ◌≤◌, ◌<◌, min}
+use native.Mathlib.Nat.{mul-add, le_of_suc-le-suc, not-suc-le-zero, zero-lt-suc}
 use native.Mathlib.Omega.{arith}
 use native.Mathlib.Numerals.{add-one}
-use lib.Bits.{bit_xor, xor_comm}
+use lib.Bits.{bit_xor}
 use lib.ListN.{length, get_or, take, drop, length-map, length-append, drop_of_length-le}
 use lib.Seq.{take-nil, take-take, drop-cons, get_or-take, length-take-le}
 use Rattle.decimal.specs.Decimal.{Number, text, stripped}

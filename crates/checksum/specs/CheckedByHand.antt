@@ -1,8 +1,8 @@
 -- Document 01's cases under "Checked by hand" that are to be proved, with document 02's of twelve decimals, as one table under one statement. Assumes nothing.
-use Rattle.std.specs.Prelude.{ℕ, ◌≡◌, refl, List, [], ◌∷◌, map}
+use Rattle.std.specs.Prelude.{ℕ, ◌≡◌, refl, List, [], ◌∷◌}
 use Prim.Native.String.{String}
 use Rattle.text.specs.Text.{ascii, is_digit, joined}
-use Rattle.decimal.specs.Digits.{Reading, reads, refused, leading, value_from, fixed, significant_in, significant, written}
+use Rattle.decimal.specs.Digits.{reads, refused, leading, value_from, fixed, significant_in, significant, written}
 use Rattle.decimal.specs.Decimal.{Number, is_whole, fractional, pointed, prefix, read, text, after_point, without_point, without_zeros, stripped, value}
 use Rattle.decimal.specs.Limits.{order_of, order}
 use Rattle.decimal.specs.declared.Order.TheVariants.{Equal}

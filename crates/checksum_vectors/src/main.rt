@@ -6,7 +6,7 @@
 // What is to come was worked out apart from the crates, by tools/checksum_vectors.py.
 #![tactic(auto)]
 
-ghost use Rattle.std.specs.Prelude.{◌≡◌, ◌≤◌, length};
+ghost use Rattle.std.specs.Prelude.{◌≡◌, ◌≤◌, length, IfOk};
 ghost use Rattle.decimal.specs.Decimal.{number};
 ghost use Rattle.decimal.specs.Limits.{Within};
 ghost use Rattle.edit.specs.Buffer.{buffer_words};
@@ -17,11 +17,15 @@ ghost use Rattle.checksum_vectors.specs.Book.{Valid, ValidSide, Readable};
 use decimal::{Decimal, Parsed, ParsedWhole};
 use edit::{BUFFER_WORDS, Side};
 use level::{Level, Levels};
-use libc::{STDIN_FILENO, STDOUT_FILENO};
 use lines::{LINE_END, find};
+use reading::read_full;
 use settings::SumText;
+use std::io;
 
 const BLANK: u8 = 32;
+
+// The longest input.
+const INPUT: usize = 65536;
 
 // A table of twenty rows: some pieces are summed by way of it, and longer ones without it.
 const TABLE: usize = 5120;
@@ -47,20 +51,21 @@ enum MaybeNumbers {
     Nothing,
 }
 
-fn main() {
-    let mut text = io::large_buffer();
-    let n = io::read_full(STDIN_FILENO, &mut text);
-    run_lines(&text[..n]);
+fn main(rt: HostRuntime) -> io::Result<()> {
+    let mut text = [0; INPUT];
+    let n = read_full(&mut rt.stdin(), &mut text)?;
+    run_lines(&rt, &text[..n])
 }
 
-fn run_lines(s: &[u8]) {
+fn run_lines(out: &impl Print, s: &[u8]) -> io::Result<()> {
     let mut book = new_book(SumText::Stripped, 10, 10);
     let mut at = 0;
     while at < s.len() {
         let end = find(s, at, LINE_END);
-        book = run_line(book, &s[at..end]);
+        book = run_line(out, book, &s[at..end])?;
         at = end + 1;
     }
+    Ok(())
 }
 
 fn new_book(text: SumText, summed: usize, depth: usize) -> Book
@@ -76,67 +81,67 @@ fn new_book(text: SumText, summed: usize, depth: usize) -> Book
     }
 }
 
-fn run_line(book: Book, s: &[u8]) -> Book
+fn run_line(out: &impl Print, book: Book, s: &[u8]) -> io::Result<Book>
     requires { Valid book }
-    ensures { Valid result }
+    ensures { IfOk result (λ after. Valid after) }
 {
     if s.len() == 0 {
-        say(b"no line\n");
-        return book;
+        say(out, b"no line\n")?;
+        return Ok(book);
     }
     let kind = s[0];
     if kind == 75 {
-        return start(SumText::Stripped, 10, s);
+        return start(out, SumText::Stripped, 10, s);
     }
     if kind == 77 {
-        return start(SumText::Interleaved, edition_sum(s), s);
+        return start(out, SumText::Interleaved, edition_sum(s), s);
     }
     if kind == 98 {
-        return with_bids(book, s);
+        return with_bids(out, book, s);
     }
     if kind == 97 {
-        return with_asks(book, s);
+        return with_asks(out, book, s);
     }
-    show(book);
-    book
+    show(out, book)?;
+    Ok(book)
 }
 
-fn with_bids(book: Book, s: &[u8]) -> Book
+fn with_bids(out: &impl Print, book: Book, s: &[u8]) -> io::Result<Book>
     requires { Valid book }
-    ensures { Valid result }
+    ensures { IfOk result (λ after. Valid after) }
 {
     let text = book.text;
-    let bids = run_side(book.bids, Side::Bids, text, book.depth, s);
+    let bids = run_side(out, book.bids, Side::Bids, text, book.depth, s)?;
     let mut after = book;
     after.bids = bids;
-    after
+    Ok(after)
 }
 
-fn with_asks(book: Book, s: &[u8]) -> Book
+fn with_asks(out: &impl Print, book: Book, s: &[u8]) -> io::Result<Book>
     requires { Valid book }
-    ensures { Valid result }
+    ensures { IfOk result (λ after. Valid after) }
 {
     let text = book.text;
-    let asks = run_side(book.asks, Side::Asks, text, book.depth, s);
+    let asks = run_side(out, book.asks, Side::Asks, text, book.depth, s)?;
     let mut after = book;
     after.asks = asks;
-    after
+    Ok(after)
 }
 
 // A new book of the depth that a line gives, or 10 where it gives none up to 100.
-fn start(text: SumText, summed: usize, s: &[u8]) -> Book
-    ensures { Valid result }
+fn start(out: &impl Print, text: SumText, summed: usize, s: &[u8]) -> io::Result<Book>
+    ensures { IfOk result (λ after. Valid after) }
 {
     let end = find(s, 0, BLANK);
     let depth = read_depth(s, end);
     let from = 0;
     if end < s.len() {
-        say(&s[from..end]);
+        say(out, &s[from..end])?;
     }
-    say(b" ");
-    say_number(depth as u64);
-    say(b"\n");
-    new_book(text, summed, depth)
+    say(out, b" ")?;
+    say_number(out, depth as u64)?;
+    say(out, b"\n")?;
+    Ok(new_book(text, summed, depth))
 }
 
 // M2 sums 25 levels a side, M and M1 all.
@@ -169,9 +174,16 @@ fn read_depth(s: &[u8], blank: usize) -> usize
 }
 
 // A side after the entries of a line.
-fn run_side(levels: Levels, side: Side, text: SumText, depth: usize, s: &[u8]) -> Levels
+fn run_side(
+    out: &impl Print,
+    levels: Levels,
+    side: Side,
+    text: SumText,
+    depth: usize,
+    s: &[u8],
+) -> io::Result<Levels>
     requires { ValidSide text side levels × (depth ≤ 100) }
-    ensures { ValidSide text side result }
+    ensures { IfOk result (λ after. ValidSide text side after) }
 {
     let mut buffer = [0u64; BUFFER_WORDS];
     let n = read_entries(s, side, &mut buffer);
@@ -188,16 +200,16 @@ fn run_side(levels: Levels, side: Side, text: SumText, depth: usize, s: &[u8]) -
         n,
         &table,
     );
-    say_number(applied.count as u64);
+    say_number(out, applied.count as u64)?;
     if applied.replaced {
-        say(b" 1\n");
+        say(out, b" 1\n")?;
     } else {
-        say(b" 0\n");
+        say(out, b" 0\n")?;
     }
-    Levels {
+    Ok(Levels {
         words,
         count: applied.left,
-    }
+    })
 }
 
 // The entries of a line put into a buffer, as many as stand there and can be read.
@@ -251,16 +263,16 @@ fn read_size(price: Decimal, size: &[u8]) -> MaybeNumbers
     }
 }
 
-fn show(book: Book)
+fn show(out: &impl Print, book: Book) -> io::Result<()>
     requires { Valid book }
 {
-    say(b"bids");
-    show_levels(book.bids);
-    say(b"\nasks");
-    show_levels(book.asks);
-    say(b"\nsum ");
-    say_number(sum_of(book) as u64);
-    say(b"\n");
+    say(out, b"bids")?;
+    show_levels(out, book.bids)?;
+    say(out, b"\nasks")?;
+    show_levels(out, book.asks)?;
+    say(out, b"\nsum ")?;
+    say_number(out, sum_of(book) as u64)?;
+    say(out, b"\n")
 }
 
 fn sum_of(book: Book) -> u32
@@ -291,35 +303,34 @@ fn sum_of(book: Book) -> u32
     }
 }
 
-fn show_levels(levels: Levels)
+fn show_levels(out: &impl Print, levels: Levels) -> io::Result<()>
     requires { (levels.count ≤ max_levels) × (length levels.words ≡ max_words) }
 {
-    let mut i = 0;
-    while i < levels.count {
-        show_level(level::level_in(&levels.words, i));
-        i += 1;
+    for i in 0..levels.count {
+        show_level(out, level::level_in(&levels.words, i))?;
     }
+    Ok(())
 }
 
 // Digits and code of the price, digits and code of the size.
-fn show_level(level: Level) {
-    say(b" ");
-    show_decimal(level::price_of(level));
-    say(b":");
-    show_decimal(level::size_of(level));
+fn show_level(out: &impl Print, level: Level) -> io::Result<()> {
+    say(out, b" ")?;
+    show_decimal(out, level::price_of(level))?;
+    say(out, b":")?;
+    show_decimal(out, level::size_of(level))
 }
 
-fn show_decimal(d: Decimal) {
+fn show_decimal(out: &impl Print, d: Decimal) -> io::Result<()> {
     let parts = decimal::parts_of(d);
-    say_number(parts.digits);
-    say(b"/");
-    say_number(parts.code);
+    say_number(out, parts.digits)?;
+    say(out, b"/")?;
+    say_number(out, parts.code)
 }
 
-fn say(text: &[u8]) {
-    io::write_all(STDOUT_FILENO, text);
+fn say(out: &impl Print, text: &[u8]) -> io::Result<()> {
+    out.write_all(text)
 }
 
-fn say_number(n: u64) {
-    io::print_decimal(STDOUT_FILENO, n);
+fn say_number(out: &impl Print, n: u64) -> io::Result<()> {
+    out.print(n)
 }

@@ -1,12 +1,12 @@
 -- What a checksum catches, of books: a checksum text is one of bytes, and the checksum of a message that is taken is that of the book afterwards.
 -- Assumes nothing.
 use Prim.Native.Nat.{ℕ, zero, suc, ◌<◌}
-use mathlib.Core.Path.{◌≡◌, refl, sym, ◌∙◌, subst}
+use mathlib.Core.Path.{◌≡◌, sym, ◌∙◌, subst}
 use mathlib.Core.Bool.{Bool, true, false}
 use mathlib.Core.List.{List, [], ◌∷◌, ◌++◌, map}
 use native.Mathlib.Omega.{arith}
 use lib.Dec.{eqb}
-use lib.ListN.{get_or, take, drop}
+use lib.ListN.{take}
 use Rattle.text.specs.Text.{colon, joined}
 use Rattle.decimal.specs.Decimal.{Number, point, after_point, text, without_point, without_zeros, stripped}
 use Rattle.decimal.proofs.Digits.{Digits, none, one, digit-in, fixed-digits, written-digits}
@@ -17,8 +17,8 @@ use Rattle.settings.specs.declared.SumText.{SumText}
 use Rattle.settings.specs.declared.SumText.TheVariants.{Stripped, Interleaved}
 use Rattle.edit.specs.Edit.{PriceLevel}
 use Rattle.checksum.specs.Text.{k_level, k_checksum_text, m_level, interleaved, colon_joined, m_checksum_text}
-use Rattle.layout.specs.Layout.{Printed, printed, unprinted}
-use Rattle.message.specs.Meaning.{Message, decodes, decode}
+use Rattle.layout.specs.Layout.{Printed, printed}
+use Rattle.message.specs.Meaning.{Message, decodes}
 use Rattle.reference.specs.Reference.{Reference, rules, opened, sides_after, checksum_text, checksum_of, final}
 use Rattle.reference.specs.Claims.{Agrees, carries_none, the_same, Acceptable}
 use Rattle.reference.proofs.Claims.{demand-2}

@@ -5,7 +5,7 @@ use mathlib.Core.Bool.{true}
 use mathlib.Core.List.{List, [], ◌∷◌, map}
 use Rattle.decimal.specs.Decimal.{number as number_of}
 use Rattle.answer.specs.declared.Answer.{Answer}
-use Rattle.reference.specs.Reference.{Reference, Value, counts, level, amount, Reply, Ask, message, question, replied, how_many, level_at, which_number, how_many_updates, write, does, Call, replies_to, final}
+use Rattle.reference.specs.Reference.{Reference, Value, counts, level, amount, Ask, message, question, replied, how_many, level_at, which_number, how_many_updates, write, does, Call, replies_to, final}
 use native.Mathlib.Omega.{arith}
 use Rattle.reference.specs.Claims.{call}
 use Rattle.settings.specs.Settings.{Config}

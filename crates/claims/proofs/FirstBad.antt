@@ -14,14 +14,14 @@ use Rattle.json_values.specs.Json.{Span, Pair, Items, items, no_items, elements,
 use Rattle.json_values.specs.Names.{means}
 use Rattle.json_values.specs.Claims.{InOrder, end, then, IsElement}
 use Rattle.json_values.proofs.Claims.{elements-in-order, ends-within}
-use Rattle.entries.specs.Places.{and_then, all, and_also, contents, is_string, array_at}
+use Rattle.entries.specs.Places.{and_then, all, contents, is_string, array_at}
 use Rattle.entries.specs.Rows.{Row, Entry, sided, row_k, row_m, row_of, entry_of, entries_at, sided_at, bad_price, bad_size, bad_texts, first_of}
 use Rattle.entries.specs.declared.Form.{Form}
 use Rattle.entries.specs.declared.Form.TheVariants as forms
 use Rattle.entries.proofs.Strings.{no_row, same_row}
 use Rattle.entries.proofs.Tallies.{also-reads}
-use Rattle.layout.specs.Layout.{Layout, is_snapshot, member_entries, entries_in}
-use Rattle.message.specs.Meaning.{passes, framed, bad, first_bad, first_bad_of, bad_decimal}
+use Rattle.layout.specs.Layout.{is_snapshot, member_entries, entries_in}
+use Rattle.message.specs.Meaning.{bad, first_bad, first_bad_of, bad_decimal}
 use Rattle.message.proofs.Members.{Follow, no_more, follows}
 use Rattle.message.proofs.Where.{framed-lies}
 use Rattle.claims.specs.FirstBad.{Has, here, later, FirstBad}

@@ -1,10 +1,10 @@
 -- Demand 3 of the code, of a book whose words are lent. Assumes nothing.
 use Prim.Native.Nat.{ℕ}
 use mathlib.Core.Path.{◌≡◌, refl, sym, ap, ap₂, ◌∙◌, subst}
-use mathlib.Core.List.{List, [], ◌∷◌, map}
+use mathlib.Core.List.{List, ◌∷◌, map}
 use native.Mathlib.Omega.{arith}
 use Rattle.answer.specs.declared.Answer.{Answer}
-use Rattle.reference.specs.Reference.{Reference, Value, counts, amount, Reply, Ask, message, question, how_many, does, replied, replies_to, Call}
+use Rattle.reference.specs.Reference.{Reference, Value, counts, amount, Ask, message, question, how_many, does, replied, replies_to, Call}
 use Rattle.reference.specs.Claims.{call}
 use Rattle.reference.proofs.Claims.{same-buffer}
 use Rattle.book.specs.Shown.{shows, book_of, Good}

@@ -1,6 +1,6 @@
 -- Demand 3 of the code: one claim about a list of calls to one newly opened book, in any order: messages, questions on the current and on the last good
 -- book, writings-out into buffers of any length and content. Assumes nothing: these are definitions.
-use Rattle.std.specs.Prelude.{ℕ, ◌≡◌, Bool, true, false, List, [], ◌∷◌, map, take}
+use Rattle.std.specs.Prelude.{ℕ, ◌≡◌, List, [], ◌∷◌, map, take}
 use contract.Lifetimes.{Lfts}
 use Rattle.std.specs.Borrow.{Bor, MutBor}
 use Rattle.decimal.specs.Decimal.{number as number_of}

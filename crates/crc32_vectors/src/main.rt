@@ -4,8 +4,9 @@
 // the register round at the end. Written for each group: how many comparisons were made, and how many of them differed.
 #![tactic(auto)]
 
-ghost use Rattle.std.specs.Prelude.{◌+◌, ◌≤◌, length};
+ghost use Rattle.std.specs.Prelude.{◌+◌, ◌≤◌, length, IfOk};
 
+use std::io;
 use text::wide;
 
 // ---- the second CRC-32
@@ -37,10 +38,8 @@ fn turned_round(x: u32) -> u32 {
 // The state after a text.
 fn second(s: u32, t: &[u8]) -> u32 {
     let mut register = turned_round(s);
-    let mut i = 0;
-    while i < t.len() {
-        register = feed_byte(register, t[i]);
-        i += 1;
+    for b in t {
+        register = feed_byte(register, *b);
     }
     turned_round(register)
 }
@@ -191,30 +190,22 @@ fn tally(group: u64, t: &[u8], lengths: usize) -> Counts
 {
     let mut made: u64 = 0;
     let mut differing: u64 = 0;
-    let mut n = 0;
-    while n < lengths {
+    for n in 0..lengths {
         differing += compared(group, t, n);
         made += 1;
-        n += 1;
     }
     Counts { made, differing }
 }
 
-fn say(text: &[u8], value: u64) {
-    io::write_all(1, text);
-    io::print_decimal(1, value);
-}
-
-fn report(name: &[u8], group: u64, t: &[u8]) -> u64
+fn report(out: &impl Print, name: &str, group: u64, t: &[u8]) -> io::Result<u64>
     requires { 137 ≤ length t.now }
-    ensures { result ≤ 125 }
+    ensures { IfOk result (λ differing. differing ≤ 125) }
 {
     let found = tally(group, t, 125);
-    io::write_all(1, name);
-    say(b": lengths compared ", found.made);
-    say(b", differing ", found.differing);
-    io::write_all(1, b"\n");
-    found.differing
+    let made = found.made;
+    let differing = found.differing;
+    println!(out; "{name}: lengths compared {made}, differing {differing}")?;
+    Ok(differing)
 }
 
 // The first n bytes, from a simple generator.
@@ -222,47 +213,42 @@ fn fill(t: &mut [u8], n: usize)
     requires { n ≤ length t.old }
 {
     let mut x: u32 = 12345;
-    let mut i = 0;
-    while i < n {
+    for i in 0..n {
         x = x ^ (x << 13);
         x = x ^ (x >> 17);
         x = x ^ (x << 5);
         t[i] = (x % 256) as u8;
-        i += 1;
     }
 }
 
-fn value(name: &[u8], t: &[u8]) {
-    io::write_all(1, name);
-    say(b": ", crc32::crc(t) as u64);
-    say(b", second ", second_crc(t) as u64);
-    io::write_all(1, b"\n");
+fn value(out: &impl Print, name: &str, t: &[u8]) -> io::Result<()> {
+    let first = crc32::crc(t);
+    let second = second_crc(t);
+    println!(out; "{name}: {first}, second {second}")
 }
 
-fn main() {
-    value(b"no bytes", b"");
-    value(b"123456789", b"123456789");
-    value(b"9:2:10:1", b"9:2:10:1");
+fn main(rt: HostRuntime) -> io::Result<()> {
+    value(&rt, "no bytes", b"")?;
+    value(&rt, "123456789", b"123456789")?;
+    value(&rt, "9:2:10:1", b"9:2:10:1")?;
     value(
-        b"twenty levels",
+        &rt,
+        "twenty levels",
         b"50055005010500501550050205005025500503050050355005040500504550050505005000500499550049905004980500497550049705004965500496050049555004950500",
-    );
+    )?;
     let mut bytes = [0u8; 144];
     fill(&mut bytes, 144);
     let mut padded = [0u8; 144];
     fill(&mut padded, 8);
     let zeros = [0u8; 144];
-    let texts = report(b"crc", 0, &bytes);
-    let steps = report(b"step", 1, &bytes);
-    let combined = report(b"combine", 2, &bytes);
-    let fronts = report(b"front", 3, &bytes);
-    let eights = report(b"absorb8", 4, &bytes);
-    let absorbed = report(b"absorb", 5, &padded);
-    let tabled = report(b"front_with", 6, &bytes);
-    let shifted = report(b"shift", 7, &zeros);
-    say(
-        b"differing in all: ",
-        texts + steps + combined + fronts + eights + absorbed + tabled + shifted,
-    );
-    io::write_all(1, b"\n");
+    let texts = report(&rt, "crc", 0, &bytes)?;
+    let steps = report(&rt, "step", 1, &bytes)?;
+    let combined = report(&rt, "combine", 2, &bytes)?;
+    let fronts = report(&rt, "front", 3, &bytes)?;
+    let eights = report(&rt, "absorb8", 4, &bytes)?;
+    let absorbed = report(&rt, "absorb", 5, &padded)?;
+    let tabled = report(&rt, "front_with", 6, &bytes)?;
+    let shifted = report(&rt, "shift", 7, &zeros)?;
+    let all = texts + steps + combined + fronts + eights + absorbed + tabled + shifted;
+    println!(rt; "differing in all: {all}")
 }

@@ -18,6 +18,9 @@ const MAX_WHOLE_NUMBER: usize = 19;
 
 const MAX_CHECKSUM: u64 = 4_294_967_295;
 
+// The largest digit.
+const LAST_DIGIT: u64 = 9;
+
 const POINT: u8 = 46;
 
 const ZERO: u8 = 48;
@@ -141,7 +144,7 @@ fn digits_at(s: &[u8], at: usize, before: u64, most: usize) -> Run
     let mut left = most;
     while 0 < left {
         let digit = digit_at(s, end);
-        if 9 < digit {
+        if LAST_DIGIT < digit {
             return Run { value, end };
         }
         value = value * 10 + digit;

@@ -12,171 +12,175 @@ ghost use Rattle.decimal.specs.Decimal.{number};
 ghost use Rattle.decimal.specs.Limits.{Within};
 
 use decimal::{Decimal, Order, Parsed, ParsedChecksum, ParsedWhole, Step, Tail, Written};
-use libc::{STDIN_FILENO, STDOUT_FILENO};
 use lines::{LINE_END, find};
+use reading::read_full;
+use std::io;
 
 const BLANK: u8 = 32;
 
-fn main() {
-    let mut text = io::large_buffer();
-    let n = io::read_full(STDIN_FILENO, &mut text);
-    run_lines(&text[..n]);
+// The longest input.
+const INPUT: usize = 65536;
+
+fn main(rt: HostRuntime) -> io::Result<()> {
+    let mut text = [0; INPUT];
+    let n = read_full(&mut rt.stdin(), &mut text)?;
+    run_lines(&rt, &text[..n])
 }
 
-fn run_lines(s: &[u8]) {
+fn run_lines(out: &impl Print, s: &[u8]) -> io::Result<()> {
     let mut at = 0;
     while at < s.len() {
         let end = find(s, at, LINE_END);
-        run_line(&s[at..end]);
+        run_line(out, &s[at..end])?;
         at = end + 1;
     }
+    Ok(())
 }
 
-fn run_line(s: &[u8]) {
+fn run_line(out: &impl Print, s: &[u8]) -> io::Result<()> {
     if s.len() < 2 {
-        say(b"no case\n");
-        return;
+        return say(out, b"no case\n");
     }
     let kind = s[0];
     let text = &s[2..];
     if kind == 100 {
-        run_decimal(text);
+        run_decimal(out, text)
     } else if kind == 119 {
-        run_whole(text);
+        run_whole(out, text)
     } else if kind == 99 {
-        run_checksum(text);
+        run_checksum(out, text)
     } else {
-        run_order(text);
+        run_order(out, text)
     }
 }
 
-fn say(text: &[u8]) {
-    io::write_all(STDOUT_FILENO, text);
+fn say(out: &impl Print, text: &[u8]) -> io::Result<()> {
+    out.write_all(text)
 }
 
-fn say_number(n: u64) {
-    io::print_decimal(STDOUT_FILENO, n);
+fn say_number(out: &impl Print, n: u64) -> io::Result<()> {
+    out.print(n)
 }
 
-fn run_decimal(s: &[u8]) {
+fn run_decimal(out: &impl Print, s: &[u8]) -> io::Result<()> {
     match decimal::parse(s) {
-        Parsed::Number(d) => say_decimal(d),
-        Parsed::Refused => say(b"refused\n"),
+        Parsed::Number(d) => say_decimal(out, d),
+        Parsed::Refused => say(out, b"refused\n"),
     }
 }
 
-fn say_decimal(d: Decimal)
+fn say_decimal(out: &impl Print, d: Decimal) -> io::Result<()>
     requires { Within (number d) }
 {
     let parts = decimal::parts_of(d);
-    say_number(parts.digits);
-    say(b" ");
-    say_number(parts.code);
-    say(b" ");
-    say_text(d, 2);
-    say(b" ");
-    say_text(d, 8);
-    say(b" ");
-    say_tail(decimal::stripped_tail(d));
+    say_number(out, parts.digits)?;
+    say(out, b" ")?;
+    say_number(out, parts.code)?;
+    say(out, b" ")?;
+    say_text(out, d, 2)?;
+    say(out, b" ")?;
+    say_text(out, d, 8)?;
+    say(out, b" ")?;
+    say_tail(out, decimal::stripped_tail(d))?;
     if decimal::is_zero(d) {
-        say(b" zero");
+        say(out, b" zero")?;
     }
-    say(b"\n");
+    say(out, b"\n")
 }
 
 // Where the text ends in a buffer of 28 bytes, or that it has no room there; then the whole buffer.
-fn say_text(d: Decimal, at: usize)
+fn say_text(out: &impl Print, d: Decimal, at: usize) -> io::Result<()>
     requires { Within (number d) }
 {
     let mut buffer = [42u8; 28];
     let part: &mut [u8] = &mut buffer;
     match decimal::write(d, part, at) {
-        Written::To(end) => say_number(end as u64),
-        Written::Full => say(b"full"),
+        Written::To(end) => say_number(out, end as u64)?,
+        Written::Full => say(out, b"full")?,
     }
-    say(b" ");
-    say(part);
+    say(out, b" ")?;
+    say(out, part)
 }
 
 // A text, from its last byte to its first.
-fn say_tail(t: Tail) {
+fn say_tail(out: &impl Print, t: Tail) -> io::Result<()> {
     let mut rest = t;
     for _ in 0..28usize {
         match rest.step() {
             Step::Byte(b, shorter) => {
-                say_byte(b);
+                say_byte(out, b)?;
                 rest = shorter;
             }
             Step::End => {
-                return;
+                return Ok(());
             }
         }
     }
+    Ok(())
 }
 
-fn say_byte(b: u8) {
+fn say_byte(out: &impl Print, b: u8) -> io::Result<()> {
     let one = [b];
-    say(&one);
+    say(out, &one)
 }
 
-fn run_whole(s: &[u8]) {
+fn run_whole(out: &impl Print, s: &[u8]) -> io::Result<()> {
     match decimal::parse_whole(s) {
-        ParsedWhole::Number(n) => say_whole(n),
-        ParsedWhole::Refused => say(b"refused\n"),
+        ParsedWhole::Number(n) => say_whole(out, n),
+        ParsedWhole::Refused => say(out, b"refused\n"),
     }
 }
 
 // Where the digits end in a buffer of 28 bytes; then the whole buffer.
-fn say_whole(n: u64) {
+fn say_whole(out: &impl Print, n: u64) -> io::Result<()> {
     let mut buffer = [42u8; 28];
     let part: &mut [u8] = &mut buffer;
     match decimal::write_whole(n, part, 2) {
-        Written::To(end) => say_number(end as u64),
-        Written::Full => say(b"full"),
+        Written::To(end) => say_number(out, end as u64)?,
+        Written::Full => say(out, b"full")?,
     }
-    say(b" ");
-    say(part);
-    say(b"\n");
+    say(out, b" ")?;
+    say(out, part)?;
+    say(out, b"\n")
 }
 
-fn run_checksum(s: &[u8]) {
+fn run_checksum(out: &impl Print, s: &[u8]) -> io::Result<()> {
     match decimal::parse_checksum(s) {
         ParsedChecksum::Number(n) => {
-            say_number(n as u64);
-            say(b"\n");
+            say_number(out, n as u64)?;
+            say(out, b"\n")
         }
-        ParsedChecksum::Refused => say(b"refused\n"),
+        ParsedChecksum::Refused => say(out, b"refused\n"),
     }
 }
 
-fn run_order(s: &[u8]) {
+fn run_order(out: &impl Print, s: &[u8]) -> io::Result<()> {
     let end = find(s, 0, BLANK);
     if s.len() <= end {
-        say(b"no case\n");
-        return;
+        return say(out, b"no case\n");
     }
     let next = end + 1;
     match decimal::parse(&s[..end]) {
-        Parsed::Number(a) => run_second(a, &s[next..]),
-        Parsed::Refused => say(b"refused\n"),
+        Parsed::Number(a) => run_second(out, a, &s[next..]),
+        Parsed::Refused => say(out, b"refused\n"),
     }
 }
 
-fn run_second(a: Decimal, s: &[u8])
+fn run_second(out: &impl Print, a: Decimal, s: &[u8]) -> io::Result<()>
     requires { Within (number a) }
 {
     match decimal::parse(s) {
-        Parsed::Number(b) => say_order(a, b),
-        Parsed::Refused => say(b"refused\n"),
+        Parsed::Number(b) => say_order(out, a, b),
+        Parsed::Refused => say(out, b"refused\n"),
     }
 }
 
-fn say_order(a: Decimal, b: Decimal)
+fn say_order(out: &impl Print, a: Decimal, b: Decimal) -> io::Result<()>
     requires { Within (number a) × Within (number b) }
 {
     match decimal::compare(a, b) {
-        Order::Less => say(b"less\n"),
-        Order::Equal => say(b"equal\n"),
-        Order::Greater => say(b"greater\n"),
+        Order::Less => say(out, b"less\n"),
+        Order::Equal => say(out, b"equal\n"),
+        Order::Greater => say(out, b"greater\n"),
     }
 }

@@ -317,6 +317,7 @@ fn with_entry(before: Tally, side: Side, at: usize, broken: bool, strict: bool) 
 }
 
 // Where the first of some kind begins, if one more begins at `at`.
+#[tactic(auto, unfolding(crate::specs::Tally::earliest))]
 fn earliest(known: usize, is_one: bool, at: usize) -> usize
     ensures { result ≡ earliest known is_one at }
 {

@@ -15,62 +15,69 @@ ghost use Rattle.edit.specs.Buffer.{buffer_words};
 use decimal::Decimal;
 use edit::{BUFFER_WORDS, MAX_BUFFERED, Side};
 use entries::{ENTRY_DEPTH, Entries, EntryPlace, Form, none_yet};
-use libc::{STDIN_FILENO, STDOUT_FILENO};
 use lines::{LINE_END, find};
+use reading::read_full;
+use std::io;
 
-fn main() {
-    let mut table = io::large_buffer();
-    let n = io::read_full(STDIN_FILENO, &mut table);
-    run_lines(&table[..n]);
+// The longest input.
+const INPUT: usize = 65536;
+
+fn main(rt: HostRuntime) -> io::Result<()> {
+    let mut table = [0; INPUT];
+    let n = read_full(&mut rt.stdin(), &mut table)?;
+    run_lines(&rt, &table[..n])
 }
 
-fn write(s: &[u8]) {
-    io::write_all(STDOUT_FILENO, s);
+fn write(out: &impl Print, s: &[u8]) -> io::Result<()> {
+    out.write_all(s)
 }
 
-fn run_lines(s: &[u8]) {
+fn run_lines(out: &impl Print, s: &[u8]) -> io::Result<()> {
     let mut i = 0;
     while i < s.len() {
         let e = find(s, i, LINE_END);
-        line(&s[i..e]);
-        newline();
+        line(out, &s[i..e])?;
+        newline(out)?;
         if s.len() <= e {
-            return;
+            return Ok(());
         }
         i = e + 1;
     }
+    Ok(())
 }
 
-fn newline() {
-    write(b"\n");
+fn newline(out: &impl Print) -> io::Result<()> {
+    write(out, b"\n")
 }
 
-fn line(s: &[u8]) {
-    write(s);
+fn line(out: &impl Print, s: &[u8]) -> io::Result<()> {
+    write(out, s)?;
     if s.len() < 2 {
-        return;
+        return Ok(());
     }
     let c = s[0];
     if c == b'K' {
-        tell_entry(s, entries::entry_at(s, 2, ENTRY_DEPTH, Form::Triple));
+        tell_entry(out, s, entries::entry_at(s, 2, ENTRY_DEPTH, Form::Triple))?;
     } else if c == b'M' {
-        tell_entry(s, entries::entry_at(s, 2, ENTRY_DEPTH, Form::Pair));
+        tell_entry(out, s, entries::entry_at(s, 2, ENTRY_DEPTH, Form::Pair))?;
     } else if c == b'k' {
-        array(s, Form::Triple);
+        array(out, s, Form::Triple)?;
     } else if c == b'm' {
-        array(s, Form::Pair);
+        array(out, s, Form::Pair)?;
     }
+    Ok(())
 }
 
-fn tell_entry(s: &[u8], found: EntryPlace) {
-    end(found.end);
+fn tell_entry(out: &impl Print, s: &[u8], found: EntryPlace) -> io::Result<()> {
+    end(out, found.end)?;
     if found.well_formed {
-        part(s, found.price_from, found.price_to);
-        part(s, found.size_from, found.size_to);
+        part(out, s, found.price_from, found.price_to)?;
+        part(out, s, found.size_from, found.size_to)?;
     }
+    Ok(())
 }
 
-fn array(s: &[u8], form: Form) {
+fn array(out: &impl Print, s: &[u8], form: Form) -> io::Result<()> {
     let mut buffer: [u64; BUFFER_WORDS] = [0; BUFFER_WORDS];
     let read = entries::entries_at(
         s,
@@ -81,68 +88,69 @@ fn array(s: &[u8], form: Form) {
         none_yet(),
         &mut buffer,
     );
-    tell_entries(read, &buffer);
+    tell_entries(out, read, &buffer)
 }
 
-fn tell_entries(read: Entries, buffer: &[u64; BUFFER_WORDS])
+fn tell_entries(out: &impl Print, read: Entries, buffer: &[u64; BUFFER_WORDS]) -> io::Result<()>
     requires { length buffer.now ≡ buffer_words }
 {
-    end(read.end);
+    end(out, read.end)?;
     let met = read.tally;
     if met.well_formed {
-        write(b" entries ");
-        number(met.bids as u64);
+        write(out, b" entries ")?;
+        number(out, met.bids as u64)?;
         if 0 < met.broken_at {
-            write(b" broken ");
-            number(met.broken_at as u64);
+            write(out, b" broken ")?;
+            number(out, met.broken_at as u64)?;
         }
         if 0 < met.strict_at {
-            write(b" strict ");
-            number(met.strict_at as u64);
+            write(out, b" strict ")?;
+            number(out, met.strict_at as u64)?;
         }
-        numbers(buffer, met.bids);
+        numbers(out, buffer, met.bids)?;
     }
+    Ok(())
 }
 
 // The numbers of the first n entries of the buffer, or of all that it has.
-fn numbers(buffer: &[u64; BUFFER_WORDS], n: usize)
+fn numbers(out: &impl Print, buffer: &[u64; BUFFER_WORDS], n: usize) -> io::Result<()>
     requires { length buffer.now ≡ buffer_words }
 {
-    let mut k = 0;
-    while k < n {
+    for k in 0..n {
         if MAX_BUFFERED <= k {
-            return;
+            return Ok(());
         }
         let entry = edit::entry_in(buffer, k);
-        write(b"\n    ");
-        decimal(entry.price);
-        write(b" ");
-        decimal(entry.size);
-        k += 1;
+        write(out, b"\n    ")?;
+        decimal(out, entry.price)?;
+        write(out, b" ")?;
+        decimal(out, entry.size)?;
     }
+    Ok(())
 }
 
-fn decimal(a: Decimal) {
+fn decimal(out: &impl Print, a: Decimal) -> io::Result<()> {
     let parts = decimal::parts_of(a);
-    number(parts.digits);
-    write(b"/");
-    number(parts.code);
+    number(out, parts.digits)?;
+    write(out, b"/")?;
+    number(out, parts.code)
 }
 
-fn number(n: u64) {
-    io::print_decimal(STDOUT_FILENO, n);
+fn number(out: &impl Print, n: u64) -> io::Result<()> {
+    out.print(n)
 }
 
-fn end(e: usize) {
-    write(b"\n  end ");
-    number(e as u64);
+fn end(out: &impl Print, e: usize) -> io::Result<()> {
+    write(out, b"\n  end ")?;
+    number(out, e as u64)
 }
 
-fn part(s: &[u8], from: usize, to: usize) {
-    write(b" ");
+fn part(out: &impl Print, s: &[u8], from: usize, to: usize) -> io::Result<()> {
+    write(out, b" ")?;
     if from <= to {
         if to <= s.len() {
-            write(&s[from..to]);
+            write(out, &s[from..to])?;
         }
     }
+    Ok(())
 }

@@ -17,7 +17,6 @@ use Rattle.reference.specs.Reference.{Reference, opened}
 use Rattle.book.specs.Shown.{Good, shows, Opened}
 use Rattle.book.specs.declared.Book.{Book}
 use Rattle.feed.specs.declared.Stream.{Stream}
-use Rattle.feed.specs.declared.Block.{Block}
 use Rattle.feed.specs.declared.Answered.{Answered}
 use Rattle.feed.specs.Feed.{session, output, carried, max_reply, processing}
 use Rattle.feed.specs.Stream.{State, line_one_awaited, book_open, Transcript, extend, after, begun, SoFar, FeedProgress, answering, last_lines, state_of, transcript_of, Holds, pending_of, AnsweredBlock, Finished, AnsweredLines}

@@ -1,4 +1,4 @@
-// Runs the table of texts on standard input, a case to a line, and writes what `json` and `json_tokens` answer.
+// Runs the table of texts on standard input, a case to a line, and writes what `json_values` and `json_tokens` answer.
 //
 //     + TEXT    is JSON by RFC 8259's grammar and the limit on nesting
 //     - TEXT    is not
@@ -18,82 +18,88 @@ use json_tokens::{
     object_close_end, scalar_end, skip_blanks, string_end,
 };
 use json_values::{MAX_DEPTH, array_end, is_name, object_end, value_end};
-use libc::STDOUT_FILENO;
 use lines::{LINE_END, find};
+use reading::read_full;
+use std::io;
 
-fn main() {
-    let mut table = io::large_buffer();
-    let n = io::read_full(0, &mut table);
-    run_lines(&table[..n]);
-    rows();
+// The longest input.
+const INPUT: usize = 65536;
+
+fn main(rt: HostRuntime) -> io::Result<()> {
+    let mut table = [0; INPUT];
+    let n = read_full(&mut rt.stdin(), &mut table)?;
+    run_lines(&rt, &table[..n])?;
+    rows(&rt)
 }
 
-fn write(s: &[u8]) {
-    io::write_all(STDOUT_FILENO, s);
+fn write(out: &impl Print, s: &[u8]) -> io::Result<()> {
+    out.write_all(s)
 }
 
-fn newline() {
-    write(b"\n");
+fn newline(out: &impl Print) -> io::Result<()> {
+    write(out, b"\n")
 }
 
 // ---- the table
 
-fn run_lines(s: &[u8]) {
+fn run_lines(out: &impl Print, s: &[u8]) -> io::Result<()> {
     let mut i = 0;
     while i < s.len() {
         let e = find(s, i, LINE_END);
-        line(&s[i..e]);
-        newline();
+        line(out, &s[i..e])?;
+        newline(out)?;
         if s.len() <= e {
-            return;
+            return Ok(());
         }
         i = e + 1;
     }
+    Ok(())
 }
 
-fn line(s: &[u8]) {
+fn line(out: &impl Print, s: &[u8]) -> io::Result<()> {
     if s.len() < 2 {
-        write(s);
-        return;
+        return write(out, s);
     }
     let c = s[0];
     if c == b'+' {
-        sign(&s[2..]);
+        sign(out, &s[2..])?;
     } else if c == b'-' {
-        sign(&s[2..]);
+        sign(out, &s[2..])?;
     } else if c == b'=' {
-        name_sign(&s[2..]);
+        name_sign(out, &s[2..])?;
     } else if c == b'!' {
-        name_sign(&s[2..]);
+        name_sign(out, &s[2..])?;
     }
-    write(s);
+    write(out, s)?;
     if c == b'e' {
-        newline();
-        elements(&s[2..]);
+        newline(out)?;
+        elements(out, &s[2..])?;
     } else if c == b'm' {
-        newline();
-        members(&s[2..]);
+        newline(out)?;
+        members(out, &s[2..])?;
     }
+    Ok(())
 }
 
-fn sign(s: &[u8]) {
+fn sign(out: &impl Print, s: &[u8]) -> io::Result<()> {
     if is_json(s) {
-        write(b"+ ");
+        write(out, b"+ ")
     } else {
-        write(b"- ");
+        write(out, b"- ")
     }
 }
 
 // A string, a blank and a name.
-fn name_sign(s: &[u8]) {
+fn name_sign(out: &impl Print, s: &[u8]) -> io::Result<()> {
     let e = string_end(s, 0);
     if e < s.len() {
         if is_name(s, 0, e, &s[e + 1..]) {
-            write(b"= ");
+            write(out, b"= ")?;
         } else {
-            write(b"! ");
+            write(out, b"! ")?;
         }
     }
+    Ok(())
 }
 
 // Whether the whole of s is JSON.
@@ -115,188 +121,180 @@ const INNER_DEPTH: usize = MAX_DEPTH - 2;
 // No text of the table has more items.
 const MAX_ITEMS: usize = 32;
 
-fn elements(s: &[u8]) {
+fn elements(out: &impl Print, s: &[u8]) -> io::Result<()> {
     let empty = array_close_end(s, 1);
     if 0 < empty {
-        end(empty);
-        return;
+        return end(out, empty);
     }
     let mut i = skip_blanks(s, 1);
-    let mut turns = MAX_ITEMS;
-    while turns > 0 {
-        turns -= 1;
+    for _ in 0..MAX_ITEMS {
         let e = value_end(s, i, ITEM_DEPTH);
         if e == 0 {
-            end(0);
-            return;
+            return end(out, 0);
         }
-        item(s, i, e);
+        item(out, s, i, e)?;
         let j = comma_end(s, e);
         if j == 0 {
-            end(array_close_end(s, e));
-            return;
+            return end(out, array_close_end(s, e));
         }
         i = j;
     }
+    Ok(())
 }
 
-fn members(s: &[u8]) {
+fn members(out: &impl Print, s: &[u8]) -> io::Result<()> {
     let empty = object_close_end(s, 1);
     if 0 < empty {
-        end(empty);
-        return;
+        return end(out, empty);
     }
     let mut i = skip_blanks(s, 1);
-    let mut turns = MAX_ITEMS;
-    while turns > 0 {
-        turns -= 1;
-        let e = member(s, i);
+    for _ in 0..MAX_ITEMS {
+        let e = member(out, s, i)?;
         if e == 0 {
-            end(0);
-            return;
+            return end(out, 0);
         }
         let j = comma_end(s, e);
         if j == 0 {
-            end(object_close_end(s, e));
-            return;
+            return end(out, object_close_end(s, e));
         }
         i = j;
     }
+    Ok(())
 }
 
 // The member at i: past it, or 0 where none stands there.
-fn member(s: &[u8], i: usize) -> usize {
+fn member(out: &impl Print, s: &[u8], i: usize) -> io::Result<usize> {
     let k = string_end(s, i);
     if k == 0 {
-        return 0;
+        return Ok(0);
     }
     let v = colon_end(s, k);
     if v == 0 {
-        return 0;
+        return Ok(0);
     }
     let e = value_end(s, v, ITEM_DEPTH);
     if e == 0 {
-        return 0;
+        return Ok(0);
     }
-    name(s, i, k);
-    item(s, v, e);
-    e
+    name(out, s, i, k)?;
+    item(out, s, v, e)?;
+    Ok(e)
 }
 
 // A name, with a `=` where it means `as`.
-fn name(s: &[u8], from: usize, to: usize) {
-    write(b"  ");
+fn name(out: &impl Print, s: &[u8], from: usize, to: usize) -> io::Result<()> {
+    write(out, b"  ")?;
     if is_name(s, from, to, b"as") {
-        write(b"=");
+        write(out, b"=")?;
     }
-    part(s, from, to);
+    part(out, s, from, to)
 }
 
 // A value behind its kind, which the function that passes over it tells.
-fn item(s: &[u8], from: usize, to: usize) {
+fn item(out: &impl Print, s: &[u8], from: usize, to: usize) -> io::Result<()> {
     if string_end(s, from) == to {
-        write(b"  string ");
+        write(out, b"  string ")?;
     } else if number_end(s, from) == to {
-        write(b"  number ");
+        write(out, b"  number ")?;
     } else if scalar_end(s, from) == to {
-        write(b"  literal ");
+        write(out, b"  literal ")?;
     } else if from < s.len() {
-        container(s, from, to);
+        container(out, s, from, to)?;
     }
-    part(s, from, to);
+    part(out, s, from, to)
 }
 
-fn container(s: &[u8], from: usize, to: usize)
+fn container(out: &impl Print, s: &[u8], from: usize, to: usize) -> io::Result<()>
     requires { from < length s.now }
 {
     let c = s[from];
     if c == OPEN_ARRAY {
         if array_end(s, from + 1, INNER_DEPTH) == to {
-            write(b"  array ");
+            write(out, b"  array ")?;
         }
     } else if c == OPEN_OBJECT {
         if object_end(s, from + 1, INNER_DEPTH) == to {
-            write(b"  object ");
+            write(out, b"  object ")?;
         }
     }
+    Ok(())
 }
 
-fn part(s: &[u8], from: usize, to: usize) {
+fn part(out: &impl Print, s: &[u8], from: usize, to: usize) -> io::Result<()> {
     if from <= to {
         if to <= s.len() {
-            write(&s[from..to]);
+            write(out, &s[from..to])?;
         }
     }
+    Ok(())
 }
 
 // Where the array or the object ends, 0 where it is not JSON.
-fn end(e: usize) {
+fn end(out: &impl Print, e: usize) -> io::Result<()> {
     if e == 0 {
-        write(b"  broken");
-        return;
+        return write(out, b"  broken");
     }
-    write(b"  end at ");
-    io::print_decimal(STDOUT_FILENO, e as u64);
+    write(out, b"  end at ")?;
+    out.print(e)
 }
 
 // ---- rows of bytes
 
-fn rows() {
-    row(b"# each byte between quotes\n", 0);
-    row(b"# each byte past a backslash\n", 1);
-    row(b"# each byte as the first hex digit\n", 2);
-    row(b"# each byte as the last hex digit\n", 3);
-    row(b"# each byte alone\n", 4);
-    row(b"# each byte before a 1\n", 5);
-    row(b"# each byte past a 1\n", 6);
-    row(b"# each byte between two elements\n", 7);
+fn rows(out: &impl Print) -> io::Result<()> {
+    row(out, b"# each byte between quotes\n", 0)?;
+    row(out, b"# each byte past a backslash\n", 1)?;
+    row(out, b"# each byte as the first hex digit\n", 2)?;
+    row(out, b"# each byte as the last hex digit\n", 3)?;
+    row(out, b"# each byte alone\n", 4)?;
+    row(out, b"# each byte before a 1\n", 5)?;
+    row(out, b"# each byte past a 1\n", 6)?;
+    row(out, b"# each byte between two elements\n", 7)
 }
 
 // The answers for each byte at a place: 8 lines of 32.
-fn row(heading: &[u8], place: u8) {
-    write(heading);
-    let mut b: usize = 0;
-    while b < 256 {
+fn row(out: &impl Print, heading: &[u8], place: u8) -> io::Result<()> {
+    write(out, heading)?;
+    for b in 0..=255u8 {
         if place < 4 {
-            in_string(place, (b % 256) as u8);
+            in_string(out, place, b)?;
         } else {
-            outside(place, (b % 256) as u8);
+            outside(out, place, b)?;
         }
-        b += 1;
-        if b % 32 == 0 {
-            newline();
+        if b % 32 == 31 {
+            newline(out)?;
         }
     }
+    Ok(())
 }
 
-fn in_string(place: u8, b: u8) {
+fn in_string(out: &impl Print, place: u8, b: u8) -> io::Result<()> {
     if place == 0 {
-        sign_of(&[b'"', b, b'"']);
+        sign_of(out, &[b'"', b, b'"'])
     } else if place == 1 {
-        sign_of(&[b'"', b'\\', b, b'"']);
+        sign_of(out, &[b'"', b'\\', b, b'"'])
     } else if place == 2 {
-        sign_of(&[b'"', b'\\', b'u', b, b'0', b'0', b'0', b'"']);
+        sign_of(out, &[b'"', b'\\', b'u', b, b'0', b'0', b'0', b'"'])
     } else {
-        sign_of(&[b'"', b'\\', b'u', b'0', b'0', b'0', b, b'"']);
+        sign_of(out, &[b'"', b'\\', b'u', b'0', b'0', b'0', b, b'"'])
     }
 }
 
-fn outside(place: u8, b: u8) {
+fn outside(out: &impl Print, place: u8, b: u8) -> io::Result<()> {
     if place == 4 {
-        sign_of(&[b]);
+        sign_of(out, &[b])
     } else if place == 5 {
-        sign_of(&[b, b'1']);
+        sign_of(out, &[b, b'1'])
     } else if place == 6 {
-        sign_of(&[b'1', b]);
+        sign_of(out, &[b'1', b])
     } else {
-        sign_of(&[b'[', b'1', b, b'1', b']']);
+        sign_of(out, &[b'[', b'1', b, b'1', b']'])
     }
 }
 
-fn sign_of(s: &[u8]) {
+fn sign_of(out: &impl Print, s: &[u8]) -> io::Result<()> {
     if is_json(s) {
-        write(b"+");
+        write(out, b"+")
     } else {
-        write(b"-");
+        write(out, b"-")
     }
 }

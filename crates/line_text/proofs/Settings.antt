@@ -14,7 +14,7 @@ use Rattle.decimal.specs.Digits.{reads, refused}
 use Rattle.decimal.specs.Whole.{read_whole}
 use Rattle.settings.specs.Settings.{Config, shut}
 use Rattle.settings.specs.declared.Dialect.{Dialect}
-use Rattle.settings.specs.declared.Dialect.TheVariants.{K, M, Unknown}
+use Rattle.settings.specs.declared.Dialect.TheVariants.{Unknown}
 use Rattle.line_text.specs.declared.FirstLine.{FirstLine}
 use Rattle.line_text.specs.Opening.{space, by_letter, by_edition, dialect_of, with_depth, depth_and_name, line_one, config_on, Found}
 

@@ -23,7 +23,7 @@ use Rattle.entries.proofs.Tallies.{tally-bids, tally-asks}
 use Rattle.layout.proofs.Laws.{outline-is, outline-reads}
 use Rattle.entries.proofs.Claims.{AllHere, bad_at, bad-none, none-bad, FirstBad, first-bad}
 use Rattle.layout.specs.Layout.{is_snapshot, Layout, Envelope}
-use Rattle.layout.specs.Scan.{bad_at as layoutBad, is_printed, sum_of, no_outline, outline_from, outline_of, scan_of, scan_at}
+use Rattle.layout.specs.Scan.{bad_at as layoutBad, is_printed, sum_of, outline_of, scan_of, scan_at}
 use Rattle.layout.specs.declared.Outline.{Outline}
 use Rattle.layout.specs.declared.Scan.{Scan}
 use Rattle.message.specs.Meaning.{fails, passes, bad, decimals, entries_for, too_many, counted, laid_out, addressed}

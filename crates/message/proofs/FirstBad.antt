@@ -1,13 +1,12 @@
 -- The first bad text of a message, from where the first bad entry begins.
 -- Assumes nothing.
 use mathlib.Core.Path.{◌≡◌, refl, sym, ap, ◌∙◌}
-use mathlib.Core.List.{List, [], ◌∷◌}
+use mathlib.Core.List.{List, []}
 use mathlib.Core.Bool.{Bool, true, false, cond}
-use Prim.Native.Nat.{ℕ, ◌≤◌}
+use Prim.Native.Nat.{ℕ}
 use native.Mathlib.Omega.{arith}
 use borrow.Author.Tests.{eqb-true, eqb-false, eq-eqb, ne_eqb}
 use lib.Dec.{eqb}
-use lib.ListN.{length}
 use Rattle.decimal.specs.Digits.{reads}
 use Rattle.json_values.specs.Json.{Span}
 use Rattle.settings.specs.Settings.{Config, good}
@@ -23,7 +22,6 @@ use Rattle.message.specs.Meaning.{Checked, fails, passes, framed, bad, first_bad
 use Rattle.message.specs.Verdict.{verdict_of}
 use Rattle.message.specs.Bad.{part_of, form_of, bad_of, bad_in, Within, PartIs}
 use Rattle.answer.specs.declared.Answer.{Answer}
-use Rattle.message.specs.declared.Part.{Part}
 use Rattle.message.specs.declared.Verdict.{Verdict}
 use Rattle.message.specs.declared.Verdict.TheVariants.{Fails, Passes}
 use Rattle.message.proofs.Deciding.{no-bad, first-text}

@@ -1,6 +1,6 @@
 -- The members that a message's entries are collected from stand one after another in its text. Assumes nothing.
-use Prim.Native.Nat.{ℕ, zero, suc, ◌+◌, ◌≤◌, ◌<◌}
-use mathlib.Core.Path.{◌≡◌, refl, sym, ap, ◌∙◌, subst}
+use Prim.Native.Nat.{ℕ, ◌+◌, ◌≤◌, ◌<◌}
+use mathlib.Core.Path.{◌≡◌, refl, sym, subst}
 use mathlib.Core.Bool.{Bool, true, false, cond}
 use mathlib.Core.List.{List, [], ◌∷◌, ◌++◌}
 use native.Mathlib.Omega.{arith}
@@ -12,7 +12,7 @@ use Rattle.json_tokens.specs.Tokens.{At, scalar}
 use Rattle.json_tokens.proofs.Bounds.{bounds, string-in, separator-in}
 use Rattle.json_values.specs.Json.{Span, Pair, Items, items, no_items, items_end, elements, members, value}
 use Rattle.json_values.specs.Claims.{InOrder, end, then, IsElement, IsMember}
-use Rattle.json_values.proofs.Claims.{elements-in-order, members-in-order, ends-within}
+use Rattle.json_values.proofs.Claims.{elements-in-order, members-in-order}
 use Rattle.entries.specs.Places.{and_then, all, contents, array_at, object_at}
 use Rattle.entries.specs.Rows.{Entry}
 use Rattle.entries.specs.declared.Form.{Form}

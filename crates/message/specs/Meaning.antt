@@ -15,7 +15,7 @@ use Rattle.layout.specs.declared.Kind.{Kind}
 use Rattle.message_k.specs.LayoutK.{envelope_k}
 use Rattle.message_m.specs.LayoutM.{envelope_m}
 use Rattle.answer.specs.declared.Answer.{Answer}
-use Rattle.answer.specs.declared.Answer.TheVariants.{Shut, TooLong, NotJson, NotOurs, BadLayout, TooManyEntries, BadDecimal}
+use Rattle.answer.specs.declared.Answer.TheVariants.{TooLong, NotJson, NotOurs, BadLayout, TooManyEntries, BadDecimal}
 use Rattle.settings.specs.declared.Dialect.{Dialect}
 use Rattle.settings.specs.declared.Dialect.TheVariants.{K, M, Unknown}
 

@@ -1,6 +1,6 @@
 -- The loop over the elements of a message: the entries that the buffer has, by the objects among them. Assumes nothing.
-use Prim.Native.Nat.{ℕ, zero, suc, ◌+◌, ◌≤◌, ◌<◌}
-use mathlib.Core.Path.{◌≡◌, refl, sym, ap, ◌∙◌, subst}
+use Prim.Native.Nat.{ℕ, ◌+◌, ◌≤◌, ◌<◌}
+use mathlib.Core.Path.{◌≡◌, sym, ap, ◌∙◌, subst}
 use mathlib.Core.Bool.{Bool, true, false, true≢false, cond}
 use mathlib.Core.List.{List, [], ◌∷◌, ◌++◌, append-nil, append_assoc}
 use native.Mathlib.Omega.{arith}
@@ -14,7 +14,7 @@ use Rattle.json_values.specs.Json.{Span, Pair, Items, items, elements, value}
 use Rattle.json_values.specs.Fold.{fold_from, folded_in}
 use Rattle.json_values.proofs.Fold.{Loop, Left, made, over_elements}
 use Rattle.entries.specs.Places.{object_at}
-use Rattle.entries.specs.Tally.{met, none_yet, Tells, Kept}
+use Rattle.entries.specs.Tally.{met, Tells, Kept}
 use Rattle.entries.proofs.Tallies.{tells_none, kept-none}
 use Rattle.message_k.specs.MembersK.{held_in, no_members, ObjectRead}
 use Rattle.message_k.specs.PartsK.{up_to_six, with_outer, no_parts, with_part, ended_at, parts_in, PartsRead}

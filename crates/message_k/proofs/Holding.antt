@@ -1,8 +1,8 @@
 -- The loop over the members of an object: what was told, and the entries that the buffer has. Assumes nothing.
-use Prim.Native.Nat.{ℕ, ◌+◌, ◌≤◌, ◌<◌}
+use Prim.Native.Nat.{ℕ, ◌+◌, ◌≤◌}
 use mathlib.Core.Path.{◌≡◌, refl, sym, ap, ◌∙◌, subst}
-use mathlib.Core.Bool.{Bool, true, false, true≢false}
-use mathlib.Core.List.{List, []}
+use mathlib.Core.Bool.{true, false, true≢false}
+use mathlib.Core.List.{List}
 use native.Mathlib.Omega.{arith}
 use borrow.Author.Tests.{eq-eqb, ne_eqb}
 use lib.ListN.{length}
@@ -14,12 +14,12 @@ use Rattle.json_tokens.proofs.Bounds.{bounds}
 use Rattle.json_values.specs.Json.{Pair, Items, items, no_items, member, members, value}
 use Rattle.json_values.specs.Fold.{fold_from, folded_in}
 use Rattle.json_values.proofs.Bounds.{value_in}
-use Rattle.json_values.proofs.Fold.{Loop, Left, Stands, made, over_members, fold_start, fold-empty, fold_on, fold-last}
+use Rattle.json_values.proofs.Fold.{Loop, Left, Stands, made, over_members, fold_on, fold-last}
 use Rattle.entries.specs.Places.{contents, object_at}
 use Rattle.entries.specs.Rows.{Entry}
-use Rattle.entries.specs.Tally.{met, none_yet, Tells, Kept}
+use Rattle.entries.specs.Tally.{met, Tells, Kept}
 use Rattle.entries.specs.declared.Tally.{Tally}
-use Rattle.message_k.specs.MembersK.{with_held, held_in, with_member, no_members, closed_at, members_at, Added, MemberRead, ObjectRead}
+use Rattle.message_k.specs.MembersK.{with_held, held_in, with_member, no_members, closed_at, members_at, MemberRead, ObjectRead}
 use Rattle.message_k.specs.declared.Members.{Members}
 use Rattle.message_k.proofs.Objects.{object-end}
 

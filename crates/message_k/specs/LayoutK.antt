@@ -1,10 +1,10 @@
 -- Dialect K, as document 01 has it under "Messages". Assumes nothing: these are definitions.
-use Rattle.std.specs.Prelude.{ℕ, ◌+◌, Bool, true, false, ◌&&◌, ◌||◌, cond, List, [], ◌∷◌, ◌++◌, leb, eqb, length}
+use Rattle.std.specs.Prelude.{ℕ, ◌+◌, Bool, true, ◌&&◌, cond, List, [], ◌∷◌, ◌++◌, leb, eqb, length}
 use Rattle.text.specs.Text.{ascii}
 use Rattle.decimal.specs.Digits.{Reading, reads, refused, written}
 use Rattle.json_values.specs.Json.{Span, Pair, max_depth}
 use Rattle.json_values.specs.Names.{means}
-use Rattle.entries.specs.Places.{and_then, all, is_string, array_at, object_at, values_of, only, whole_at, quoted_checksum_at}
+use Rattle.entries.specs.Places.{and_then, all, array_at, object_at, values_of, only, whole_at, quoted_checksum_at}
 use Rattle.entries.specs.declared.Form.TheVariants.{Triple}
 use Rattle.layout.specs.Depths.{item_depth, side_depth}
 use Rattle.entries.specs.Rows.{Entry}

@@ -1,5 +1,5 @@
 -- What is told of the elements of a message of dialect K. Assumes nothing: these are definitions.
-use Rattle.std.specs.Prelude.{ℕ, ◌+◌, Bool, true, false, ◌&&◌, ◌||◌, cond, ◌≡◌, List, [], ◌∷◌, ◌++◌, leb, eqb, length}
+use Rattle.std.specs.Prelude.{ℕ, ◌+◌, Bool, true, false, ◌&&◌, cond, ◌≡◌, List, [], ◌∷◌, ◌++◌, leb, eqb, length}
 use Rattle.text.specs.Text.{ascii, byte_at}
 use Rattle.decimal.specs.Digits.{written, reads}
 use Rattle.edit.specs.Buffer.{buffer_words}
@@ -7,7 +7,7 @@ use Rattle.json_tokens.specs.Bytes.{open_object}
 use Rattle.json_values.specs.Json.{Span, Pair, Items, items}
 use Rattle.entries.specs.Tally.{Kept}
 use Rattle.json_values.specs.Names.{means}
-use Rattle.entries.specs.Places.{is_string, object_at, whole_at}
+use Rattle.entries.specs.Places.{object_at, whole_at}
 use Rattle.layout.specs.Depths.{item_depth}
 use Rattle.layout.specs.Scan.{no_outline}
 use Rattle.json_values.specs.Fold.{folded_in}

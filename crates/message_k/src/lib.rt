@@ -505,6 +505,7 @@ fn is_snapshot(one: Members) -> bool
 }
 
 // Whether the objects are an update's: `each` says that each has `a` or `b`, and `before` is told before the last object.
+#[tactic(auto, unfolding(crate::specs::MembersK::update_by))]
 fn is_update(each: bool, before: Members, all: Members) -> bool
     ensures { result ≡ update_by each before all }
 {

@@ -5,7 +5,7 @@ use Rattle.text.specs.Text.{ascii}
 use Rattle.decimal.specs.Digits.{Reading, reads, refused}
 use Rattle.edit.specs.Buffer.{buffer_words}
 use Rattle.edit.specs.declared.Side.TheVariants.{Bids, Asks}
-use Rattle.json_values.specs.Json.{Span, Pair, value}
+use Rattle.json_values.specs.Json.{Span, Pair}
 use Rattle.json_values.specs.Which.{which}
 use Rattle.json_values.specs.Names.{means}
 use Rattle.json_values.specs.Fold.{fold_from}

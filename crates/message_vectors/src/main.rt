@@ -17,11 +17,12 @@ use answer::number_of;
 use decimal::{Decimal, ParsedWhole};
 use edit::{BUFFER_WORDS, MAX_BUFFERED, Side};
 use layout::{Outline, is_snapshot};
-use libc::{STDIN_FILENO, STDOUT_FILENO};
 use line_text::read_settings;
 use lines::{LINE_END, find};
 use message::Verdict;
+use reading::read_full;
 use settings::Dialect;
+use std::io;
 
 const BLANK: u8 = 32;
 
@@ -37,10 +38,10 @@ struct Config {
     to: usize,
 }
 
-fn main() {
+fn main(rt: HostRuntime) -> io::Result<()> {
     let mut table = empty_table();
-    let n = io::read_full(STDIN_FILENO, &mut table);
-    run_lines(&table[..n]);
+    let n = read_full(&mut rt.stdin(), &mut table)?;
+    run_lines(&rt, &table[..n])
 }
 
 fn empty_table() -> [u8; 262144]
@@ -49,18 +50,19 @@ fn empty_table() -> [u8; 262144]
     [0; 262144]
 }
 
-fn run_lines(s: &[u8]) {
+fn run_lines(out: &impl Print, s: &[u8]) -> io::Result<()> {
     let mut terms = no_terms();
     let mut i = 0;
     while i < s.len() {
         let e = find(s, i, LINE_END);
-        terms = run_line(s, terms, i, e);
-        write(b"\n");
+        terms = run_line(out, s, terms, i, e)?;
+        write(out, b"\n")?;
         if s.len() <= e {
-            return;
+            return Ok(());
         }
         i = e + 1;
     }
+    Ok(())
 }
 
 fn no_terms() -> Config {
@@ -73,28 +75,28 @@ fn no_terms() -> Config {
 }
 
 // Runs the line from `from` to `to`, and answers the settings for the next one.
-fn run_line(s: &[u8], terms: Config, from: usize, to: usize) -> Config
+fn run_line(out: &impl Print, s: &[u8], terms: Config, from: usize, to: usize) -> io::Result<Config>
     requires { (from ≤ to) × (to ≤ length s.now) }
 {
     if to - from < 2 {
-        write(&s[from..to]);
-        return terms;
+        write(out, &s[from..to])?;
+        return Ok(terms);
     }
     let c = s[from];
     let start = from + 2;
     if c == b'<' {
-        run_message(s, terms, &s[start..to]);
-        return terms;
+        run_message(out, s, terms, &s[start..to])?;
+        return Ok(terms);
     }
     if c == b'+' {
-        run_padded(s, terms, start, to);
-        return terms;
+        run_padded(out, s, terms, start, to)?;
+        return Ok(terms);
     }
-    write(&s[from..to]);
+    write(out, &s[from..to])?;
     if c == b'=' {
-        return read_terms(s, start, to);
+        return Ok(read_terms(s, start, to));
     }
-    terms
+    Ok(terms)
 }
 
 fn read_terms(s: &[u8], from: usize, to: usize) -> Config
@@ -122,25 +124,32 @@ fn whole(s: &[u8]) -> usize {
     }
 }
 
-fn run_padded(s: &[u8], terms: Config, from: usize, to: usize)
+fn run_padded(out: &impl Print, s: &[u8], terms: Config, from: usize, to: usize) -> io::Result<()>
     requires { (from ≤ to) × (to ≤ length s.now) }
 {
     let end = find(s, from, BLANK);
     if to <= end {
-        return;
+        return Ok(());
     }
     let start = end + 1;
     let most = whole(&s[from..end]);
     let padded = pad(&s[start..to]);
-    run_front(s, terms, &padded, most);
+    run_front(out, s, terms, &padded, most)
 }
 
 // Runs the message that the first bytes of a text are.
-fn run_front(s: &[u8], terms: Config, text: &[u8], most: usize) {
+fn run_front(
+    out: &impl Print,
+    s: &[u8],
+    terms: Config,
+    text: &[u8],
+    most: usize,
+) -> io::Result<()> {
     let from = 0;
     if most <= text.len() {
-        run_message(s, terms, &text[from..most]);
+        run_message(out, s, terms, &text[from..most])?;
     }
+    Ok(())
 }
 
 // A text with blanks past it, as far as it fits.
@@ -148,103 +157,127 @@ fn pad(text: &[u8]) -> [u8; 40000]
     ensures { 40000 ≡ length result }
 {
     let mut padded = [BLANK; 40000];
-    let mut i = 0;
-    while i < text.len() {
+    for i in 0..text.len() {
         if MAX_PADDED <= i {
             return padded;
         }
         padded[i] = text[i];
-        i += 1;
     }
     padded
 }
 
-fn run_message(s: &[u8], terms: Config, text: &[u8]) {
+fn run_message(out: &impl Print, s: &[u8], terms: Config, text: &[u8]) -> io::Result<()> {
     let from = terms.from;
     let to = terms.to;
     if from <= to {
         if to <= s.len() {
             let dialect = terms.dialect;
-            tell(dialect, terms.depth, &s[from..to], text);
+            tell(out, dialect, terms.depth, &s[from..to], text)?;
         }
     }
+    Ok(())
 }
 
-fn tell(dialect: Dialect, depth: usize, name: &[u8], text: &[u8]) {
+fn tell(
+    out: &impl Print,
+    dialect: Dialect,
+    depth: usize,
+    name: &[u8],
+    text: &[u8],
+) -> io::Result<()> {
     match message::read(dialect, depth, name, text) {
-        Verdict::Fails(answer) => write_number(number_of(answer)),
-        Verdict::Passes(outline) => tell_outline(outline, is_linked(dialect)),
+        Verdict::Fails(answer) => write_number(out, number_of(answer))?,
+        Verdict::Passes(outline) => tell_outline(out, outline, is_linked(dialect))?,
     }
-    tell_entries(dialect, depth, name, text);
-    tell_bad(dialect, depth, name, text);
+    tell_entries(out, dialect, depth, name, text)?;
+    tell_bad(out, dialect, depth, name, text)
 }
 
 // The entries of a message that passes, as the buffer has them.
-fn tell_entries(dialect: Dialect, depth: usize, name: &[u8], text: &[u8]) {
+fn tell_entries(
+    out: &impl Print,
+    dialect: Dialect,
+    depth: usize,
+    name: &[u8],
+    text: &[u8],
+) -> io::Result<()> {
     if settings::is_good(dialect, depth, name) {
         let mut buffer = [0; BUFFER_WORDS];
         match message::read_open(dialect, depth, name, text, &mut buffer) {
             Verdict::Fails(_) => {}
-            Verdict::Passes(outline) => tell_both(&buffer, outline.bids, outline.asks),
+            Verdict::Passes(outline) => tell_both(out, &buffer, outline.bids, outline.asks)?,
         }
     }
+    Ok(())
 }
 
-fn tell_both(buffer: &[u64; BUFFER_WORDS], bids: usize, asks: usize)
+fn tell_both(
+    out: &impl Print,
+    buffer: &[u64; BUFFER_WORDS],
+    bids: usize,
+    asks: usize,
+) -> io::Result<()>
     requires { length buffer.now ≡ buffer_words }
 {
     if bids <= MAX_BUFFERED {
         if asks <= MAX_BUFFERED {
-            tell_first(buffer, bids + asks);
+            tell_first(out, buffer, bids + asks)?;
         }
     }
+    Ok(())
 }
 
 // The first n entries of the buffer, or all that it has.
-fn tell_first(buffer: &[u64; BUFFER_WORDS], n: usize)
+fn tell_first(out: &impl Print, buffer: &[u64; BUFFER_WORDS], n: usize) -> io::Result<()>
     requires { length buffer.now ≡ buffer_words }
 {
-    let mut k = 0;
-    while k < n {
+    for k in 0..n {
         if MAX_BUFFERED <= k {
-            return;
+            return Ok(());
         }
         let entry = edit::entry_in(buffer, k);
         let side = entry.side;
-        write_letter(side);
-        write_decimal(entry.price);
-        write_decimal(entry.size);
-        k += 1;
+        write_letter(out, side)?;
+        write_decimal(out, entry.price)?;
+        write_decimal(out, entry.size)?;
     }
+    Ok(())
 }
 
-fn write_letter(side: Side) {
+fn write_letter(out: &impl Print, side: Side) -> io::Result<()> {
     match side {
-        Side::Bids => write(b" b"),
-        Side::Asks => write(b" a"),
+        Side::Bids => write(out, b" b"),
+        Side::Asks => write(out, b" a"),
     }
 }
 
-fn write_decimal(a: Decimal) {
-    write(b" ");
+fn write_decimal(out: &impl Print, a: Decimal) -> io::Result<()> {
+    write(out, b" ")?;
     let parts = decimal::parts_of(a);
-    write_number(parts.digits);
-    write(b"/");
-    write_number(parts.code);
+    write_number(out, parts.digits)?;
+    write(out, b"/")?;
+    write_number(out, parts.code)
 }
 
 // Where the first bad decimal lies, and its text.
-fn tell_bad(dialect: Dialect, depth: usize, name: &[u8], text: &[u8]) {
+fn tell_bad(
+    out: &impl Print,
+    dialect: Dialect,
+    depth: usize,
+    name: &[u8],
+    text: &[u8],
+) -> io::Result<()> {
     let part = message::bad_place(dialect, depth, name, text);
-    write(b" bad ");
-    write_number(part.from as u64);
-    write(b" ");
-    write_number(part.to as u64);
+    write(out, b" bad ")?;
+    write_number(out, part.from as u64)?;
+    write(out, b" ")?;
+    write_number(out, part.to as u64)?;
     let bad = message::bad_decimal(dialect, depth, name, text);
     if 0 < bad.len() {
-        write(b" ");
-        write(bad);
+        write(out, b" ")?;
+        write(out, bad)?;
     }
+    Ok(())
 }
 
 // Whether an update names the sequence number before its own.
@@ -256,36 +289,37 @@ fn is_linked(dialect: Dialect) -> bool {
     }
 }
 
-fn tell_outline(outline: Outline, linked: bool) {
+fn tell_outline(out: &impl Print, outline: Outline, linked: bool) -> io::Result<()> {
     let kind = outline.kind;
     if is_snapshot(kind) {
-        write(b"0 snapshot");
+        write(out, b"0 snapshot")?;
     } else {
-        write(b"0 update");
+        write(out, b"0 update")?;
     }
-    write(b" bids ");
-    write_number(outline.bids as u64);
-    write(b" asks ");
-    write_number(outline.asks as u64);
+    write(out, b" bids ")?;
+    write_number(out, outline.bids as u64)?;
+    write(out, b" asks ")?;
+    write_number(out, outline.asks as u64)?;
     if outline.printed {
-        write(b" checksum ");
-        write_number(outline.checksum as u64);
+        write(out, b" checksum ")?;
+        write_number(out, outline.checksum as u64)?;
     }
-    write(b" number ");
-    write_number(outline.number);
+    write(out, b" number ")?;
+    write_number(out, outline.number)?;
     if linked {
         if is_snapshot(kind) {
-            return;
+            return Ok(());
         }
-        write(b" previous ");
-        write_number(outline.previous);
+        write(out, b" previous ")?;
+        write_number(out, outline.previous)?;
     }
+    Ok(())
 }
 
-fn write(s: &[u8]) {
-    io::write_all(STDOUT_FILENO, s);
+fn write(out: &impl Print, s: &[u8]) -> io::Result<()> {
+    out.write_all(s)
 }
 
-fn write_number(n: u64) {
-    io::print_decimal(STDOUT_FILENO, n);
+fn write_number(out: &impl Print, n: u64) -> io::Result<()> {
+    out.print(n)
 }

@@ -1,6 +1,6 @@
 -- The state after the pieces of orders is that of the text of their book. Assumes nothing.
 use Prim.Native.Nat.{ℕ, zero, suc, ◌+◌, ◌*◌, ◌≤◌, ◌<◌}
-use mathlib.Core.Path.{◌≡◌, refl, sym, ap, ap₂, ◌∙◌, subst}
+use mathlib.Core.Path.{◌≡◌, refl, sym, ap, ◌∙◌, subst}
 use mathlib.Core.List.{List, [], ◌∷◌, ◌++◌, map}
 use native.Mathlib.Omega.{arith}
 use lib.Bits.{bit_xor}
@@ -21,10 +21,10 @@ use Rattle.orders.specs.declared.Order.{Order}
 use Rattle.orders.specs.Orders.{SingleOrder, plain}
 use Rattle.orders.specs.Orders as orders·
 use Rattle.orders.specs.Words.{order_price, order_size, coded, shown, Sound, orders_in, held, no_order}
-use Rattle.orders.specs.Kept.{Good, SummedTo}
+use Rattle.orders.specs.Kept.{SummedTo}
 use Rattle.orders.proofs.Held.{orders-room, held-length}
 use Rattle.orders.proofs.Mapping.{map-best}
-use Rattle.order_checksum.specs.Text.{order_piece, order_checksum_text, levels_of}
+use Rattle.order_checksum.specs.Text.{order_piece, levels_of}
 
 -- ---- a turn of the loop that sums
 

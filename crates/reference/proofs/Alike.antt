@@ -1,7 +1,7 @@
 -- Two live books with the same sides and number answer the questions on them alike; and what the writer leaves in the buffer. Assumes nothing.
 use mathlib.Core.Path.{◌≡◌, refl, sym, ap, ◌∙◌}
-use mathlib.Core.List.{List, [], ◌∷◌}
-use mathlib.Core.Bool.{Bool, true, false, true≢false, false≢true, cond}
+use mathlib.Core.List.{List}
+use mathlib.Core.Bool.{Bool, true, false, false≢true, cond}
 use Prim.Native.Nat.{ℕ, ◌+◌}
 use native.Mathlib.Omega.{arith}
 use lib.Dec.{ltb}
@@ -9,9 +9,8 @@ use lib.ListN.{length, take, drop}
 use lib.Seq.{take_at}
 use Rattle.decimal.specs.Buffer.{overlaid}
 use Rattle.answer.specs.Answers.{answer_number, is_taken}
-use Rattle.answer.specs.declared.Answer.{Answer}
 use Rattle.answer.specs.declared.Answer.TheVariants.{Taken, Shut, NoSnapshot, NoRoom}
-use Rattle.reference.specs.Reference.{Status, shut, waiting, live, is_shut, is_live, Last, Reference, stands, side_of, text_in, snapshot_text, Question, how_many, level_at, which_number, how_many_updates, write, amount, Response, respond, refusal, replied, question, does, Reply}
+use Rattle.reference.specs.Reference.{Status, shut, waiting, live, is_shut, is_live, Reference, stands, side_of, text_in, snapshot_text, Question, how_many, level_at, which_number, how_many_updates, write, amount, Response, respond, refusal, replied, question, does}
 use Rattle.settings.specs.Settings.{Config}
 use Rattle.settings.specs.declared.Dialect.{Dialect}
 use Rattle.settings.specs.declared.Dialect.TheVariants.{K, M, Unknown}

@@ -2,16 +2,14 @@
 -- Assumes nothing.
 use mathlib.Core.Path.{◌≡◌, refl, sym, ap, ap₂, ◌∙◌}
 use mathlib.Core.List.{List, [], ◌∷◌, ◌++◌}
-use mathlib.Core.Bool.{Bool, true, false, true≢false, false≢true, cond, or-false}
-use Prim.Native.Nat.{ℕ, ◌≤◌}
-use native.Mathlib.Omega.{arith}
+use mathlib.Core.Bool.{Bool, true, false, true≢false, cond, or-false}
+use Prim.Native.Nat.{ℕ}
 use Rattle.settings.specs.Settings.{Config, kept, good}
 use Rattle.answer.specs.Answers.{answer_number, one_of, to_messages, to_questions, is_taken, leaves_status}
-use Rattle.answer.proofs.Laws.{not_taken, other-answer, taken-answer}
+use Rattle.answer.proofs.Laws.{not_taken, other-answer}
 use Rattle.message.specs.Meaning.{Message, decodes, decode}
-use Rattle.answer.specs.declared.Answer.{Answer}
 use Rattle.answer.specs.declared.Answer.TheVariants.{Taken}
-use Rattle.reference.specs.Reference.{Status, shut, waiting, live, is_shut, is_live, Reference, opened, taken, levels_moved, taken_by, After, amount, receive, Question, how_many, level_at, which_number, how_many_updates, write, zeros, Response, respond, refusal, replied, Reply, Ask, message, question, does, Call, replies_to, final, with_status}
+use Rattle.reference.specs.Reference.{Status, shut, waiting, live, is_shut, is_live, Reference, opened, taken_by, After, amount, receive, Question, how_many, level_at, which_number, how_many_updates, write, zeros, Response, respond, refusal, replied, Reply, Ask, message, question, does, Call, replies_to, final, with_status}
 use lib.ListN.{length}
 use Rattle.decimal.specs.Buffer.{overlaid}
 use Rattle.decimal.proofs.Buffer.{overlaid-none}

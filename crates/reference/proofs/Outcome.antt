@@ -3,28 +3,25 @@
 use mathlib.Core.Path.{◌≡◌, refl, sym, ap, ap₂, ◌∙◌}
 use mathlib.Core.List.{List, [], ◌∷◌}
 use mathlib.Core.Bool.{Bool, true, false, true≢false, false≢true, ◌&&◌, ◌||◌, not, cond}
-use Prim.Native.Nat.{ℕ, ◌≤◌}
+use Prim.Native.Nat.{ℕ}
 use native.Mathlib.Omega.{arith}
-use borrow.Author.Tests.{ltb-true, ltb-false, lt-ltb, le-ltb, leb-true, leb-false, lt-leb, eqb-true, eq-eqb, not-false}
+use borrow.Author.Tests.{ltb-true, ltb-false, lt-ltb, le-ltb, leb-false, lt-leb, eqb-true, eq-eqb, not-false}
 use lib.Dec.{leb, ltb, eqb}
 use lib.ListN.{length}
 use Rattle.decimal.specs.Decimal.{value}
 use Rattle.decimal.specs.Digits.{Reading, reads, refused}
 use Rattle.settings.specs.Settings.{Config}
-use Rattle.settings.specs.declared.Rules.{Rules}
 use Rattle.edit.specs.Edit.{PriceLevel, shown_price}
 use Rattle.edit.specs.declared.Side.TheVariants.{Bids, Asks}
 use Rattle.level.specs.Side.{names_twice, crosses}
 use Rattle.entries.specs.Places.{top}
-use Rattle.layout.specs.declared.Kind.{Kind}
-use Rattle.layout.specs.declared.Kind.TheVariants.{Snapshot, Update}
+use Rattle.layout.specs.declared.Kind.TheVariants.{Update}
 use Rattle.layout.specs.Layout.{is_snapshot, Printed, printed, unprinted, Layout, Envelope}
 use Rattle.answer.specs.Answers.{answer_number, one_of, to_messages, is_taken, leaves_status}
-use Rattle.answer.proofs.Laws.{taken-answer}
 use Rattle.message.specs.Meaning.{Message, Decoded, refuses, decodes, decode, Checked, fails, passes, envelope_in, checked, decoded_of}
 use Rattle.answer.specs.declared.Answer.{Answer}
-use Rattle.answer.specs.declared.Answer.TheVariants.{Taken, Shut, TooLong, NotJson, NotOurs, BadLayout, TooManyEntries, BadDecimal, PriceTwice, NoSnapshot, OldNumber, TooManyLevels, WrongChecksum, NoLevel, NoRoom, Crossed}
-use Rattle.reference.specs.Reference.{Status, shut, waiting, live, is_shut, is_live, Sides, Reference, rules, checksum_of, edits_for, prices_of, names_price_twice, lacks_snapshot, is_old, has_too_many, has_crossed, differs, has_wrong_checksum, sides_after, verdict, taken, with_status, taken_by, refused_by, answered, received, receive}
+use Rattle.answer.specs.declared.Answer.TheVariants.{Taken, Shut, PriceTwice, NoSnapshot, OldNumber, TooManyLevels, WrongChecksum, Crossed}
+use Rattle.reference.specs.Reference.{Status, shut, waiting, live, is_shut, is_live, Sides, Reference, rules, checksum_of, edits_for, prices_of, names_price_twice, lacks_snapshot, is_old, has_too_many, has_crossed, differs, has_wrong_checksum, sides_after, verdict, with_status, taken_by, refused_by, answered, received, receive}
 use Rattle.reference.proofs.Snapshot.{of-snapshot, of-update, a-snapshot, an-update}
 use Rattle.reference.proofs.Checks.{Refusals, Read, Either, checked-either}
 use Rattle.reference.specs.Claims.{Ready, when_live, restarts, Agrees, carries_none, the_same, Uncrossed, Acceptable}

@@ -8,11 +8,11 @@ use native.Mathlib.Omega.{arith}
 use Rattle.answer.proofs.Laws.{is-taken}
 use Rattle.settings.specs.Settings.{Config, kept, good}
 use Rattle.settings.specs.declared.Dialect.TheVariants.{K}
-use Rattle.answer.specs.Answers.{answer_number, is_taken, leaves_status}
+use Rattle.answer.specs.Answers.{is_taken, leaves_status}
 use Rattle.message.specs.Meaning.{Message, Decoded, refuses, decodes, decode}
 use Rattle.answer.specs.declared.Answer.{Answer}
 use Rattle.answer.specs.declared.Answer.TheVariants.{Taken}
-use Rattle.reference.specs.Reference.{Status, shut, waiting, live, is_shut, is_live, Reference, opened, rules, sides_after, levels_moved, taken, After, receive, Question, Reply, Ask, message, question, does, replied, Call, replies_to, final, with_status}
+use Rattle.reference.specs.Reference.{Status, shut, waiting, live, is_shut, is_live, Reference, opened, sides_after, levels_moved, taken, After, receive, Reply, Ask, message, question, does, replied, Call, replies_to, final, with_status}
 use Rattle.reference.specs.Claims.{Ready, when_live, restarts, Uncrossed, Acceptable, if_answered, taken_in, taken_of, any_snapshot, since_snapshot, Begins, begins, rebuilt}
 use Rattle.layout.specs.Layout.{is_snapshot}
 use Rattle.layout.specs.declared.Kind.TheVariants.{Snapshot}

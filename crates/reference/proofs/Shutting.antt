@@ -7,18 +7,18 @@ use native.Mathlib.Omega.{arith}
 use lib.Dec.{eqb}
 use lib.ListN.{length}
 use Rattle.decimal.specs.Digits.{Reading, reads, refused}
-use Rattle.settings.specs.Settings.{Config, good}
+use Rattle.settings.specs.Settings.{Config}
 use Rattle.entries.specs.Places.{top}
 use Rattle.layout.specs.Layout.{Layout, Envelope}
 use Rattle.answer.specs.Answers.{answer_number, is_taken}
 use Rattle.message.specs.Meaning.{Message, Decoded, refuses, decodes, decode, Checked, fails, passes, envelope_in, checked, decoded_of}
 use Rattle.answer.specs.declared.Answer.{Answer}
 use Rattle.answer.specs.declared.Answer.TheVariants.{Taken, Shut, PriceTwice, NoSnapshot, OldNumber, TooManyLevels, WrongChecksum, Crossed}
-use Rattle.reference.specs.Reference.{shut, waiting, is_shut, Reference, opened, names_price_twice, lacks_snapshot, is_old, has_too_many, has_crossed, has_wrong_checksum, verdict, taken_by, refused_by, answered, received, receive, stands, Question, Response, respond, refusal, replied, Ask, message, question, does, Call, final}
+use Rattle.reference.specs.Reference.{is_shut, Reference, opened, names_price_twice, lacks_snapshot, is_old, has_too_many, has_crossed, has_wrong_checksum, verdict, taken_by, refused_by, answered, received, receive, stands, Response, respond, refusal, replied, Ask, message, question, does, final}
 use Rattle.reference.specs.Claims.{SettingsDecide}
 use Rattle.reference.proofs.Checks.{Refusals, Read, Either, checked-either}
 use Rattle.reference.proofs.Questions.{lacks-one}
-use Rattle.reference.proofs.Runs.{Reached, reached}
+use Rattle.reference.proofs.Runs.{reached}
 
 -- an answer other than 1
 Other : Answer → Type 0

@@ -1,6 +1,6 @@
 -- The reference book (document 01: "the plain book"): from the settings and what each call is given, what the book is and what it answers.
 -- Assumes nothing: these are definitions.
-use Rattle.std.specs.Prelude.{ℕ, zero, suc, ◌+◌, Bool, true, false, ◌&&◌, ◌||◌, not, cond, List, [], ◌∷◌, map, leb, ltb, eqb, length, take, get_or}
+use Rattle.std.specs.Prelude.{ℕ, ◌+◌, Bool, true, false, ◌&&◌, ◌||◌, not, cond, List, [], ◌∷◌, map, leb, ltb, eqb, length, take, get_or}
 use Rattle.decimal.specs.Decimal.{Number}
 use Rattle.decimal.specs.Buffer.{overlaid}
 use Rattle.settings.specs.Settings.{Config, good, kept}
@@ -22,7 +22,7 @@ use Rattle.layout.specs.Layout.{is_snapshot, Printed, printed, unprinted}
 use Rattle.answer.specs.Answers.{is_taken, leaves_status}
 use Rattle.message.specs.Meaning.{SidedEdit, Message, Decoded, refuses, decodes, decode}
 use Rattle.answer.specs.declared.Answer.{Answer}
-use Rattle.answer.specs.declared.Answer.TheVariants.{Taken, Shut, TooLong, NotJson, NotOurs, BadLayout, TooManyEntries, BadDecimal, PriceTwice, NoSnapshot, OldNumber, TooManyLevels, WrongChecksum, NoLevel, NoRoom, Crossed}
+use Rattle.answer.specs.declared.Answer.TheVariants.{Taken, Shut, PriceTwice, NoSnapshot, OldNumber, TooManyLevels, WrongChecksum, NoLevel, NoRoom, Crossed}
 use Rattle.writer.specs.Snapshot.{k_snapshot, m_snapshot}
 use Rattle.reference.specs.declared.Scope.{Scope}
 use Rattle.reference.specs.declared.Scope.TheVariants.{Current, LastGood}

@@ -1,13 +1,10 @@
 -- Laws of one call: what its header asks, and the book's answer as words. Assumes nothing.
-use Prim.Native.Nat.{ℕ, ◌+◌, ◌-◌, ◌≤◌, ◌<◌}
+use Prim.Native.Nat.{ℕ}
 use mathlib.Core.Path.{◌≡◌, refl, sym, ap, ap₂, ◌∙◌, subst}
-use mathlib.Core.Bool.{true, false}
-use mathlib.Core.List.{List, [], ◌∷◌, ◌++◌}
+use mathlib.Core.List.{List, ◌∷◌}
 use native.Mathlib.Omega.{arith}
 use borrow.Author.Tests.{ne_eqb}
-use lib.Dec.{eqb}
-use lib.ListN.{length, take, drop, length-drop}
-use lib.Seq.{take_all}
+use lib.ListN.{drop}
 use Rattle.answer.specs.Answers.{answer_number}
 use Rattle.answer.specs.declared.Answer.{Answer}
 use Rattle.edit.specs.declared.Side.{Side}
@@ -17,7 +14,7 @@ use Rattle.book.specs.declared.Step.{Step}
 use Rattle.book.specs.declared.CountsReply.{CountsReply}
 use Rattle.book.specs.declared.LevelReply.{LevelReply}
 use Rattle.book.specs.declared.NumberReply.{NumberReply}
-use Rattle.reference.specs.Reference.{Reference, Reply, Value, amount, Ask, message, question, replied, how_many, level_at, which_number, how_many_updates, write, does, receive}
+use Rattle.reference.specs.Reference.{Reference, Value, amount, Ask, message, question, replied, how_many, level_at, which_number, how_many_updates, write, does, receive}
 use Rattle.reference.proofs.Claims.{same-buffer}
 use Rattle.book.specs.Shown.{Good, shows, Received, AnswersCounts, AnswersLevel, AnswersAmount, Wrote}
 use Rattle.text.specs.Words.{word_at}

@@ -1,7 +1,7 @@
 -- The claims about scripts: what a word holds is read back, so that each call, and each list of calls, is. Assumes nothing.
 use Prim.Native.Nat.{ℕ, zero, suc, ◌+◌, ◌-◌, ◌*◌, ◌/◌, ◌%◌, ◌^◌, ◌≤◌, ◌<◌}
-use mathlib.Core.Path.{◌≡◌, refl, sym, ap, ap₂, ◌∙◌, subst}
-use mathlib.Core.Bool.{Bool, true, false}
+use mathlib.Core.Path.{◌≡◌, refl, sym, ap, ap₂, ◌∙◌}
+use mathlib.Core.Bool.{true}
 use mathlib.Core.List.{List, [], ◌∷◌, ◌++◌, append_assoc}
 use native.Mathlib.Nat.{mul-suc, not-suc-le-zero}
 use native.Mathlib.Omega.{arith}
@@ -17,11 +17,11 @@ use Rattle.edit.specs.declared.Side.{Side}
 use Rattle.edit.specs.declared.Side.TheVariants.{Bids, Asks}
 use Rattle.reference.specs.declared.Scope.{Scope}
 use Rattle.reference.specs.declared.Scope.TheVariants.{Current, LastGood}
-use Rattle.reference.specs.Reference.{Ask, message, question, how_many, level_at, which_number, how_many_updates, write, Call, replies_to, opened}
+use Rattle.reference.specs.Reference.{Ask, message, question, how_many, level_at, which_number, how_many_updates, write, Call}
 use Rattle.reference.specs.Claims.{call}
 use Rattle.reference.proofs.Claims.{from-snapshot}
-use Rattle.replay.specs.Format.{bytes_of, words_of, is_whole, scope_of, side_of, ask_of, call_length, reply_length, called, decode, script, laid_in}
-use Rattle.replay.specs.Claims.{opcode_of, scope_number, side_number, scope_in, side_in, index_in, message_in, header_words, script_of, out_of, Holds, Plain, EveryList, EveryScript, Listed, ReplayedList, ReplayedSnapshot}
+use Rattle.replay.specs.Format.{bytes_of, words_of, is_whole, scope_of, side_of, ask_of, call_length, reply_length, called, decode}
+use Rattle.replay.specs.Claims.{opcode_of, scope_number, side_number, scope_in, side_in, index_in, message_in, header_words, script_of, out_of, Holds, EveryList, EveryScript, ReplayedList, ReplayedSnapshot}
 use Rattle.replay.proofs.Fields.{length-bytes, whole_by}
 use Rattle.replay.proofs.Laying.{length-words}
 

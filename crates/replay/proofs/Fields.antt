@@ -1,13 +1,13 @@
 -- Laws of words, and of a call that is whole. Assumes nothing.
-use Prim.Native.Nat.{ℕ, zero, suc, ◌+◌, ◌-◌, ◌/◌, ◌%◌, ◌≤◌, ◌<◌}
-use mathlib.Core.Path.{◌≡◌, refl, sym, ap, ◌∙◌}
+use Prim.Native.Nat.{ℕ, zero, suc, ◌-◌, ◌/◌, ◌%◌, ◌≤◌, ◌<◌}
+use mathlib.Core.Path.{◌≡◌, refl, sym, ap}
 use mathlib.Core.Bool.{Bool, true, false, ◌&&◌, true≢false}
-use mathlib.Core.List.{List, [], ◌∷◌, ◌++◌}
+use mathlib.Core.List.{List, [], ◌∷◌}
 use native.Mathlib.Omega.{arith}
 use borrow.Author.Tests.{leb-true, le-leb, lt-leb}
 use lib.Dec.{leb}
-use lib.ListN.{length, length-append}
-use Rattle.replay.specs.Format.{bytes_of, words_of, opcode, message_length, buffer_length, is_whole, call_length, reply_length}
+use lib.ListN.{length}
+use Rattle.replay.specs.Format.{bytes_of, opcode, message_length, buffer_length, is_whole}
 
 pub length-bytes : (k n : ℕ) → length (bytes_of k n) ≡ k
 unfolding bytes_of

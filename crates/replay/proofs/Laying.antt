@@ -1,6 +1,6 @@
 -- Laws of a reply in its part of `out`: its words laid one after another, and the lent buffer behind them. Assumes nothing.
-use Prim.Native.Nat.{ℕ, zero, suc, ◌+◌, ◌-◌, ◌*◌, ◌≤◌, ◌<◌}
-use mathlib.Core.Path.{◌≡◌, refl, sym, ap, ap₂, ◌∙◌, subst}
+use Prim.Native.Nat.{ℕ, ◌+◌, ◌-◌, ◌*◌, ◌≤◌}
+use mathlib.Core.Path.{◌≡◌, refl, ap, ap₂, ◌∙◌}
 use mathlib.Core.List.{List, [], ◌∷◌, ◌++◌, append-nil}
 use native.Mathlib.Omega.{arith}
 use lib.ListN.{length, take, drop, length-append, length-drop, drop_of_length-le}
@@ -8,9 +8,8 @@ use lib.Seq.{take_all, drop_at, length-take-le}
 use Rattle.decimal.specs.Buffer.{overlaid}
 use Rattle.writer.specs.Parts.{Put}
 use Rattle.writer.proofs.Owed.{Owed, Whole, owed_all, owed-rest, put-none}
-use Rattle.reference.specs.Reference.{Reference, Ask, does}
-use Rattle.book.specs.Shown.{Good, shows}
-use Rattle.replay.specs.Format.{bytes_of, words_of, reply_words, reply_bytes}
+use Rattle.reference.specs.Reference.{Reference, Ask}
+use Rattle.replay.specs.Format.{bytes_of, words_of, reply_bytes}
 use Rattle.replay.specs.Calls.{words_in, Answered, Called}
 use Rattle.replay.specs.declared.asking.Replied.{Replied}
 use Rattle.replay.proofs.Fields.{length-bytes}

@@ -1,13 +1,13 @@
 -- The loop of `replay`: what holds at its head, that it holds at the start and after a call, and what it gives at the end. Assumes nothing.
-use Prim.Native.Nat.{ℕ, zero, suc, ◌+◌, ◌-◌, ◌≤◌, ◌<◌}
-use mathlib.Core.Path.{◌≡◌, refl, sym, ap, ◌∙◌, subst}
-use mathlib.Core.Bool.{Bool, true, false}
+use Prim.Native.Nat.{ℕ, zero, suc, ◌+◌, ◌-◌, ◌≤◌}
+use mathlib.Core.Path.{◌≡◌, refl, sym, ◌∙◌}
+use mathlib.Core.Bool.{true, false}
 use mathlib.Core.List.{List, [], ◌∷◌, ◌++◌, append_assoc}
 use native.Mathlib.Omega.{arith}
 use lib.ListN.{take-append-drop, length, take, drop, length-drop, length-append}
 use lib.Seq.{drop-drop, length-take-le, take_at, drop_at}
 use Rattle.settings.specs.Settings.{Config}
-use Rattle.reference.specs.Reference.{Reference, Ask, Call, Reply, opened, does, replies_to}
+use Rattle.reference.specs.Reference.{Reference, Call, opened, does, replies_to}
 use Rattle.book.specs.Shown.{Good, shows}
 use Rattle.book.specs.declared.Book.{Book}
 use Rattle.replay.specs.Format.{ask_of, is_whole, call_length, reply_length, reply_bytes, called, decode, script, laid_in}

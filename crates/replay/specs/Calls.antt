@@ -11,7 +11,7 @@ use Rattle.book.specs.declared.Step.{Step}
 use Rattle.book.specs.declared.CountsReply.{CountsReply}
 use Rattle.book.specs.declared.LevelReply.{LevelReply}
 use Rattle.book.specs.declared.NumberReply.{NumberReply}
-use Rattle.replay.specs.Format.{header_length, words_length, message_length, buffer_length, reply_words, reply_bytes, script, laid_in}
+use Rattle.replay.specs.Format.{header_length, words_length, reply_words, reply_bytes, script, laid_in}
 use Rattle.replay.specs.declared.asking.Replied.{Replied}
 
 -- ---- an answer of the book as a reply's words

@@ -1,6 +1,6 @@
 -- What is claimed of scripts, as statements; `proofs/Claims` proves each under its own name. The contract of `replay` is about the list of calls that
 -- a script stands for: these say that no list of calls is left out. Assumes nothing: these are definitions.
-use Rattle.std.specs.Prelude.{ℕ, ◌<◌, ◌^◌, ◌≡◌, true, List, [], ◌∷◌, ◌++◌, length}
+use Rattle.std.specs.Prelude.{ℕ, ◌<◌, ◌^◌, ◌≡◌, List, [], ◌∷◌, ◌++◌, length}
 use Rattle.crc32_spec.specs.Text.{Bytes}
 use Rattle.settings.specs.Settings.{Config, kept}
 use Rattle.level.specs.Ranked.{All}

@@ -1,5 +1,5 @@
 -- A script of calls and its replies, as bytes (docs/REPLAY.md). Assumes nothing: these are definitions.
-use Rattle.std.specs.Prelude.{ℕ, zero, suc, ◌+◌, ◌-◌, ◌*◌, ◌/◌, ◌%◌, Bool, true, false, ◌&&◌, cond, List, [], ◌∷◌, ◌++◌, leb, eqb, length, take, drop}
+use Rattle.std.specs.Prelude.{ℕ, zero, suc, ◌+◌, ◌-◌, ◌/◌, ◌%◌, Bool, ◌&&◌, cond, List, [], ◌∷◌, ◌++◌, leb, eqb, length, take, drop}
 use Rattle.text.specs.Words.{word_at}
 use Rattle.decimal.specs.Words.{digits_near, digits_past}
 use Rattle.edit.specs.Edit.{PriceLevel}

@@ -1,23 +1,22 @@
 -- What the readers of values make of texts that are known: arrays, objects, members by name, strings, whole numbers. Assumes nothing.
 use Prim.Native.Nat.{ℕ, suc, ◌+◌, ◌-◌}
-use mathlib.Core.Path.{◌≡◌, refl, sym, ap, ap₂, ◌∙◌}
-use mathlib.Core.Bool.{Bool, true, false, ◌&&◌, cond, true≢false, and-eq-true_iff}
+use mathlib.Core.Path.{◌≡◌, refl, ap, ap₂, ◌∙◌}
+use mathlib.Core.Bool.{Bool, true, false, cond, and-eq-true_iff}
 use mathlib.Core.List.{List, [], ◌∷◌, ◌++◌, map}
 use native.Mathlib.Omega.{arith}
-use borrow.Author.Tests.{eq-eqb, ne_eqb, eqb-true}
-use lib.Dec.{eqb}
+use borrow.Author.Tests.{eq-eqb, ne_eqb}
 use lib.ListN.{length, take, drop}
 use lib.Seq.{take-append_seam}
 use Rattle.decimal.specs.Digits.{Reading, reads}
 use Rattle.text.specs.Text.{byte_at}
-use Rattle.json_values.specs.Json.{Span, Pair, value}
+use Rattle.json_values.specs.Json.{Span, Pair}
 use Rattle.json_values.specs.Names.{meaning, same, means, inner}
 use Rattle.json_values.specs.Claims.{holds}
 use Rattle.json_values.proofs.Names.{plain-text, same_self}
 use Rattle.entries.specs.Places.{is_string, contents, array_at, object_at, values_of}
 use Rattle.writer.specs.Snapshot.{quoted, array}
 use Rattle.round_trip.specs.Claims.{Each}
-use Rattle.round_trip.proofs.Places.{byte-here, past-byte, Is, part-is}
+use Rattle.round_trip.proofs.Places.{byte-here, past-byte, Is}
 use Rattle.round_trip.proofs.Tokens.{plain, unescaped-in, quoted-append, length-quoted}
 use Rattle.round_trip.proofs.Lists.{Matched, both_none, both_more}
 use Rattle.round_trip.proofs.Values.{Reads, IsText, elements-read, Field, object, GoodField, IsField, members-read}

@@ -1,7 +1,7 @@
 -- What a search of a side in order knows, and what follows from it for an entry, on the array `a` that holds n levels. Assumes nothing.
-use Prim.Native.Nat.{ℕ, zero, suc, ◌+◌, ◌-◌, ◌≤◌, ◌<◌}
-use mathlib.Core.Path.{◌≡◌, refl, sym, ap, ◌∙◌, subst}
-use mathlib.Core.Bool.{Bool, true, false}
+use Prim.Native.Nat.{ℕ, zero, suc, ◌+◌, ◌≤◌, ◌<◌}
+use mathlib.Core.Path.{◌≡◌, sym, ap, ◌∙◌}
+use mathlib.Core.Bool.{true, false}
 use mathlib.Core.List.{List, [], ◌∷◌, ◌++◌}
 use native.Mathlib.Nat.{le_of_suc-le-suc, not-suc-le-zero}
 use native.Mathlib.Numerals.{add-one}
@@ -10,7 +10,7 @@ use lib.ListN.{length, get_or, set, take, drop, take-append-drop, drop_of_length
 use lib.Seq.{length-take-le, take-suc, drop-cons, split_at, set_split, take-set-lt}
 use Rattle.decimal.specs.Decimal.{Number, value}
 use Rattle.edit.specs.declared.Side.{Side}
-use Rattle.edit.specs.Edit.{sets, removes}
+use Rattle.edit.specs.Edit.{sets}
 use Rattle.level.specs.Side.{nearer, without, place, standing}
 use Rattle.level.specs.Ranked.{All, Sorted}
 use Rattle.level.specs.Moved.{place_of}

@@ -1,12 +1,11 @@
 -- What entries leave is determined: one answer, and one list of words. Assumes nothing.
-use Prim.Native.Nat.{ℕ, ◌*◌, ◌≤◌}
+use Prim.Native.Nat.{ℕ}
 use mathlib.Core.Path.{◌≡◌, sym, ap, ◌∙◌, subst}
 use mathlib.Core.Bool.{Bool}
 use mathlib.Core.List.{List}
 use native.Mathlib.Omega.{arith}
 use lib.ListN.{length, take}
 use Rattle.edit.specs.Edit.{Edit}
-use Rattle.level.specs.Ranked.{All}
 use Rattle.level.specs.Words.{levels_in, words_past}
 use Rattle.level.specs.Kept.{kept_in, held}
 use Rattle.edit.specs.declared.Side.{Side}

@@ -2,16 +2,20 @@
 //
 // Standard input is as for `booklines`: line 1 has the settings, and every later line is a message. For each message a line is written:
 // the number of the first check that fails, or 0, and what it means; for 8 also the position of the first bad decimal, counted from 0,
-// and its text, quotes included. A read that fails ends the input.
+// and its text, quotes included. A read or a write that fails ends the program with its error.
 #![tactic(auto)]
 
-ghost use Rattle.std.specs.Prelude.{◌≤◌, length};
+ghost use Rattle.std.specs.Prelude.{◌≤◌, length, IfOk};
 
 use answer::number_of;
-use libc::{STDIN_FILENO, STDOUT_FILENO};
 use lines::{LINE_END, find, move_to_front};
 use message::Verdict;
 use settings::{Dialect, Settings};
+use std::io;
+use std::io::Read;
+
+// How much of the input is read at once.
+const INPUT: usize = 65536;
 
 // What is carried over of a line: as much as shows that it is too long for a message.
 const CARRIED: usize = message::MAX_MESSAGE + 1;
@@ -30,74 +34,72 @@ struct Told {
     next: usize,
 }
 
-fn main() {
-    let mut input = io::large_buffer();
-    run(&mut input);
+fn main(rt: HostRuntime) -> io::Result<()> {
+    let mut input = [0; INPUT];
+    run(&rt, &mut rt.stdin(), &mut input)
 }
 
 // Tells of block after block until the input ends.
-fn run(input: &mut [u8]) {
+fn run(out: &impl Print, input: &mut impl Read, buffer: &mut [u8]) -> io::Result<()> {
     let start = 0;
     let mut terms = no_terms();
     let mut held = 0;
-    let mut turns = u64::MAX;
-    while turns > 0 {
-        turns -= 1;
-        let to = read_on(input, held);
+    for _ in 0..u64::MAX {
+        let to = read_on(input, buffer, held)?;
         if to == held {
-            finish(terms, &input[start..held]);
-            return;
+            return finish(out, terms, &buffer[start..held]);
         }
-        let told = tell_lines(terms, &input[start..to]);
+        let told = tell_lines(out, terms, &buffer[start..to])?;
         let after = told.terms;
         terms = after;
-        held = move_to_front(input, told.next, to, CARRIED);
+        held = move_to_front(buffer, told.next, to, CARRIED);
     }
+    Ok(())
 }
 
 // Reads into a buffer from a position on, as many bytes as come at once, and answers the position past them.
-fn read_on(buffer: &mut [u8], from: usize) -> usize
+fn read_on(input: &mut impl Read, buffer: &mut [u8], from: usize) -> io::Result<usize>
     requires { from ≤ length buffer.old }
-    ensures { (from ≤ result) × (result ≤ length buffer.new) }
+    ensures { IfOk result (λ to. (from ≤ to) × (to ≤ length buffer.new)) }
 {
-    let part = &mut buffer[from..];
-    let got = libc::read(STDIN_FILENO, part);
-    from + io::count(got, part)
+    let got = input.read(&mut buffer[from..])?;
+    Ok(from + got)
 }
 
 // Tells of the lines that end in a text.
-fn tell_lines(before: Terms, s: &[u8]) -> Told
-    ensures { result.next ≤ length s.now }
+fn tell_lines(out: &impl Print, before: Terms, s: &[u8]) -> io::Result<Told>
+    ensures { IfOk result (λ told. told.next ≤ length s.now) }
 {
     let mut terms = before;
     let mut next = 0;
     while next < s.len() {
         let end = find(s, next, LINE_END);
         if s.len() <= end {
-            return Told { terms, next };
+            return Ok(Told { terms, next });
         }
-        terms = tell_line(terms, &s[next..end]);
+        terms = tell_line(out, terms, &s[next..end])?;
         next = end + 1;
     }
-    Told { terms, next }
+    Ok(Told { terms, next })
 }
 
 // A last line that has no line end.
-fn finish(terms: Terms, line: &[u8]) {
+fn finish(out: &impl Print, terms: Terms, line: &[u8]) -> io::Result<()> {
     if 0 < line.len() {
-        tell_line(terms, line);
+        tell_line(out, terms, line)?;
     }
+    Ok(())
 }
 
-fn tell_line(terms: Terms, line: &[u8]) -> Terms {
+fn tell_line(out: &impl Print, terms: Terms, line: &[u8]) -> io::Result<Terms> {
     if terms.opened {
-        tell(terms.settings, line);
-        return terms;
+        tell(out, terms.settings, line)?;
+        return Ok(terms);
     }
-    Terms {
+    Ok(Terms {
         settings: settings_on(line),
         opened: true,
-    }
+    })
 }
 
 fn no_terms() -> Terms {
@@ -114,28 +116,42 @@ fn settings_on(line: &[u8]) -> Settings {
     settings::choose(dialect, first.depth, &line[name..])
 }
 
-fn tell(kept: Settings, text: &[u8]) {
+fn tell(out: &impl Print, kept: Settings, text: &[u8]) -> io::Result<()> {
     let dialect = kept.dialect;
     let name = kept.name;
-    tell_message(dialect, kept.depth, &name, kept.length, text);
+    tell_message(out, dialect, kept.depth, &name, kept.length, text)
 }
 
 // The name is the first `most` bytes of `name`.
-fn tell_message(dialect: Dialect, depth: usize, name: &[u8], most: usize, text: &[u8]) {
+fn tell_message(
+    out: &impl Print,
+    dialect: Dialect,
+    depth: usize,
+    name: &[u8],
+    most: usize,
+    text: &[u8],
+) -> io::Result<()> {
     let from = 0;
     if most <= name.len() {
-        tell_refusal(dialect, depth, &name[from..most], text);
+        tell_refusal(out, dialect, depth, &name[from..most], text)?;
     }
-    write(b"\n");
+    write(out, b"\n")
 }
 
-fn tell_refusal(dialect: Dialect, depth: usize, name: &[u8], text: &[u8]) {
+fn tell_refusal(
+    out: &impl Print,
+    dialect: Dialect,
+    depth: usize,
+    name: &[u8],
+    text: &[u8],
+) -> io::Result<()> {
     let n = refusal(dialect, depth, name, text);
-    io::print_decimal(STDOUT_FILENO, n);
-    tell_meaning(n);
+    out.print(n)?;
+    tell_meaning(out, n)?;
     if n == 8 {
-        tell_bad(dialect, depth, name, text);
+        tell_bad(out, dialect, depth, name, text)?;
     }
+    Ok(())
 }
 
 // The number of the first of checks 1 to 8 that fails, or 0.
@@ -146,28 +162,37 @@ fn refusal(dialect: Dialect, depth: usize, name: &[u8], text: &[u8]) -> u64 {
     }
 }
 
-fn tell_meaning(n: u64) {
+fn tell_meaning(out: &impl Print, n: u64) -> io::Result<()> {
     match n {
-        0 => write(b" passes checks 1 to 8"),
-        1 => write(b" the settings are bad"),
-        2 => write(b" the message is too long"),
-        3 => write(b" it is not JSON, or nested too deep"),
-        5 => write(b" it is not this book's"),
-        6 => write(b" the layout is broken"),
-        7 => write(b" too many entries on one side"),
-        _ => write(b" a price or a size is no decimal, or is zero where it must not be"),
+        0 => write(out, b" passes checks 1 to 8"),
+        1 => write(out, b" the settings are bad"),
+        2 => write(out, b" the message is too long"),
+        3 => write(out, b" it is not JSON, or nested too deep"),
+        5 => write(out, b" it is not this book's"),
+        6 => write(out, b" the layout is broken"),
+        7 => write(out, b" too many entries on one side"),
+        _ => write(
+            out,
+            b" a price or a size is no decimal, or is zero where it must not be",
+        ),
     }
 }
 
 // Where the first bad decimal lies, and its text.
-fn tell_bad(dialect: Dialect, depth: usize, name: &[u8], text: &[u8]) {
+fn tell_bad(
+    out: &impl Print,
+    dialect: Dialect,
+    depth: usize,
+    name: &[u8],
+    text: &[u8],
+) -> io::Result<()> {
     let place = message::bad_place(dialect, depth, name, text);
-    write(b": at ");
-    io::print_decimal(STDOUT_FILENO, place.from as u64);
-    write(b" ");
-    write(message::bad_decimal(dialect, depth, name, text));
+    write(out, b": at ")?;
+    out.print(place.from)?;
+    write(out, b" ")?;
+    write(out, message::bad_decimal(dialect, depth, name, text))
 }
 
-fn write(s: &[u8]) {
-    io::write_all(STDOUT_FILENO, s);
+fn write(out: &impl Print, s: &[u8]) -> io::Result<()> {
+    out.write_all(s)
 }

@@ -1,6 +1,6 @@
 -- `judge_sides` meets its contract: check by check.
 use mathlib.Core.Path.{◌≡◌, sym, ap, ◌∙◌}
-use mathlib.Core.Bool.{Bool, true, false, ◌&&◌}
+use mathlib.Core.Bool.{Bool, false, ◌&&◌}
 use Rattle.layout.specs.Layout.{is_snapshot}
 use Rattle.lifecycle.proofs.Laws.{sides-twice, sides-many, sides-crossed, sides-fit}
 use Rattle.lifecycle.proofs.judge_sides.Goals as goal

@@ -4,7 +4,6 @@ use Rattle.lifecycle.specs.Lifecycle.{status_of}
 use Rattle.reference.specs.Reference.{is_live}
 use Rattle.lifecycle.specs.declared.State.{State}
 use Rattle.lifecycle.proofs.Laws.{judged-snapshot, judged-idle, judged-old, judged-new}
-use borrow.Author.Rules.{rules}
 use Rattle.lifecycle.proofs.judge_update.Goals as goal
 
 pub returns-then-is_snapshot : goal.returns-then-is_snapshot

@@ -1,7 +1,5 @@
 use Prim.Native.Nat.{◌-◌}
 use lib.ListN.{length}
-use Rattle.json_tokens.specs.Tokens as tokens·
-use Rattle.json_values.specs.Json.{members}
 use Rattle.message_k.proofs.Holding.{Going}
 use Rattle.message_k.proofs.k_object.Given as goal
 

@@ -1,4 +1,3 @@
-use mathlib.Core.List.{◌∷◌}
 use Prim.Native.Nat.{◌-◌}
 use lib.ListN.{length}
 use Rattle.message_k.proofs.Bearing.{Running}

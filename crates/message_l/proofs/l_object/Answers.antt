@@ -1,7 +1,7 @@
 -- `message_l::l_object` meets its contract: wherever the loop stands, what was met with the members left is the answer, and the buffer has the orders of those that
 -- were read.
 -- Assumes nothing.
-use Prim.Native.Nat.{ℕ, ◌+◌, ◌-◌}
+use Prim.Native.Nat.{ℕ, ◌+◌}
 use lib.ListN.{length}
 use native.Mathlib.Omega.{arith}
 use Rattle.text.specs.Text.{byte_at}

@@ -1,7 +1,7 @@
 -- `message_m::m_data` meets its contract: wherever the loop stands, the sides that were met with those of the members left are the answer, and the buffer has
 -- the entries of those that were read.
 -- Assumes nothing.
-use Prim.Native.Nat.{ℕ, ◌+◌, ◌-◌}
+use Prim.Native.Nat.{ℕ, ◌+◌}
 use lib.ListN.{length}
 use native.Mathlib.Omega.{arith}
 use Rattle.text.specs.Text.{byte_at}

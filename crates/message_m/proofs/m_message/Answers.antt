@@ -1,7 +1,7 @@
 -- `message_m::m_message` meets its contract: wherever the loop stands, the members that were met with those left make the answer, and the buffer has the
 -- entries of those that were met.
 -- Assumes nothing.
-use Prim.Native.Nat.{ℕ, ◌+◌, ◌-◌, ◌≤◌}
+use Prim.Native.Nat.{ℕ, ◌+◌, ◌≤◌}
 use native.Mathlib.Omega.{arith}
 use Rattle.text.specs.Text.{byte_at}
 use Rattle.decimal.specs.Digits.{reads}

@@ -1,5 +1,5 @@
 -- `replay` meets its contract: the replies to the calls that are left are owed, until none is left.
-use Prim.Native.Nat.{◌+◌, ◌-◌, ◌^◌, ◌<◌}
+use Prim.Native.Nat.{◌+◌, ◌^◌, ◌<◌}
 use mathlib.Core.Path.{refl, sym, ◌∙◌}
 use native.Mathlib.Omega.{arith}
 use Rattle.replay.proofs.Laying.{rest-is}

@@ -4,8 +4,6 @@ use lib.ListN.{length, take}
 use Rattle.decimal.specs.Decimal.{number, value}
 use Rattle.level.specs.Words.{level_price}
 use Rattle.edit.specs.Buffer.{entries_in}
-use Rattle.level.specs.Ranked.{replaced}
-use Rattle.level.specs.Moved.{moved}
 use Rattle.level.specs.Words.{levels_in, words_past}
 use Rattle.level.specs.Kept.{max_words}
 use Rattle.level.proofs.Shift.{up, down}

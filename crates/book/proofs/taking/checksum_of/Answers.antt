@@ -11,7 +11,6 @@ use Rattle.settings.specs.declared.SumText.{SumText}
 use Rattle.reference.specs.Reference.{Sides}
 use Rattle.reference.proofs.Sums.{sum-stripped, sum-interleaved}
 use Rattle.level.specs.Kept.{kept_in, held}
-use borrow.Author.Rules.{rules}
 use Rattle.book.proofs.taking.checksum_of.Goals as goal
 use Rattle.book.proofs.taking.checksum_of.Lts as lts
 use Rattle.book.proofs.taking.checksum_of.Tie as tie

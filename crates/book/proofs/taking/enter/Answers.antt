@@ -8,7 +8,6 @@ use Rattle.sides.specs.Worked.{side_after}
 use Rattle.book.specs.Shown.{book_of, text_of}
 use Rattle.book.specs.declared.Book.{Book}
 use Rattle.book.proofs.Settling.{asked-as, worked-as}
-use borrow.Author.Rules.{rules}
 use Rattle.book.proofs.taking.enter.Goals as goal
 use Rattle.book.proofs.taking.enter.Lts as lts
 use Rattle.book.proofs.taking.enter.Tie as tie

@@ -7,13 +7,13 @@ use Rattle.decimal.proofs.reading.digits_at.Goals as goal
 pub loop-left-init : goal.loop-left-init
 loop-left-init c = (refl, refl, c.requires)
 
-pub returns-then-digit-gt9 : goal.returns-then-digit-gt9
+pub returns-then-digit-gt-LAST_DIGIT : goal.returns-then-digit-gt-LAST_DIGIT
 unfolding value_from
-returns-then-digit-gt9 c =
+returns-then-digit-gt-LAST_DIGIT c =
     let S = c.args.s.now in
     let turn = c.loop-left in
     let e = turn.end in
-    let none = sym (no_digit S e turn.left (c.digit_at-digit.ensures.none c.if-digit-gt9.true)) in
+    let none = sym (no_digit S e turn.left (c.digit_at-digit.ensures.none c.if-digit-gt-LAST_DIGIT.true)) in
     record {
       value = ap (value_from turn.value) none ∙ turn.invariant.0;
       end = sym (add-zero e) ∙ ap (λ (w : List ℕ). e + length w) none ∙ turn.invariant.1;
@@ -34,7 +34,7 @@ overflow_add-value c =
 pub overflow_add-end : goal.overflow_add-end
 overflow_add-end c =
     let start = c in
-    let h = digit-within start.args.s.now c.loop-left.end (digit-here c.digit_at-digit.ensures c.if-digit-gt9.false) in
+    let h = digit-within start.args.s.now c.loop-left.end (digit-here c.digit_at-digit.ensures c.if-digit-gt-LAST_DIGIT.false) in
     omega (arith, start.well_formed)
 
 pub loop-left-preserved : goal.loop-left-preserved
@@ -47,7 +47,7 @@ loop-left-preserved c =
     let v = turn.value in
     let p = c.loop-left-test.true in
     let k = c.digit_at-digit.ensures in
-    let small = c.if-digit-gt9.false in
+    let small = c.if-digit-gt-LAST_DIGIT.false in
     let b = k.some small in
     let d : c.digit_at-digit.result ≡ get_or S e 0 - 48 = omega arith in
     let f = first-digit S e l (digit-here k small) p in

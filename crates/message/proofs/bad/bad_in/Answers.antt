@@ -1,6 +1,5 @@
 -- `bad_in` meets its contract: the price of the entry if it is bad, and else the size.
 use mathlib.Core.Path.{sym, ap, ◌∙◌}
-use mathlib.Core.Bool.{true, false}
 use Rattle.entries.specs.Rows.{is_bad_price, bad_price}
 use Rattle.message.proofs.FirstBad.{in-none, in-price, in_size}
 use Rattle.message.proofs.bad.bad_in.Goals as goal

@@ -1,6 +1,5 @@
 use Prim.Native.Nat.{◌-◌, ◌≤◌}
 use mathlib.Core.Path.{◌≡◌}
-use mathlib.Core.List.{◌∷◌}
 use lib.ListN.{length}
 use Rattle.order_edit.specs.Ids.{bytes_of}
 use Rattle.writer.proofs.Owed.{Whole}

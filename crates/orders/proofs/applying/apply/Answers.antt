@@ -1,5 +1,5 @@
 -- `apply` meets its contract: the loop keeps `Turn`, that what is left of the entries gives the same as all of them did at the start.
-use Prim.Native.Nat.{◌-◌, ◌<◌}
+use Prim.Native.Nat.{◌<◌}
 use mathlib.Core.Path.{refl, sym, ap, ◌∙◌, subst}
 use native.Mathlib.Omega.{arith}
 use lib.ListN.{length, take}

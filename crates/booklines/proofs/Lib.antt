@@ -1,2 +1,0 @@
--- Bounds of positions.
-pub mod Bounds

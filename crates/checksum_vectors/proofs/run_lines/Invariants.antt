@@ -1,0 +1,10 @@
+-- `run_lines` ends: each line ends past its start; and the book stays fine.
+use Rattle.std.proofs.Common.{length, ◌-◌, ◌+◌, ◌≤◌}
+use Rattle.checksum_vectors.specs.Book.{Valid}
+use Rattle.checksum_vectors.proofs.run_lines.Given as goal
+
+abbrev pub invariant-loop-at : goal.invariant-loop-at
+invariant-loop-at g l = (l.at ≤ length l.s + 1) × Valid l.book
+
+abbrev pub decreases-loop-at : goal.decreases-loop-at
+decreases-loop-at g l = length l.s + 1 - l.at

@@ -27,15 +27,16 @@ def code_of(path):
 
 
 def named_by(crate, crates):
-    names = set()
+    names, paths, modules = set(), set(), set()
     for part in ("src", "specs", "proofs"):
         for path in (TOP / "crates" / crate / part).rglob("*"):
             if path.suffix in (".rt", ".antt"):
                 text = code_of(path)
                 names.update(re.findall(r"\bRattle\.(\w+)\.(?:specs|proofs)\b", text))
                 if path.suffix == ".rt":
-                    names.update(re.findall(r"(?<![\w:])(\w+)::", text))
-    return (names | REACHED.get(crate, set())) & crates - {crate}
+                    paths.update(re.findall(r"(?<![\w:])(\w+)::", text))
+                    modules.update(re.findall(r"\bmod (\w+);", text))
+    return (names | paths - modules | REACHED.get(crate, set())) & crates - {crate}
 
 
 def below(crate, named, memo):

@@ -57,10 +57,10 @@ def closing(text, at):
 
 
 def code_of(text):
-    """A source without comments, byte strings' contents, attributes, ghost lines and contracts."""
+    """A source without comments, strings' contents, attributes, ghost lines and contracts."""
     text = blank(text, r"//[^\n]*")
-    text = re.sub(r'b"((?:[^"\\]|\\.)*)"', lambda m: 'b"' + "_" * len(m[1]) + '"', text)
     text = re.sub(r"b'(?:[^'\\]|\\.)+'", lambda m: "0".ljust(len(m[0])), text)
+    text = re.sub(r'"((?:[^"\\]|\\.)*)"', lambda m: '"' + re.sub(r"[^\n]", "_", m[1]) + '"', text)
     text = blank(text, r"#!?\[[^\]]*\]")
     text = blank(text, r"^\s*ghost use [^;]*;", re.M)
     while clause := re.search(r"\b(?:requires|ensures)\b[^{}]*\{", text):

@@ -1,6 +1,5 @@
 -- `answer` meets its contract: by what the header asks, the answer of the book's own method.
 use mathlib.Core.Path.{refl}
-use lib.ListN.{drop}
 use Rattle.replay.proofs.Answering.{as-asked, asks-message, asks-counts, asks-level, asks-number, asks-updates, asks_write}
 use Rattle.replay.proofs.Laying.{rest-is}
 use Rattle.replay.proofs.asking.answer.Goals as goal

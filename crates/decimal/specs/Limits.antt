@@ -15,7 +15,7 @@ order_of x y = elim (nat_lt x y) [ true ↦ Less | false ↦ elim (x == y) [ tru
 unfoldable pub order : Number → Number → Order
 order a b = order_of (value a) (value b)
 
--- At most `maxWhole` digits before the point and `maxDecimals` after it
+-- At most `max_whole` digits before the point and `max_decimals` after it
 
 pub record Within (n : Number) : Type 0 where
   pub few : n.decimals ≤ max_decimals

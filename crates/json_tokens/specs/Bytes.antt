@@ -1,5 +1,5 @@
 -- The bytes that RFC 8259 names, and the kinds of bytes that its productions are made of.
--- Past the end of a text `byteAt` gives 0, a byte that no production takes, so no rule below asks where the text ends.
+-- Past the end of a text `byte_at` gives 0, a byte that no production takes, so no rule below asks where the text ends.
 -- Assumes nothing: these are definitions.
 use Rattle.std.specs.Prelude.{ℕ, Bool, ◌||◌, ◌&&◌, leb, eqb}
 unfoldable pub use Rattle.text.specs.Text.{byte_at, is_digit as digit}
@@ -29,7 +29,7 @@ close_object = 125
 unfoldable pub blank : ℕ → Bool
 blank c = eqb c 32 || eqb c 9 || eqb c 10 || eqb c 13
 
--- DIGIT is `isDigit`; HEXDIG: 0 to 9, A to F, a to f
+-- DIGIT is `is_digit`; HEXDIG: 0 to 9, A to F, a to f
 unfoldable pub hex_digit : ℕ → Bool
 hex_digit c = digit c || (leb 65 c && leb c 70) || (leb 97 c && leb c 102)
 

@@ -3,7 +3,7 @@
 //
 // An end is a plain number, and 0 says that no such token begins there: a token has a byte at
 // least, so none ends at 0. Any position may be asked for; past the end of the slice no token
-// begins. Above this crate stands `json`, which makes values of the tokens.
+// begins. Above this crate stands `json_values`, which makes values of the tokens.
 //
 // Example: in the text `{"a":-1.5}` the string that begins at 1 ends at 4 (`string_end(s, 1) == 4`), the
 // colon past it at 5 (`colon_end(s, 4) == 5`), and the number there at 9 (`number_end(s, 5) == 9`).

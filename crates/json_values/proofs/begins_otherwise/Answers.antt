@@ -1,4 +1,4 @@
--- `json::begins_otherwise` meets its contract, test by test. Assumes nothing.
+-- `json_values::begins_otherwise` meets its contract, test by test. Assumes nothing.
 use borrow.Author.Tests.{eq-eqb, ne_eqb}
 use lib.ListN.{length, get_or}
 use Rattle.json_values.specs.Escapes.{begins_otherwise}

@@ -1,4 +1,4 @@
--- `json::escape_length` meets its contract, by cases.
+-- `json_values::escape_length` meets its contract, by cases.
 -- Assumes nothing.
 use mathlib.Core.Path.{sym}
 use borrow.Author.Tests.{eq-eqb, ne_eqb}

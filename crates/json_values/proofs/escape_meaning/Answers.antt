@@ -1,4 +1,4 @@
--- `json::escape_meaning` meets its contract: four hex digits, or one character.
+-- `json_values::escape_meaning` meets its contract: four hex digits, or one character.
 -- Assumes nothing.
 use mathlib.Core.Path.{sym, ap, ◌∙◌}
 use Rattle.json_values.specs.Names.{short_meaning, hex_value, long_meaning}

@@ -1,4 +1,4 @@
--- `json::hex_value` meets its contract: digits, small letters, capital letters; what is below all of them counts 0.
+-- `json_values::hex_value` meets its contract: digits, small letters, capital letters; what is below all of them counts 0.
 -- Assumes nothing.
 use mathlib.Core.Path.{sym, ◌∙◌}
 use native.Mathlib.Omega.{arith}

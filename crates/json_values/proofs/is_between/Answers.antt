@@ -1,4 +1,4 @@
--- `json::is_between` meets its contract: nothing stands there, too little, all up to the end of the text, or all up to the last quote.
+-- `json_values::is_between` meets its contract: nothing stands there, too little, all up to the end of the text, or all up to the last quote.
 -- Assumes nothing.
 use mathlib.Core.Path.{ap, ◌∙◌}
 use mathlib.Core.List.{List}

@@ -1,4 +1,4 @@
--- `json::is_name` meets its contract: a string begins with a quote, and then with what its name begins with, or with an escape.
+-- `json_values::is_name` meets its contract: a string begins with a quote, and then with what its name begins with, or with an escape.
 -- Assumes nothing.
 use mathlib.Core.Path.{sym, ap, ◌∙◌}
 use Prim.Native.Nat.{ℕ}

@@ -1,4 +1,4 @@
--- `json::item_end` meets its contract: by the first byte.
+-- `json_values::item_end` meets its contract: by the first byte.
 -- Assumes nothing.
 use mathlib.Core.Path.{sym, ap, ◌∙◌}
 use Rattle.text.specs.Text.{is_digit}

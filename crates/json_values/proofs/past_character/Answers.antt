@@ -1,4 +1,4 @@
--- `json::past_character` meets its contract: an escape, or a byte that stands for itself.
+-- `json_values::past_character` meets its contract: an escape, or a byte that stands for itself.
 -- Assumes nothing.
 use mathlib.Core.Path.{sym, ap, ◌∙◌}
 use Prim.Native.Nat.{◌+◌}

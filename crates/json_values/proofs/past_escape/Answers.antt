@@ -1,4 +1,4 @@
--- `json::past_escape` meets its contract: past the end nothing is left, as within the escape.
+-- `json_values::past_escape` meets its contract: past the end nothing is left, as within the escape.
 -- Assumes nothing.
 use mathlib.Core.Path.{◌∙◌, ap}
 use mathlib.Core.Bool.{cond}

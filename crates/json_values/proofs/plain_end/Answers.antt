@@ -1,4 +1,4 @@
--- `json::plain_end` meets its contract: wherever the loop stands, what is left of the bytes is to mean what is left of the name.
+-- `json_values::plain_end` meets its contract: wherever the loop stands, what is left of the bytes is to mean what is left of the name.
 -- Assumes nothing.
 use mathlib.Core.Path.{refl, sym, ◌∙◌}
 use native.Mathlib.Omega.{arith}

@@ -1,4 +1,4 @@
--- `json::short_meaning` meets its contract: test by test.
+-- `json_values::short_meaning` meets its contract: test by test.
 -- Assumes nothing.
 use mathlib.Core.Path.{sym, ◌∙◌}
 use borrow.Author.Tests.{ne_eqb}

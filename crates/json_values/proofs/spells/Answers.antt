@@ -1,4 +1,4 @@
--- `json::spells` meets its contract: past the bytes that stand for themselves, both end, an escape stands, or another byte.
+-- `json_values::spells` meets its contract: past the bytes that stand for themselves, both end, an escape stands, or another byte.
 -- Assumes nothing.
 use mathlib.Core.Path.{sym, ap, ◌∙◌}
 use mathlib.Core.List.{List}

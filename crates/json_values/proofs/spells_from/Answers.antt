@@ -1,4 +1,4 @@
--- `json::spells_from` meets its contract: wherever the loop stands, what is left of the bytes is to mean what is left of the name.
+-- `json_values::spells_from` meets its contract: wherever the loop stands, what is left of the bytes is to mean what is left of the name.
 -- Assumes nothing.
 use mathlib.Core.Path.{refl, sym, ap, ◌∙◌}
 use mathlib.Core.List.{List}

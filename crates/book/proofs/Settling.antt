@@ -49,7 +49,7 @@ use Rattle.answer.specs.declared.Answer.{Answer}
 use Rattle.message.specs.declared.Verdict.{Verdict}
 use Rattle.message.specs.declared.Verdict.TheVariants.{Fails, Passes}
 use Rattle.answer.specs.declared.Answer.TheVariants.{Taken, PriceTwice, NoSnapshot, OldNumber, TooManyLevels, WrongChecksum, Crossed}
-use Rattle.reference.specs.Reference.{live, is_live, Sides, Reference, After, edits_for as editsOf, after_edits, sides_after, levels_moved, prices_of, checksum_of, names_price_twice, lacks_snapshot, is_old, has_too_many, has_crossed, differs, has_wrong_checksum, one_more, taken, taken_by, refused_by, receive}
+use Rattle.reference.specs.Reference.{live, is_live, Sides, Reference, After, edits_for as edits_of, after_edits, sides_after, levels_moved, prices_of, checksum_of, names_price_twice, lacks_snapshot, is_old, has_too_many, has_crossed, differs, has_wrong_checksum, one_more, taken, taken_by, refused_by, receive}
 use Rattle.book.specs.Shown.{shows, text_of, Received}
 use Rattle.book.specs.Taking.{entries_of, message_in, Passed, after_in, side_before, refused_step, kept_step, Judged, judged_checksum, weighed}
 use Rattle.book.specs.declared.Book.{Book}
@@ -122,8 +122,8 @@ sided-edits side (e ∷ es) = at (is_same e.side side) (sided-edits side es)
     at false h = h
 
 -- the edits of a message for one side are those of its entries
-edits-are : (side : Side) (o : Outline) (buffer : List ℕ) → editsOf side (message_in o buffer) ≡ edits_for side (entries_of o buffer)
-unfolding editsOf edits_for
+edits-are : (side : Side) (o : Outline) (buffer : List ℕ) → edits_of side (message_in o buffer) ≡ edits_for side (entries_of o buffer)
+unfolding edits_of edits_for
 edits-are side o buffer = sided-edits side (entries_of o buffer)
 
 -- an update that passes checks 10 and 11 comes to a live book, and is not old
@@ -328,7 +328,7 @@ module _ (b : Book) (o : Outline) (buffer : List ℕ) (k : Passed b o buffer) wh
 
   module _ (side : Side) (kept : Levels) (a : SideAfter) (w : Worked t side b.settings.depth (edits_for side es) (side_before o kept) a) where
     abbrev edits : List (Edit PriceLevel)
-    edits = editsOf side m
+    edits = edits_of side m
 
     same-edits : edits_for side es ≡ edits
     same-edits = sym (edits-are side o buffer)
@@ -394,7 +394,7 @@ module _ (b : Book) (o : Outline) (buffer : List ℕ) (k : Passed b o buffer) wh
     unfolding names_price_twice
     twice-is = at (is_snapshot o.kind) refl
       where
-        at : (x : Bool) → is_snapshot o.kind ≡ x → (x && (names_twice (prices_of (editsOf Bids m)) || names_twice (prices_of (editsOf Asks m)))) ≡ (x && (bids.replaced || asks.replaced))
+        at : (x : Bool) → is_snapshot o.kind ≡ x → (x && (names_twice (prices_of (edits_of Bids m)) || names_twice (prices_of (edits_of Asks m)))) ≡ (x && (bids.replaced || asks.replaced))
         at true h = sym (ap₂ (λ (x y : Bool). x || y) (met_twice Bids b.bids bids wb h) (met_twice Asks b.asks asks wa h))
         at false h = refl
 

@@ -299,7 +299,7 @@ fn checksum_of<'a>(
     table: &'a [u32],
 ) -> u32
     requires { Sound (rules_of dialect).text Bids (kept_in bids.now bid_count) × Sound (rules_of dialect).text Asks (kept_in asks.now ask_count) × ShiftTable table.now }
-    ensures { result ≡ checksum_of (rules_of dialect) (record { bids = map shown (held (kept_in bids.entry.now bid_count)); asks = map shown (held (kept_in asks.now ask_count)) }) }
+    ensures { result ≡ checksum_of (rules_of dialect) (record { bids = map shown (held (kept_in bids.now bid_count)); asks = map shown (held (kept_in asks.now ask_count)) }) }
 {
     let rules = rules_of(dialect);
     let text = rules.text;

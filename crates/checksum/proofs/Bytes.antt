@@ -65,11 +65,11 @@ text-bytes n = append (written (n.digits / 10 ^ n.decimals)) (after_point n.deci
 stripped-bytes : (n : Number) → Bytes (stripped n)
 stripped-bytes n = subst Bytes (sym (stripped-digits n)) (significant-bytes n.digits)
 
-piece_bytes : (sumText : SumText) (price size : Number) → Bytes (piece_of sumText price size)
+piece_bytes : (sum_text : SumText) (price size : Number) → Bytes (piece_of sum_text price size)
 unfolding k_piece m_piece
 piece_bytes Stripped price size = append (stripped price) (stripped size) (stripped-bytes price) (stripped-bytes size)
 piece_bytes Interleaved price size =
     cons colon (text price ++ (colon ∷ text size)) (lit< tt) (append (text price) (colon ∷ text size) (text-bytes price) (cons colon (text size) (lit< tt) (text-bytes size)))
 
-pub piece-sum : (sumText : SumText) (price size : Number) → run 0 (piece_of sumText price size) < 2 ^ 32
-piece-sum sumText price size = run_lt (piece_of sumText price size) 0 (lit< tt) (piece_bytes sumText price size)
+pub piece-sum : (sum_text : SumText) (price size : Number) → run 0 (piece_of sum_text price size) < 2 ^ 32
+piece-sum sum_text price size = run_lt (piece_of sum_text price size) 0 (lit< tt) (piece_bytes sum_text price size)

@@ -49,41 +49,41 @@ m-short price size p s =
     let e : length (text price ++ (colon ∷ text size)) ≡ length (text price) + suc (length (text size)) = length-append (text price) (colon ∷ text size) in
     omega arith
 
-pub piece-short : (sumText : SumText) (price size : Number) → Within price → Within size → length (piece_of sumText price size) ≤ max_length
+pub piece-short : (sum_text : SumText) (price size : Number) → Within price → Within size → length (piece_of sum_text price size) ≤ max_length
 piece-short Stripped = k-short
 piece-short Interleaved = m-short
 
 -- ---- a level that was made carries its piece
 
-module _ (sumText : SumText) (price size : Number) (p : Within price) (s : Within size) where
+module _ (sum_text : SumText) (price size : Number) (p : Within price) (s : Within size) where
   abbrev sum : ℕ
-  sum = run 0 (piece_of sumText price size)
+  sum = run 0 (piece_of sum_text price size)
 
   abbrev long : ℕ
-  long = length (piece_of sumText price size)
+  long = length (piece_of sum_text price size)
 
-  fits : run 0 (piece_of sumText price size) < 2 ^ 32
-  fits = piece-sum sumText price size
+  fits : run 0 (piece_of sum_text price size) < 2 ^ 32
+  fits = piece-sum sum_text price size
 
-  short : length (piece_of sumText price size) ≤ max_length
-  short = piece-short sumText price size p s
+  short : length (piece_of sum_text price size) ≤ max_length
+  short = piece-short sum_text price size p s
 
-  pub level-price : level_price (level_for sumText price size) ≡ price
+  pub level-price : level_price (level_for sum_text price size) ≡ price
   unfolding level_for
   level-price = made-price price size sum long p s fits short
 
-  pub level-size : level_size (level_for sumText price size) ≡ size
+  pub level-size : level_size (level_for sum_text price size) ≡ size
   unfolding level_for
   level-size = made-size price size sum long p s fits short
 
-  pub level-shown : shown (level_for sumText price size) ≡ record { price = price; size = size }
+  pub level-shown : shown (level_for sum_text price size) ≡ record { price = price; size = size }
   unfolding level_for
   level-shown = made-shown price size sum long p s fits short
 
-  pub level-carries : Carries (piece_of sumText) (level_for sumText price size)
+  pub level-carries : Carries (piece_of sum_text) (level_for sum_text price size)
   unfolding level_for
   level-carries =
-      let same : piece_of sumText price size ≡ piece_of sumText (level_price (level_for sumText price size)) (level_size (level_for sumText price size)) = sym (ap₂ (piece_of sumText) level-price level-size) in
+      let same : piece_of sum_text price size ≡ piece_of sum_text (level_price (level_for sum_text price size)) (level_size (level_for sum_text price size)) = sym (ap₂ (piece_of sum_text) level-price level-size) in
       record { sum = made-sum price size sum long p s fits short ∙ ap (run 0) same; long = made-length price size sum long p s fits short ∙ ap length same }
 
 -- ---- the state after the pieces of levels

@@ -19,8 +19,8 @@ pub data Edit (A : Type 0) : Type 0 where
 
 -- The price that it names; `priceOf` is the price of a level.
 unfoldable pub named : {A : Type 0} → (A → Number) → Edit A → Number
-named priceOf (sets x) = priceOf x
-named priceOf (removes p) = p
+named price_of (sets x) = price_of x
+named price_of (removes p) = p
 
 -- What an entry says in numbers.
 pub record Numbers : Type 0 where

@@ -145,13 +145,13 @@ stays_open {s} {from} {p} {book} {before} {r} a e =
     let z : ◌≡◌ {A = ℕ} 0 1 = cc in
     omega arith
 
-module _ {s before filled : List ℕ} {r : Answered} (isOpen : Bool) (old : Book) where
-  pub as-opened : isOpen ≡ true → AnsweredLines s 0 (book_open (shows old)) old before r filled → AnsweredLines s 0 (state_of isOpen (shows old)) old before r filled
+module _ {s before filled : List ℕ} {r : Answered} (is_open : Bool) (old : Book) where
+  pub as-opened : is_open ≡ true → AnsweredLines s 0 (book_open (shows old)) old before r filled → AnsweredLines s 0 (state_of is_open (shows old)) old before r filled
   unfolding state_of
   as-opened e a = subst (λ (b : Bool). AnsweredLines s 0 (state_of b (shows old)) old before r filled) (sym e) a
 
-  pub first-answered : {e : ℕ} {book : Book} → isOpen ≡ false → e ≡ 0 + bytes_before line_end (drop 0 s) → e < length s → Opened (line_one (take e s)) book →
-      AnsweredLines s (e + 1) (book_open (shows book)) book before r filled → AnsweredLines s 0 (state_of isOpen (shows old)) old before r filled
+  pub first-answered : {e : ℕ} {book : Book} → is_open ≡ false → e ≡ 0 + bytes_before line_end (drop 0 s) → e < length s → Opened (line_one (take e s)) book →
+      AnsweredLines s (e + 1) (book_open (shows book)) book before r filled → AnsweredLines s 0 (state_of is_open (shows old)) old before r filled
   unfolding state_of after extend answering
   first-answered {e} {book} f is h o a =
       let z : e - 0 ≡ e = omega arith in
@@ -176,10 +176,10 @@ module _ {s before filled : List ℕ} {r : Answered} (isOpen : Bool) (old : Book
         one = λ few k. a.one (let l = ap length n in omega arith) k;
       }
 
-pub none-answered : (s buffer : List ℕ) (book : Book) (isOpen : Bool) {e : ℕ} → isOpen ≡ false → Good book → e ≡ 0 + bytes_before line_end (drop 0 s) → length s ≤ e →
-    AnsweredLines s 0 (state_of isOpen (shows book)) book buffer (record { book = book; next = 0; written = 0; opened = false }) buffer
+pub none-answered : (s buffer : List ℕ) (book : Book) (is_open : Bool) {e : ℕ} → is_open ≡ false → Good book → e ≡ 0 + bytes_before line_end (drop 0 s) → length s ≤ e →
+    AnsweredLines s 0 (state_of is_open (shows book)) book buffer (record { book = book; next = 0; written = 0; opened = false }) buffer
 unfolding state_of answering
-none-answered s buffer book isOpen {e} f good is h =
+none-answered s buffer book is_open {e} f good is h =
     let none : complete (drop 0 s) ≡ [] = no_more s 0 e is h in
     record {
       good = good;

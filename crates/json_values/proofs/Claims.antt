@@ -47,14 +47,14 @@ module _ {A : Type 0} (s : List ℕ) (is : A → ℕ → ℕ → Type 0) where
   onward-laid lo rest ih (ends e) (finished f p m) = laid [] e (end lo p) m
   onward-laid lo rest ih wrong h = broken
 
-  module _ (one : ℕ → Next A) (close : ℕ) (pos : 0 < close) (one_Found : (i : ℕ) → Found s is i (one i)) where
+  module _ (one : ℕ → Next A) (close : ℕ) (pos : 0 < close) (one_found : (i : ℕ) → Found s is i (one i)) where
     next-found : (first : Bool) (i : ℕ) → Found s is i (next one close s first i)
     unfolding next
     next-found true i = go (closing close s i) refl
       where
         go : (x : End) → closing close s i ≡ x → Found s is i (elim x [ At e ↦ ends e | Broken ↦ one (blanks s i) ])
         go (At e) h = let b = bounds e (closing-in s close i pos) h in finished e (omega arith) b.1
-        go Broken h = sooner i (blanks s i) (blanks-in s i).0 (one (blanks s i)) (one_Found (blanks s i))
+        go Broken h = sooner i (blanks s i) (blanks-in s i).0 (one (blanks s i)) (one_found (blanks s i))
     next-found false i = go (separator 44 s i) refl
       where
         close-found : (y : End) → closing close s i ≡ y → Found s is i (elim y [ At e ↦ ends e | Broken ↦ wrong ])
@@ -62,7 +62,7 @@ module _ {A : Type 0} (s : List ℕ) (is : A → ℕ → ℕ → Type 0) where
         close-found Broken h = nothing
 
         go : (x : End) → separator 44 s i ≡ x → Found s is i (elim x [ At j ↦ one j | Broken ↦ elim (closing close s i) [ At e ↦ ends e | Broken ↦ wrong ] ])
-        go (At j) h = let b = bounds j (separator-in s 44 i (omega arith)) h in sooner i j (omega arith) (one j) (one_Found j)
+        go (At j) h = let b = bounds j (separator-in s 44 i (omega arith)) h in sooner i j (omega arith) (one j) (one_found j)
         go Broken h = close-found (closing close s i) refl
 
     list-laid : (n : ℕ) (first : Bool) (i : ℕ) → Laid s is i (list one close s n first i)

@@ -58,9 +58,9 @@ module _ {A : Type 0} (level : Number → Number → A) (e : Numbers) where
       at true = a
       at false = b
 
-  pub change-named : (priceOf : A → Number) → priceOf (level e.price e.size) ≡ e.price → named priceOf (change_of level e) ≡ e.price
+  pub change-named : (price_of : A → Number) → price_of (level e.price e.size) ≡ e.price → named price_of (change_of level e) ≡ e.price
   unfolding named
-  change-named priceOf h = change-each (λ x. named priceOf x ≡ e.price) refl h
+  change-named price_of h = change-each (λ x. named price_of x ≡ e.price) refl h
 
   pub change-holds : (P : A → Type 0) → P (level e.price e.size) → IfSet P (change_of level e)
   unfolding IfSet

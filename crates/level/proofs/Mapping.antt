@@ -24,65 +24,65 @@ map-cond : {A B : Type 0} (f : A → B) (t : Bool) (s r : List A) → map f (con
 map-cond f true s r = refl
 map-cond f false s r = refl
 
-module _ {A B : Type 0} (priceA : A → Number) (priceB : B → Number) (f : A → B) (same : (x : A) → priceB (f x) ≡ priceA x) where
-  pub map-named : (e : Edit A) → named priceB (map_edit f e) ≡ named priceA e
+module _ {A B : Type 0} (price_a : A → Number) (price_b : B → Number) (f : A → B) (same : (x : A) → price_b (f x) ≡ price_a x) where
+  pub map-named : (e : Edit A) → named price_b (map_edit f e) ≡ named price_a e
   unfolding named map_edit
   map-named (sets x) = same x
   map-named (removes p) = refl
 
-  pub map-without : (v : ℕ) (s : List A) → map f (without priceA v s) ≡ without priceB v (map f s)
+  pub map-without : (v : ℕ) (s : List A) → map f (without price_a v s) ≡ without price_b v (map f s)
   unfolding without
   map-without v [] = refl
   map-without v (x ∷ s) = rw (same x, map-cond, map-without v s)
 
-  pub map_apply : (e : Edit A) (s : List A) → map f (apply priceA e s) ≡ apply priceB (map_edit f e) (map f s)
+  pub map_apply : (e : Edit A) (s : List A) → map f (apply price_a e s) ≡ apply price_b (map_edit f e) (map f s)
   unfolding apply map_edit
-  map_apply (sets x) s = rw (same x, map-without (value (priceA x)) s)
+  map_apply (sets x) s = rw (same x, map-without (value (price_a x)) s)
   map_apply (removes p) s = map-without (value p) s
 
-  pub map-apply_all : (es : List (Edit A)) (s : List A) → map f (apply_all priceA es s) ≡ apply_all priceB (map (map_edit f) es) (map f s)
+  pub map-apply_all : (es : List (Edit A)) (s : List A) → map f (apply_all price_a es s) ≡ apply_all price_b (map (map_edit f) es) (map f s)
   unfolding apply_all
   map-apply_all [] s = refl
   map-apply_all (e ∷ es) s =
-      map-apply_all es (apply priceA e s) ∙ ap (apply_all priceB (map (map_edit f) es)) (map_apply e s)
+      map-apply_all es (apply price_a e s) ∙ ap (apply_all price_b (map (map_edit f) es)) (map_apply e s)
 
-  pub map-place : (side : Side) (x : A) (s : List A) → map f (place priceA side x s) ≡ place priceB side (f x) (map f s)
+  pub map-place : (side : Side) (x : A) (s : List A) → map f (place price_a side x s) ≡ place price_b side (f x) (map f s)
   unfolding place
   map-place side x [] = refl
   map-place side x (y ∷ s) = rw (same x, same y, map-cond, map-place side x s)
 
-  pub map-ranked : (side : Side) (s : List A) → map f (ranked priceA side s) ≡ ranked priceB side (map f s)
+  pub map-ranked : (side : Side) (s : List A) → map f (ranked price_a side s) ≡ ranked price_b side (map f s)
   unfolding ranked
   map-ranked side [] = refl
-  map-ranked side (x ∷ s) = map-place side x (ranked priceA side s) ∙ ap (place priceB side (f x)) (map-ranked side s)
+  map-ranked side (x ∷ s) = map-place side x (ranked price_a side s) ∙ ap (place price_b side (f x)) (map-ranked side s)
 
   pub map-after_message : (side : Side) (depth : ℕ) (es : List (Edit A)) (s : List A)
-      → map f (after_message priceA side depth es s) ≡ after_message priceB side depth (map (map_edit f) es) (map f s)
+      → map f (after_message price_a side depth es s) ≡ after_message price_b side depth (map (map_edit f) es) (map f s)
   unfolding after_message
   map-after_message side depth es s =
-      map-take f depth (ranked priceA side (apply_all priceA es s))
-      ∙ ap (take depth) (map-ranked side (apply_all priceA es s) ∙ ap (ranked priceB side) (map-apply_all es s))
+      map-take f depth (ranked price_a side (apply_all price_a es s))
+      ∙ ap (take depth) (map-ranked side (apply_all price_a es s) ∙ ap (ranked price_b side) (map-apply_all es s))
 
   -- the number of levels before the cut
-  pub map-count : (es : List (Edit A)) (s : List A) → length (apply_all priceB (map (map_edit f) es) (map f s)) ≡ length (apply_all priceA es s)
-  map-count es s = ap length (sym (map-apply_all es s)) ∙ length-map (apply_all priceA es s) f
+  pub map-count : (es : List (Edit A)) (s : List A) → length (apply_all price_b (map (map_edit f) es) (map f s)) ≡ length (apply_all price_a es s)
+  map-count es s = ap length (sym (map-apply_all es s)) ∙ length-map (apply_all price_a es s) f
 
-  pub map-standing : (v : ℕ) (s : List A) → standing priceB v (map f s) ≡ standing priceA v s
+  pub map-standing : (v : ℕ) (s : List A) → standing price_b v (map f s) ≡ standing price_a v s
   unfolding standing
   map-standing v [] = refl
   map-standing v (x ∷ s) = rw (same x, map-standing v s)
 
-  map-meets : (e : Edit A) (s : List A) → replaces priceB (map_edit f e) (map f s) ≡ replaces priceA e s
+  map-meets : (e : Edit A) (s : List A) → replaces price_b (map_edit f e) (map f s) ≡ replaces price_a e s
   unfolding replaces map_edit
-  map-meets (sets x) s = rw (same x, map-standing (value (priceA x)) s)
+  map-meets (sets x) s = rw (same x, map-standing (value (price_a x)) s)
   map-meets (removes p) s = refl
 
-  pub map-met : (es : List (Edit A)) (s : List A) → replaced priceB (map (map_edit f) es) (map f s) ≡ replaced priceA es s
+  pub map-met : (es : List (Edit A)) (s : List A) → replaced price_b (map (map_edit f) es) (map f s) ≡ replaced price_a es s
   unfolding replaced
   map-met [] s = refl
-  map-met (e ∷ es) s = rw (map-meets e s, ← map_apply e s, map-met es (apply priceA e s))
+  map-met (e ∷ es) s = rw (map-meets e s, ← map_apply e s, map-met es (apply price_a e s))
 
-  pub map-crosses : (bids asks : List A) → crosses priceB (map f bids) (map f asks) ≡ crosses priceA bids asks
+  pub map-crosses : (bids asks : List A) → crosses price_b (map f bids) (map f asks) ≡ crosses price_a bids asks
   unfolding crosses
   map-crosses [] asks = refl
   map-crosses (bid ∷ bids) [] = refl

@@ -12,34 +12,34 @@ All P (x ∷ s) = P x × All P s
 
 -- ---- sides: levels of any kind A that have a price
 
-module _ {A : Type 0} (priceOf : A → Number) where
+module _ {A : Type 0} (price_of : A → Number) where
   -- A side after a whole message: its entries applied, then the side ranked, then cut to the best `depth` levels.
   unfoldable pub after_message : Side → ℕ → List (Edit A) → List A → List A
-  after_message side depth es s = take depth (ranked priceOf side (apply_all priceOf es s))
+  after_message side depth es s = take depth (ranked price_of side (apply_all price_of es s))
 
   -- The same with the side ranked after each entry too.
   unfoldable pub ranked_each : Side → List (Edit A) → List A → List A
-  ranked_each side [] s = ranked priceOf side s
-  ranked_each side (e ∷ es) s = ranked_each side es (ranked priceOf side (apply priceOf e s))
+  ranked_each side [] s = ranked price_of side s
+  ranked_each side (e ∷ es) s = ranked_each side es (ranked price_of side (apply price_of e s))
 
   -- Does some entry set a level at a price where one stands by then?
   unfoldable pub replaces : Edit A → List A → Bool
-  replaces (sets x) s = standing priceOf (value_at priceOf x) s
+  replaces (sets x) s = standing price_of (value_at price_of x) s
   replaces (removes p) s = false
 
   unfoldable pub replaced : List (Edit A) → List A → Bool
   replaced [] s = false
-  replaced (e ∷ es) s = replaces e s || replaced es (apply priceOf e s)
+  replaced (e ∷ es) s = replaces e s || replaced es (apply price_of e s)
 
   -- At most one level a price.
   unfoldable pub Distinct : List A → Type 0
   Distinct [] = Unit
-  Distinct (x ∷ s) = All (λ y. value_at priceOf y ≡ value_at priceOf x → ⊥) s × Distinct s
+  Distinct (x ∷ s) = All (λ y. value_at price_of y ≡ value_at price_of x → ⊥) s × Distinct s
 
   -- In order, best first, and at most one level a price.
   unfoldable pub Sorted : Side → List A → Type 0
   Sorted side [] = Unit
-  Sorted side (x ∷ s) = All (λ y. nearer side (value_at priceOf x) (value_at priceOf y) ≡ true) s × Sorted side s
+  Sorted side (x ∷ s) = All (λ y. nearer side (value_at price_of x) (value_at price_of y) ≡ true) s × Sorted side s
 
 -- ---- entries whose levels are seen in another way
 

@@ -23,9 +23,9 @@ names_twice (p ∷ ps) = names (value p) ps || names_twice ps
 
 -- ---- a side: levels of any kind A that have a price
 
-module _ {A : Type 0} (priceOf : A → Number) where
+module _ {A : Type 0} (price_of : A → Number) where
   abbrev pub value_at : A → ℕ
-  value_at x = value (priceOf x)
+  value_at x = value (price_of x)
 
   -- Does a level stand at this price?
   unfoldable pub standing : ℕ → List A → Bool

@@ -23,7 +23,7 @@ use Rattle.entries.proofs.Tallies.{tally-bids, tally-asks}
 use Rattle.layout.proofs.Laws.{outline-is, outline-reads}
 use Rattle.entries.proofs.Claims.{AllHere, bad_at, bad-none, none-bad, FirstBad, first-bad}
 use Rattle.layout.specs.Layout.{is_snapshot, Layout, Envelope}
-use Rattle.layout.specs.Scan.{bad_at as layoutBad, is_printed, sum_of, outline_of, scan_of, scan_at}
+use Rattle.layout.specs.Scan.{bad_at as layout_bad, is_printed, sum_of, outline_of, scan_of, scan_at}
 use Rattle.layout.specs.declared.Outline.{Outline}
 use Rattle.layout.specs.declared.Scan.{Scan}
 use Rattle.message.specs.Meaning.{fails, passes, bad, decimals, entries_for, too_many, counted, laid_out, addressed}
@@ -104,7 +104,7 @@ module _ (s : List ℕ) (l : Layout) where
   outline-previous = ap (λ (o : Outline). o.previous) (outline-is s l)
 
   pub outline-bad : (outline_of s (reads l)).bad_at ≡ bad_at (is_snapshot l.kind) t
-  unfolding layoutBad
+  unfolding layout_bad
   outline-bad = ap (λ (o : Outline). o.bad_at) (outline-is s l) ∙ go (is_snapshot l.kind)
     where
       go : (b : Bool) → cond b t.strict_at t.broken_at ≡ bad_at b t

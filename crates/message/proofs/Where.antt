@@ -25,7 +25,7 @@ use Rattle.entries.specs.Rows.{Entry, sided_at}
 use Rattle.entries.proofs.Claims.{AllHere, here-none, here-also, sided-here}
 use Rattle.entries.specs.declared.Form.{Form}
 use Rattle.entries.specs.declared.Form.TheVariants as forms
-use Rattle.layout.specs.Layout.{is_snapshot as isSnapshot·m, Printed, printed, unprinted, Layout, Envelope, member_entries, entries_in, laid}
+use Rattle.layout.specs.Layout.{is_snapshot as is_snapshot_m, Printed, printed, unprinted, Layout, Envelope, member_entries, entries_in, laid}
 use Rattle.layout.specs.declared.Kind.{Kind}
 use Rattle.layout.specs.declared.Kind.TheVariants.{Snapshot, Update}
 use Rattle.message_k.specs.LayoutK.{Frame, frame_of, is_snapshot, is_update, together, entries_k, objects_layout, layout_k, envelope_k}
@@ -194,7 +194,7 @@ module _ (s : List ℕ) where
   linked-lies : (linked : Bool) (ms : List Pair) (l : Layout) → layout_in linked s ms ≡ reads l → LieIn forms.Pair s l
   unfolding layout_in linked_to
   linked-lies false ms l h = m-lies ms l h
-  linked-lies true ms l h = let p = then-reads (layout_m s ms) _ l h in at p.0 (isSnapshot·m p.0.kind) (m-lies ms p.0 p.2) p.1
+  linked-lies true ms l h = let p = then-reads (layout_m s ms) _ l h in at p.0 (is_snapshot_m p.0.kind) (m-lies ms p.0 p.2) p.1
     where
       at : (k : Layout) (b : Bool) → LieIn forms.Pair s k
           → cond b (reads k) (and_then (and_then (only (values_of s (ascii "prev_gsn") ms)) (whole_at s)) (λ n. reads (record { kind = k.kind; entries = k.entries; checksum = k.checksum; number = k.number; previous = n }))) ≡ reads l

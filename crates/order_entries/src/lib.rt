@@ -152,7 +152,7 @@ pub fn more_spans(
     from: usize,
     to: usize,
 ) -> MemberSpan
-    ensures { result ≡ on_member s.now name.entry.now with_member_span mark (record { name = record { from = first; to = past }; value = record { from = from; to = to } }) }
+    ensures { result ≡ on_member s.now name.now with_member_span mark (record { name = record { from = first; to = past }; value = record { from = from; to = to } }) }
 {
     if is_name(s, first, past, name) {
         return with_member_span(mark, from, to);

@@ -150,7 +150,7 @@ module _ {A : Type 0} (v : View A) where
   then_asks es asks clash = clashed
 
   unfoldable pub apply_both : List (Entry A) → List (Entry A) → List A → List A → Sides A
-  apply_both bidEntries askEntries bids asks = then_asks askEntries asks (apply_all Bids asks bidEntries bids)
+  apply_both bid_entries ask_entries bids asks = then_asks ask_entries asks (apply_all Bids asks bid_entries bids)
 
   unfoldable pub cut_both : ℕ → Sides A → Sides A
   cut_both depth (both bids asks) = both (best_prices depth bids) (best_prices depth asks)
@@ -158,7 +158,7 @@ module _ {A : Type 0} (v : View A) where
 
   -- An update: the entries of both sides, and then the cut.
   unfoldable pub after_update : ℕ → List (Entry A) → List (Entry A) → List A → List A → Sides A
-  after_update depth bidEntries askEntries bids asks = cut_both depth (apply_both bidEntries askEntries bids asks)
+  after_update depth bid_entries ask_entries bids asks = cut_both depth (apply_both bid_entries ask_entries bids asks)
 
   -- ---- a snapshot
 
@@ -207,8 +207,8 @@ module _ {A : Type 0} (v : View A) where
 
   -- A message that is taken leaves it so: an update where it was so before, and any snapshot.
   pub record KeepsOnce (depth : ℕ) : Type 0 where
-    pub update : (bidEntries askEntries : List (Entry A)) (bids asks : List A) → Once bids asks
-        → (bids' asks' : List A) → after_update depth bidEntries askEntries bids asks ≡ both bids' asks' → Once bids' asks'
+    pub update : (bid_entries ask_entries : List (Entry A)) (bids asks : List A) → Once bids asks
+        → (bids' asks' : List A) → after_update depth bid_entries ask_entries bids asks ≡ both bids' asks' → Once bids' asks'
     pub snapshot : (bids asks bids' asks' : List A) → after_snapshot depth bids asks ≡ both bids' asks' → Once bids' asks'
 
   -- What each step does to the queue at a price: `modify` moves none, `add` goes last at its own price and touches no other, `delete` takes its own id out,

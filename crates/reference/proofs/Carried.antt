@@ -19,7 +19,7 @@ use Rattle.entries.specs.declared.Form.TheVariants as forms
 use Rattle.layout.specs.Depths.{side_depth}
 use Rattle.layout.specs.declared.Kind.{Kind}
 use Rattle.layout.specs.declared.Kind.TheVariants.{Snapshot, Update}
-use Rattle.layout.specs.Layout.{is_snapshot as isSnapshot·l, Printed, printed, unprinted, Layout, Envelope, entries_in, laid}
+use Rattle.layout.specs.Layout.{is_snapshot as is_snapshot_l, Printed, printed, unprinted, Layout, Envelope, entries_in, laid}
 use Rattle.message_k.specs.LayoutK.{Frame, frame_of, together, is_snapshot, is_update, entries_k, objects_layout, layout_k, envelope_k}
 use Rattle.message_m.specs.LayoutM.{kind_at, layout_m, linked_to, layout_in, envelope_m}
 use Rattle.message.specs.Meaning.{Message, decodes, decode, Checked, fails, passes, envelope_in, checked, decoded_of, message_of}
@@ -110,7 +110,7 @@ linked-carries v true s ms = go (layout_m s ms) (m-carries v s ms)
     at l false h = then-read (Carrying (M v)) before _ (λ n. record { compared = h.compared; none = h.none; number = h.number })
 
     go : (x : Reading Layout) → Read (Carrying (M v)) x → Read (Carrying (M v)) (and_then x (linked_to s (values_of s (ascii "prev_gsn") ms)))
-    go (reads l) h = at l (isSnapshot·l l.kind) h
+    go (reads l) h = at l (is_snapshot_l l.kind) h
     go refused h = tt
 
 abbrev HeardCarries : Dialect → Envelope → Type 0

@@ -1,5 +1,6 @@
 -- A message that passes checks 2 to 8 is what its outline and the buffer say.
 -- Assumes nothing.
+use Rattle.std.specs.Prelude.{None, Option, Some}
 use mathlib.Core.Path.{◌≡◌, refl, sym, ap, ap₂, ◌∙◌, subst}
 use mathlib.Core.List.{List, [], ◌∷◌, map, ◌++◌}
 use mathlib.Core.Bool.{Bool, true, false, true≢false, cond}
@@ -7,7 +8,6 @@ use Prim.Native.Nat.{ℕ, ◌≤◌, ◌<◌, ◌+◌, ◌^◌}
 use native.Mathlib.Omega.{arith}
 use lib.ListN.{length, take, length-map}
 use lib.Seq.{take_all}
-use Rattle.decimal.specs.Digits.{Reading, reads, refused}
 use Rattle.decimal.specs.Decimal.{Number, read, is_zero}
 use Rattle.json_values.specs.Json.{Span}
 use Rattle.settings.specs.Kept.{config_of}
@@ -61,9 +61,9 @@ module _ (s : List ℕ) where
   unfolding bad_size number_at
   size-stands a h = go (read (inner s a)) h
     where
-      go : (x : Reading Number) → is_bad_size true x ≡ false → is_zero (number_in x) ≡ false
-      go (reads n) g = g
-      go refused g = absurd (true≢false g)
+      go : (x : Option Number) → is_bad_size true x ≡ false → is_zero (number_in x) ≡ false
+      go (Some n) g = g
+      go None g = absurd (true≢false g)
 
   sizes-stand : (es : List Entry) → bad_texts true s es ≡ [] → All (λ e. is_zero e.size ≡ false) (map (numbers_at s) es)
   unfolding bad_texts All numbers_at
@@ -82,9 +82,9 @@ module _ (s : List ℕ) where
 
 -- ---- a message that passes
 
-module _ (b : Book) (s buffer : List ℕ) (l : Layout) (passed : checked (config_of b.settings) s ≡ passes l) (kept : Kept s (reads l.entries) buffer) where
+module _ (b : Book) (s buffer : List ℕ) (l : Layout) (passed : checked (config_of b.settings) s ≡ passes l) (kept : Kept s (Some l.entries) buffer) where
   abbrev pub outlined : Outline
-  outlined = outline_of s (reads l)
+  outlined = outline_of s (Some l)
 
   count-is : outlined.bids + outlined.asks ≡ length l.entries
   count-is =

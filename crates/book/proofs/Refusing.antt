@@ -1,5 +1,6 @@
 -- Refusals, and the chain of checks 9 to 13 and 16, one test at a time.
 -- Assumes nothing.
+use Rattle.std.specs.Prelude.{Some}
 use mathlib.Core.Path.{◌≡◌, refl, sym, ap, ◌∙◌, subst}
 use mathlib.Core.List.{List, map}
 use mathlib.Core.Bool.{Bool, true, false, ◌&&◌, ◌||◌, not, cond}
@@ -19,7 +20,6 @@ use Rattle.message.specs.declared.Verdict.{Verdict}
 use Rattle.message.specs.declared.Verdict.TheVariants.{Fails, Passes}
 use Rattle.layout.specs.declared.Outline.{Outline}
 use Rattle.layout.specs.Scan.{outline_of}
-use Rattle.decimal.specs.Digits.{reads}
 use Rattle.reference.specs.Reference.{waiting, is_shut, is_live, Reference, rules, checksum_of, names_price_twice, lacks_snapshot, is_old, has_too_many, has_crossed, differs, has_wrong_checksum, verdict, After, taken_by, with_status, refused_by, answered, received, receive}
 use Rattle.settings.specs.Rules.{rules_of}
 use Rattle.book.specs.Shown.{shows, Good, Received}
@@ -89,13 +89,13 @@ module _ (s : List ℕ) (x : Checked) (v : Verdict) (h : v ≡ verdict_of s x) w
       go (fails b) k = let e : b ≡ a = cc in ap fails e
       go (passes l) k = let z : ◌≡◌ {A = ℕ} 0 1 = cc in absurd (omega arith)
 
-  pub verdict-passes : (o : Outline) → v ≡ Passes o → (l : Layout) × (x ≡ passes l) × (o ≡ outline_of s (reads l))
+  pub verdict-passes : (o : Outline) → v ≡ Passes o → (l : Layout) × (x ≡ passes l) × (o ≡ outline_of s (Some l))
   unfolding verdict_of
   verdict-passes o g = go x (sym h ∙ g)
     where
-      go : (y : Checked) → verdict_of s y ≡ Passes o → (l : Layout) × (y ≡ passes l) × (o ≡ outline_of s (reads l))
+      go : (y : Checked) → verdict_of s y ≡ Passes o → (l : Layout) × (y ≡ passes l) × (o ≡ outline_of s (Some l))
       go (fails b) k = let z : ◌≡◌ {A = ℕ} 0 1 = cc in absurd (omega arith)
-      go (passes l) k = let e : outline_of s (reads l) ≡ o = cc in (l, refl, sym e)
+      go (passes l) k = let e : outline_of s (Some l) ≡ o = cc in (l, refl, sym e)
 
 -- ---- checks 9 to 13 and 16
 

@@ -1,8 +1,8 @@
 -- Document 01's cases under "Checked by hand" that are to be proved, with document 02's of twelve decimals, as one table under one statement. Assumes nothing.
-use Rattle.std.specs.Prelude.{ℕ, ◌≡◌, refl, List, [], ◌∷◌}
+use Rattle.std.specs.Prelude.{ℕ, ◌≡◌, refl, List, [], ◌∷◌, None, Some}
 use Prim.Native.String.{String}
 use Rattle.text.specs.Text.{ascii, is_digit, joined}
-use Rattle.decimal.specs.Digits.{reads, refused, leading, value_from, fixed, significant_in, significant, written}
+use Rattle.decimal.specs.Digits.{leading, value_from, fixed, significant_in, significant, written}
 use Rattle.decimal.specs.Decimal.{Number, is_whole, fractional, pointed, prefix, read, text, after_point, without_point, without_zeros, stripped, value}
 use Rattle.decimal.specs.Limits.{order_of, order}
 use Rattle.decimal.specs.declared.Order.TheVariants.{Equal}
@@ -13,7 +13,7 @@ use Rattle.checksum.specs.Text.{k_level, k_checksum_text, interleaved, colon_joi
 
 -- A decimal and a level from their texts.
 unfoldable pub decimal : String → Number
-decimal s = elim (read (ascii s)) [ reads n ↦ n | refused ↦ record { digits = 0; decimals = 0 } ]
+decimal s = elim (read (ascii s)) [ Some n ↦ n | None ↦ record { digits = 0; decimals = 0 } ]
 
 unfoldable pub level : String → String → PriceLevel
 level price size = record { price = decimal price; size = decimal size }
@@ -30,10 +30,10 @@ pub data Case : Type 0 where
   sums_to : String → ℕ → Case
 
 abbrev pub Holds : Case → Type 0
-Holds (is s digits decimals) = read (ascii s) ≡ reads (record { digits = digits; decimals = decimals })
-Holds (passes s) = read (ascii s) ≡ reads (decimal s)
-Holds (refuses s) = read (ascii s) ≡ refused
-Holds (one_price s t) = (read (ascii s) ≡ reads (decimal s)) × (read (ascii t) ≡ reads (decimal t)) × (order (decimal s) (decimal t) ≡ Equal)
+Holds (is s digits decimals) = read (ascii s) ≡ Some (record { digits = digits; decimals = decimals })
+Holds (passes s) = read (ascii s) ≡ Some (decimal s)
+Holds (refuses s) = read (ascii s) ≡ None
+Holds (one_price s t) = (read (ascii s) ≡ Some (decimal s)) × (read (ascii t) ≡ Some (decimal t)) × (order (decimal s) (decimal t) ≡ Equal)
 Holds (k_text ask s) = k_checksum_text 10 [] (ask ∷ []) ≡ ascii s
 Holds (m_text bids asks s) = m_checksum_text 100 bids asks ≡ ascii s
 Holds (sums_to s n) = crc (ascii s) ≡ n

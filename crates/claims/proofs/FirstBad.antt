@@ -1,4 +1,5 @@
 -- The first bad text. Entries lie one after another, so the texts that break check 8 begin in the order of the entries. Assumes nothing.
+use Rattle.std.specs.Prelude.{None, Option, Some}
 use Prim.Native.Nat.{ℕ, zero, suc, ◌+◌, ◌≤◌, ◌<◌}
 use mathlib.Core.Path.{◌≡◌, refl, sym, ap, ◌∙◌, subst}
 use mathlib.Core.Bool.{Bool, true, false, ◌&&◌, cond}
@@ -6,10 +7,9 @@ use mathlib.Core.List.{List, [], ◌∷◌, ◌++◌, map, append_assoc}
 use lib.Dec.{eqb}
 use native.Mathlib.Omega.{arith}
 use Rattle.text.specs.Text.{byte_at}
-use Rattle.decimal.specs.Digits.{Reading, reads, refused}
 use Rattle.edit.specs.declared.Side.{Side}
 use Rattle.edit.specs.declared.Side.TheVariants.{Bids, Asks}
-use Rattle.json_tokens.specs.Tokens.{At, scalar}
+use Rattle.json_tokens.specs.Tokens.{scalar}
 use Rattle.json_values.specs.Json.{Span, Pair, Items, items, no_items, elements, members, value, items_end}
 use Rattle.json_values.specs.Names.{means}
 use Rattle.json_values.specs.Claims.{InOrder, end, then, IsElement}
@@ -56,17 +56,17 @@ record RowIn (lo hi : ℕ) (r : Row) : Type 0 where
   second : r.price.from ≤ r.size.from
   last : r.size.from ≤ hi
 
-then-reads : {A B : Type 0} (x : Reading A) (f : A → Reading B) (b : B) → and_then x f ≡ reads b → (a : A) × (f a ≡ reads b) × (x ≡ reads a)
+then-reads : {A B : Type 0} (x : Option A) (f : A → Option B) (b : B) → and_then x f ≡ Some b → (a : A) × (f a ≡ Some b) × (x ≡ Some a)
 unfolding and_then
-then-reads (reads a) f b h = (a, h, refl)
-then-reads refused f b h = no_row h
+then-reads (Some a) f b h = (a, h, refl)
+then-reads None f b h = no_row h
 
-if-two : (t : Bool) (s : List ℕ) (w p z : Span) (k : List Span) (r : Row) → cond t (reads (record { whole = w; price = p; size = z })) refused ≡ reads r
+if-two : (t : Bool) (s : List ℕ) (w p z : Span) (k : List Span) (r : Row) → cond t (Some (record { whole = w; price = p; size = z })) None ≡ Some r
     → (others : List Span) × (p ∷ (z ∷ k) ≡ r.price ∷ (r.size ∷ others))
 if-two true s w p z k r h = (k, rw (same_row h))
 if-two false s w p z k r h = no_row h
 
-first_two : (form : Form) (s : List ℕ) (w : Span) (l : List Span) (r : Row) → row_of form s w l ≡ reads r → (others : List Span) × (l ≡ r.price ∷ (r.size ∷ others))
+first_two : (form : Form) (s : List ℕ) (w : Span) (l : List Span) (r : Row) → row_of form s w l ≡ Some r → (others : List Span) × (l ≡ r.price ∷ (r.size ∷ others))
 unfolding row_k row_m
 first_two forms.Triple s w [] r h = no_row h
 first_two forms.Triple s w (p ∷ []) r h = no_row h
@@ -89,7 +89,7 @@ module _ (form : Form) (d : ℕ) (s : List ℕ) where
       let v = c2.begins in
       (omega arith, omega arith, omega arith)
 
-  row_in : (w : Span) (i : ℕ) (x : Items Span) → elements (value d s) s i ≡ x → (e : ℕ) → items_end x ≡ At e → (r : Row) → and_then (contents x) (row_of form s w) ≡ reads r → RowIn i e r
+  row_in : (w : Span) (i : ℕ) (x : Items Span) → elements (value d s) s i ≡ x → (e : ℕ) → items_end x ≡ Some e → (r : Row) → and_then (contents x) (row_of form s w) ≡ Some r → RowIn i e r
   unfolding contents and_then items_end
   row_in w i (items l f) q e h r g =
       let k = first_two form s w l r g in
@@ -99,14 +99,14 @@ module _ (form : Form) (d : ℕ) (s : List ℕ) where
       record { first = t.0; second = t.1; last = subst (λ (n : ℕ). r.size.from ≤ n) z t.2 }
   row_in w i no_items q e h r g = no_row g
 
-entry_in : (form : Form) (d : ℕ) (s : List ℕ) (a : Span) (r : Row) → value d s a.from ≡ At a.to → entry_of form d s a ≡ reads r → RowIn a.from a.to r
+entry_in : (form : Form) (d : ℕ) (s : List ℕ) (a : Span) (r : Row) → value d s a.from ≡ Some a.to → entry_of form d s a ≡ Some r → RowIn a.from a.to r
 unfolding entry_of array_at and_then value
 entry_in form zero s a r v h = no_row h
 entry_in form (suc d) s a r v h = go (eqb (byte_at s a.from) 91) v h
   where
     go : (b : Bool)
-        → elim b [ true ↦ items_end (elements (value d s) s (a.from + 1)) | false ↦ elim (eqb (byte_at s a.from) 123) [ true ↦ items_end (members (value d s) s (a.from + 1)) | false ↦ scalar s a.from ] ] ≡ At a.to
-        → and_then (cond b (contents (elements (value d s) s (a.from + 1))) refused) (row_of form s a) ≡ reads r → RowIn a.from a.to r
+        → elim b [ true ↦ items_end (elements (value d s) s (a.from + 1)) | false ↦ elim (eqb (byte_at s a.from) 123) [ true ↦ items_end (members (value d s) s (a.from + 1)) | false ↦ scalar s a.from ] ] ≡ Some a.to
+        → and_then (cond b (contents (elements (value d s) s (a.from + 1))) None) (row_of form s a) ≡ Some r → RowIn a.from a.to r
     go true u g =
         let t = row_in form d s a (a.from + 1) (elements (value d s) s (a.from + 1)) refl a.to u r g in
         let z = t.first in
@@ -134,13 +134,13 @@ module _ (form : Form) (s : List ℕ) (snapshot : Bool) where
   entry-ordered false true hi mid lo a b l f g h o = more lo b l (omega arith) (sooner hi mid b.from l h o)
   entry-ordered false false hi mid lo a b l f g h o = sooner hi mid lo l (omega arith) o
 
-  rows-ordered : (side : Side) (d hi lo : ℕ) (l : List Span) (rows : List Row) → InOrder (IsElement d s) hi lo l → all (entry_of form d s) l ≡ reads rows
+  rows-ordered : (side : Side) (d hi lo : ℕ) (l : List Span) (rows : List Row) → InOrder (IsElement d s) hi lo l → all (entry_of form d s) l ≡ Some rows
       → Ordered hi lo (texts (map (sided side) rows))
   unfolding all bad_texts
   rows-ordered side d hi lo l rows (end i h) k = subst (λ (x : List Row). Ordered hi lo (texts (map (sided side) x))) (sym (same_row k)) (none lo (omega arith))
   rows-ordered side d hi lo l rows (then i from to a m g h e o) k =
-      let x = then-reads (entry_of form d s a) (λ b. and_then (all (entry_of form d s) m) (λ bs. reads (b ∷ bs))) rows k in
-      let y = then-reads (all (entry_of form d s) m) (λ bs. reads (x.0 ∷ bs)) rows x.1 in
+      let x = then-reads (entry_of form d s a) (λ b. and_then (all (entry_of form d s) m) (λ bs. Some (b ∷ bs))) rows k in
+      let y = then-reads (all (entry_of form d s) m) (λ bs. Some (x.0 ∷ bs)) rows x.1 in
       let t = rows-ordered side d hi to m y.0 o y.2 in
       let r = entry_in form d s a x.0 e.a_value x.2 in
       let u = r.first in
@@ -151,17 +151,17 @@ module _ (form : Form) (s : List ℕ) (snapshot : Bool) where
       (entry-ordered (bad_price s x.0.price) (bad_size snapshot s x.0.size) hi to lo x.0.price x.0.size (texts (map (sided side) y.0)) (omega arith) r.second (omega arith) t)
 
   -- those of an array, which is a value
-  array-ordered : (side : Side) (d : ℕ) (a : Span) (es : List Entry) → value (suc d) s a.from ≡ At a.to → sided_at side form (suc d) s a ≡ reads es → Ordered a.to a.from (texts es)
+  array-ordered : (side : Side) (d : ℕ) (a : Span) (es : List Entry) → value (suc d) s a.from ≡ Some a.to → sided_at side form (suc d) s a ≡ Some es → Ordered a.to a.from (texts es)
   unfolding sided_at entries_at array_at value contents items_end
   array-ordered side d a es v h =
-      let x = then-reads (entries_at form (suc d) s a) (λ rows. reads (map (sided side) rows)) es h in
+      let x = then-reads (entries_at form (suc d) s a) (λ rows. Some (map (sided side) rows)) es h in
       let y = then-reads (array_at (suc d) s a) (all (entry_of form d s)) x.0 x.2 in
       subst (λ (z : List Entry). Ordered a.to a.from (texts z)) (sym (same_row x.1))
       (at (eqb (byte_at s a.from) 91) (elements (value d s) s (a.from + 1)) refl v y.0 x.0 y.2 y.1)
     where
       at : (b : Bool) (z : Items Span) → elements (value d s) s (a.from + 1) ≡ z
-          → elim b [ true ↦ items_end z | false ↦ elim (eqb (byte_at s a.from) 123) [ true ↦ items_end (members (value d s) s (a.from + 1)) | false ↦ scalar s a.from ] ] ≡ At a.to
-          → (l : List Span) (rows : List Row) → cond b (contents z) refused ≡ reads l → all (entry_of form d s) l ≡ reads rows → Ordered a.to a.from (texts (map (sided side) rows))
+          → elim b [ true ↦ items_end z | false ↦ elim (eqb (byte_at s a.from) 123) [ true ↦ items_end (members (value d s) s (a.from + 1)) | false ↦ scalar s a.from ] ] ≡ Some a.to
+          → (l : List Span) (rows : List Row) → cond b (contents z) None ≡ Some l → all (entry_of form d s) l ≡ Some rows → Ordered a.to a.from (texts (map (sided side) rows))
       at true (items m e) q u l rows g k =
           let n : e ≡ a.to = cc in
           let o : InOrder (IsElement d s) e (a.from + 1) l = subst (InOrder (IsElement d s) e (a.from + 1)) (sym (same_row g)) (elements-in-order d s (a.from + 1) m e q).0 in
@@ -171,19 +171,19 @@ module _ (form : Form) (s : List ℕ) (snapshot : Bool) where
       at false z q u l rows g k = no_row g
 
   -- those of a member, and of members that follow one another
-  member-ordered : (bids asks : List ℕ) (m : Pair) (es : List Entry) → value 14 s m.value.from ≡ At m.value.to → member_entries form 14 s bids asks m ≡ reads es
+  member-ordered : (bids asks : List ℕ) (m : Pair) (es : List Entry) → value 14 s m.value.from ≡ Some m.value.to → member_entries form 14 s bids asks m ≡ Some es
       → Ordered m.value.to m.value.from (texts es)
   unfolding member_entries bad_texts
   member-ordered bids asks m es v h = at (means s m.name bids) (means s m.name asks) h
     where
-      at : (b a : Bool) → cond b (sided_at Bids form 14 s m.value) (cond a (sided_at Asks form 14 s m.value) (reads [])) ≡ reads es → Ordered m.value.to m.value.from (texts es)
+      at : (b a : Bool) → cond b (sided_at Bids form 14 s m.value) (cond a (sided_at Asks form 14 s m.value) (Some [])) ≡ Some es → Ordered m.value.to m.value.from (texts es)
       at true a g = array-ordered Bids 13 m.value es v g
       at false true g = array-ordered Asks 13 m.value es v g
       at false false g =
           let w = (ends-within 14 s m.value.from m.value.to v).0 in
           subst (λ (x : List Entry). Ordered m.value.to m.value.from (texts x)) (sym (same_row g)) (none m.value.from (omega arith))
 
-  members-ordered : (bids asks : List ℕ) (hi lo : ℕ) (ms : List Pair) (es : List Entry) → Follow s hi lo ms → entries_in form 14 s bids asks ms ≡ reads es → Ordered hi lo (texts es)
+  members-ordered : (bids asks : List ℕ) (hi lo : ℕ) (ms : List Pair) (es : List Entry) → Follow s hi lo ms → entries_in form 14 s bids asks ms ≡ Some es → Ordered hi lo (texts es)
   unfolding entries_in bad_texts
   members-ordered bids asks hi lo ms es (no_more i g) h = subst (λ (x : List Entry). Ordered hi lo (texts x)) (sym (same_row h)) (none lo g)
   members-ordered bids asks hi lo ms es (follows i m l g v f) h =

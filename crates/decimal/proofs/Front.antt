@@ -1,8 +1,9 @@
 -- What the runs of digits that a reader finds say of the decimal at the front of a text. Assumes nothing.
+use Rattle.std.specs.Prelude.{None, Option, Some}
 use Rattle.std.proofs.Common.{◌≡◌, ℕ, suc, ◌+◌, ◌-◌, ◌*◌, ◌^◌, ◌<◌, ◌≤◌, min, Bool, true, false, ◌&&◌, eqb, ltb, List, ◌++◌, length, get_or, take, drop, sym, refl, ap, ◌∙◌, subst, ap₂, not-suc-le-zero, le_of_lt, one-mul, arith, lit<, length-drop, take-append-drop, length-take, get_or-drop, take_all, drop-drop, ltb-false, ltb-true}
 use lib.ListN.{get_or-eq_default}
 use Rattle.text.specs.Text.{is_digit}
-use Rattle.decimal.specs.Digits.{Reading, reads, refused, leading, value_from, value_of}
+use Rattle.decimal.specs.Digits.{leading, value_from, value_of}
 use Rattle.decimal.specs.Decimal.{is_whole, Number, Prefix, fractional, prefix, number_of, near, max_whole, max_decimals}
 use Rattle.decimal.specs.Reads.{Ran}
 use Rattle.decimal.specs.declared.reading.Run.{Run}
@@ -102,8 +103,8 @@ module _ {s : List ℕ} {at most : ℕ} {r : Run} (ran : Ran s at 0 most r) (n :
 abbrev pair : ℕ → ℕ → Number
 pair digits decimals = record { digits = digits; decimals = decimals }
 
-abbrev found : Number → ℕ → Reading Prefix
-found n size = reads (record { number = n; size = size })
+abbrev found : Number → ℕ → Option Prefix
+found n size = Some (record { number = n; size = size })
 
 -- the digits past the ninth decimal, read after a 1, are the code that tells them
 past-number : {s : List ℕ} {at : ℕ} {r : Run} → Ran s at 1 (max_decimals - near) r → (digits : ℕ) → is_digit (get_or s at 0) ≡ true → is_digit (get_or s r.end 0) ≡ false →
@@ -117,10 +118,10 @@ past-number {s} {at} {r} ran digits one h =
     ∙ ap (λ (n : ℕ). pair n (near + length (leading (drop at s)))) (sym (value-base digits (leading (drop at s))))
 
 module _ {s : List ℕ} {at : ℕ} {r : Run} where
-  pub front-empty : Ran s at 0 max_whole r → r.end ≡ at → prefix (drop at s) ≡ refused
+  pub front-empty : Ran s at 0 max_whole r → r.end ≡ at → prefix (drop at s) ≡ None
   front-empty ran e = prefix-refused (drop at s) (whole-empty max_whole (leading (drop at s)) (run_none ran e (omega arith)))
 
-  pub front_long : Ran s at 0 max_whole r → is_digit (get_or s r.end 0) ≡ true → prefix (drop at s) ≡ refused
+  pub front_long : Ran s at 0 max_whole r → is_digit (get_or s r.end 0) ≡ true → prefix (drop at s) ≡ None
   front_long ran h = prefix-refused (drop at s) (whole_long max_whole (leading (drop at s)) (run_more ran h))
 
 module _ {s : List ℕ} {at : ℕ} {r : Run} (w : WholePart s at max_whole r) where
@@ -151,7 +152,7 @@ module _ {s : List ℕ} {at : ℕ} {r : Run} (w : WholePart s at max_whole r) wh
         ∙ ap (λ (t : List ℕ). fractional (leading (drop at s)) (leading t)) after-point
 
     module _ {f : Run} (ran : Ran s (r.end + 1) r.value near f) where
-      pub fraction-empty : f.end ≡ r.end + 1 → prefix (drop at s) ≡ refused
+      pub fraction-empty : f.end ≡ r.end + 1 → prefix (drop at s) ≡ None
       fraction-empty e = with-fraction ∙ fraction-none (leading (drop at s)) (leading (drop (r.end + 1) s)) (run_none ran e (omega arith))
 
       whole-value : value_from r.value (leading (drop (r.end + 1) s)) ≡ value_of (leading (drop at s) ++ leading (drop (r.end + 1) s))
@@ -204,7 +205,7 @@ module _ {s : List ℕ} {at : ℕ} {r : Run} (w : WholePart s at max_whole r) wh
             omega arith
 
         module _ {m : Run} (past : Ran s f.end 1 (max_decimals - near) m) where
-          pub fraction-more : is_digit (get_or s m.end 0) ≡ true → prefix (drop at s) ≡ refused
+          pub fraction-more : is_digit (get_or s m.end 0) ≡ true → prefix (drop at s) ≡ None
           fraction-more g =
               let a : near + length (leading (drop f.end s)) ≡ length (leading (drop (r.end + 1) s)) = all-length in
               let l : max_decimals - near < length (leading (drop f.end s)) = run_more past g in

@@ -1,12 +1,13 @@
 -- Laws of `leading`, `prefix` and `read` at a position of a text: what a reader that goes byte by byte finds there.
 -- Assumes nothing.
+use Rattle.std.specs.Prelude.{None, Some}
 use Rattle.std.proofs.Common.{◌≡◌, ℕ, zero, suc, ◌+◌, ◌-◌, ◌*◌, ◌%◌, ◌^◌, ◌<◌, ◌≤◌, Bool, true, false, not, ◌&&◌, eqb, ltb, leb, List, [], ◌∷◌, ◌++◌, length, get_or, take, drop, sym, refl, ap, ◌∙◌, subst, ap₂, zero-le, le_trans, not-suc-le-zero, mul-le-mul_right, zero-lt-suc, mul_assoc, mul_comm, mul-le-mul_left, pow-suc, mul-one, add-one, arith, drop_of_length-le, drop-cons, ltb-false, ltb-true, le-ltb, lt-ltb, eq-eqb, ne_eqb, le-leb}
 use native.Mathlib.Decide.{dec_lt}
 use borrow.Author.Tests.{lt-leb}
 use lib.ListN.{get_or-eq_default}
 use lib.Seq.{take-nil}
 use Rattle.text.specs.Text.{is_digit}
-use Rattle.decimal.specs.Digits.{reads, refused, leading}
+use Rattle.decimal.specs.Digits.{leading}
 use Rattle.decimal.specs.Decimal.{is_whole, Prefix, prefixed, fractional, pointed, prefix, read, max_whole, max_decimals}
 use Rattle.decimal.specs.Reads.{DigitOf}
 use Rattle.decimal.proofs.Digits.{leading-more, leading-stop, digit-in, is-digit, tens}
@@ -197,7 +198,7 @@ whole-good most w p l z = and-true (le-leb 1 (length w) p) (and-true (le-leb (le
 -- ---- the decimal at the front of a text
 
 module _ (t : List ℕ) where
-  pub prefix-refused : is_whole max_whole (leading t) ≡ false → prefix t ≡ refused
+  pub prefix-refused : is_whole max_whole (leading t) ≡ false → prefix t ≡ None
   unfolding prefix
   prefix-refused h = rw (h, prefix)
 
@@ -214,11 +215,11 @@ pub pointed-fraction : (w t : List ℕ) → get_or t 0 0 ≡ 46 → pointed w t 
 unfolding pointed
 pointed-fraction w t h = rw (eq-eqb (get_or t 0 0) 46 h, pointed)
 
-pub fraction-none : (w f : List ℕ) → length f ≡ 0 → fractional w f ≡ refused
+pub fraction-none : (w f : List ℕ) → length f ≡ 0 → fractional w f ≡ None
 unfolding fractional
 fraction-none w f h = rw (and_left (leb 1 (length f)) (leb (length f) max_decimals) (lt-leb 1 (length f) (omega arith)), fractional)
 
-pub fraction-long : (w f : List ℕ) → max_decimals < length f → fractional w f ≡ refused
+pub fraction-long : (w f : List ℕ) → max_decimals < length f → fractional w f ≡ None
 unfolding fractional
 fraction-long w f h = rw (and_right (leb 1 (length f)) (leb (length f) max_decimals) (lt-leb (length f) max_decimals h), fractional)
 
@@ -228,14 +229,14 @@ fraction-good w f p l = rw (and-true (le-leb 1 (length f) p) (le-leb (length f) 
 
 -- ---- the decimal that a text is
 
-pub read_all : (s : List ℕ) (p : Prefix) → prefix s ≡ reads p → p.size ≡ length s → read s ≡ reads p.number
+pub read_all : (s : List ℕ) (p : Prefix) → prefix s ≡ Some p → p.size ≡ length s → read s ≡ Some p.number
 unfolding read
 read_all s p h e = rw (h, eq-eqb p.size (length s) e, read)
 
-pub read-part : (s : List ℕ) (p : Prefix) → prefix s ≡ reads p → (p.size ≡ length s → ⊥) → read s ≡ refused
+pub read-part : (s : List ℕ) (p : Prefix) → prefix s ≡ Some p → (p.size ≡ length s → ⊥) → read s ≡ None
 unfolding read
 read-part s p h n = rw (h, ne_eqb p.size (length s) n, read)
 
-pub read_none : (s : List ℕ) → prefix s ≡ refused → read s ≡ refused
+pub read_none : (s : List ℕ) → prefix s ≡ None → read s ≡ None
 unfolding read
 read_none s h = rw (h, read)

@@ -1,7 +1,7 @@
 -- Decimals, as document 01 has them under "Decimals": 1 to 10 digits, then optionally a point and 1 to 12 digits; no sign, no exponent;
 -- no leading zero before the point unless it is the single digit 0. Assumes nothing: these are definitions.
-use Rattle.std.specs.Prelude.{ℕ, zero, suc, ◌+◌, ◌-◌, ◌*◌, ◌/◌, ◌%◌, ◌^◌, Bool, true, false, cond, not, ◌&&◌, List, [], ◌∷◌, ◌++◌, length, drop, ◌==◌, nat_le, nat_lt, slice_index}
-use Rattle.decimal.specs.Digits.{Reading, reads, refused, leading, value_of, fixed, written}
+use Rattle.std.specs.Prelude.{ℕ, zero, suc, ◌+◌, ◌-◌, ◌*◌, ◌/◌, ◌%◌, ◌^◌, Bool, true, false, cond, not, ◌&&◌, List, [], ◌∷◌, ◌++◌, length, drop, ◌==◌, nat_le, nat_lt, slice_index, None, Option, Some}
+use Rattle.decimal.specs.Digits.{leading, value_of, fixed, written}
 use Rattle.decimal.specs.declared.Decimal.{Decimal}
 
 -- ---- limits: digits before the point, and after it
@@ -54,23 +54,23 @@ pub record Prefix : Type 0 where
   pub number : Number
   pub size : ℕ
 
-abbrev pub prefixed : List ℕ → ℕ → ℕ → Reading Prefix
-prefixed w decimals size = reads (record { number = record { digits = value_of w; decimals = decimals }; size = size })
+abbrev pub prefixed : List ℕ → ℕ → ℕ → Option Prefix
+prefixed w decimals size = Some (record { number = record { digits = value_of w; decimals = decimals }; size = size })
 
 -- w before the point and f after it
-unfoldable pub fractional : List ℕ → List ℕ → Reading Prefix
-fractional w f = cond (nat_le 1 (length f) && nat_le (length f) max_decimals) (prefixed (w ++ f) (length f) (length w + 1 + length f)) refused
+unfoldable pub fractional : List ℕ → List ℕ → Option Prefix
+fractional w f = cond (nat_le 1 (length f) && nat_le (length f) max_decimals) (prefixed (w ++ f) (length f) (length w + 1 + length f)) None
 
 -- w before the point, if there is one at the front of t
-unfoldable pub pointed : List ℕ → List ℕ → Reading Prefix
+unfoldable pub pointed : List ℕ → List ℕ → Option Prefix
 pointed w t = cond (slice_index t 0 == point) (fractional w (leading (drop 1 t))) (prefixed w 0 (length w))
 
-unfoldable pub prefix : List ℕ → Reading Prefix
-prefix s = cond (is_whole max_whole (leading s)) (pointed (leading s) (drop (length (leading s)) s)) refused
+unfoldable pub prefix : List ℕ → Option Prefix
+prefix s = cond (is_whole max_whole (leading s)) (pointed (leading s) (drop (length (leading s)) s)) None
 
 -- A decimal text: a decimal at its front, and nothing after it.
-unfoldable pub read : List ℕ → Reading Number
-read s = elim (prefix s) [ reads p ↦ elim (p.size == length s) [ true ↦ reads p.number | false ↦ refused ] | refused ↦ refused ]
+unfoldable pub read : List ℕ → Option Number
+read s = elim (prefix s) [ Some p ↦ elim (p.size == length s) [ true ↦ Some p.number | false ↦ None ] | None ↦ None ]
 
 -- ---- its text rebuilt
 

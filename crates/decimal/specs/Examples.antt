@@ -1,7 +1,7 @@
 -- Worked examples of the definitions. Assumes nothing.
-use Rattle.std.specs.Prelude.{◌≡◌, [], ◌∷◌, refl}
+use Rattle.std.specs.Prelude.{◌≡◌, [], ◌∷◌, refl, None, Some}
 use Rattle.text.specs.Text.{is_digit}
-use Rattle.decimal.specs.Digits.{reads, refused, leading, value_from, fixed, significant_in, significant, written}
+use Rattle.decimal.specs.Digits.{leading, value_from, fixed, significant_in, significant, written}
 use Rattle.decimal.specs.Decimal.{Number, is_whole, fractional, pointed, prefix, read, text, after_point, without_point, without_zeros, stripped, value, number_of, far_of, past_of, decimals_of}
 use Rattle.decimal.specs.Limits.{order, order_of}
 use Rattle.text.specs.Text.{ascii}
@@ -12,7 +12,7 @@ use Rattle.decimal.specs.Whole.{read_whole, at_most, read_checksum}
 five : Number
 five = record { digits = 5120; decimals = 5 }
 
-reads_0_05120 : read (48 ∷ 46 ∷ 48 ∷ 53 ∷ 49 ∷ 50 ∷ 48 ∷ []) ≡ reads five
+reads_0_05120 : read (48 ∷ 46 ∷ 48 ∷ 53 ∷ 49 ∷ 50 ∷ 48 ∷ []) ≡ Some five
 unfolding five read prefix is_whole pointed fractional leading is_digit value_from
 reads_0_05120 = refl
 
@@ -25,7 +25,7 @@ unfolding five stripped text after_point fixed written significant significant_i
 strips_0_05120 = refl
 
 -- 05
-refuses_05 : read (48 ∷ 53 ∷ []) ≡ refused
+refuses_05 : read (48 ∷ 53 ∷ []) ≡ None
 unfolding read prefix is_whole leading is_digit
 refuses_05 = refl
 
@@ -35,18 +35,18 @@ unfolding value
 half = refl
 
 -- twelve decimals, and not thirteen; ten digits before the point, and not eleven
-reads_twelve : read (ascii "0.000000000001") ≡ reads (record { digits = 1; decimals = 12 })
+reads_twelve : read (ascii "0.000000000001") ≡ Some (record { digits = 1; decimals = 12 })
 unfolding read prefix is_whole pointed fractional leading is_digit value_from
 reads_twelve = refl
 
-refuses_thirteen : read (ascii "0.0000000000001") ≡ refused
+refuses_thirteen : read (ascii "0.0000000000001") ≡ None
 unfolding read prefix is_whole pointed fractional leading is_digit value_from
 refuses_thirteen = refl
 
 largest_decimal : Number
 largest_decimal = record { digits = 9999999999999999999999; decimals = 12 }
 
-reads_largest : read (ascii "9999999999.999999999999") ≡ reads largest_decimal
+reads_largest : read (ascii "9999999999.999999999999") ≡ Some largest_decimal
 unfolding largest_decimal read prefix is_whole pointed fractional leading is_digit value_from
 reads_largest = refl
 
@@ -54,7 +54,7 @@ writes_largest : text largest_decimal ≡ ascii "9999999999.999999999999"
 unfolding largest_decimal text after_point fixed written significant significant_in
 writes_largest = refl
 
-refuses_eleven : read (ascii "10000000000.5") ≡ refused
+refuses_eleven : read (ascii "10000000000.5") ≡ None
 unfolding read prefix is_whole leading is_digit
 refuses_eleven = refl
 
@@ -94,10 +94,10 @@ unfolding order order_of value number_of far_of past_of decimals_of
 more = refl
 
 -- 4294967295 is the largest checksum
-largest : read_checksum (52 ∷ 50 ∷ 57 ∷ 52 ∷ 57 ∷ 54 ∷ 55 ∷ 50 ∷ 57 ∷ 53 ∷ []) ≡ reads 4294967295
+largest : read_checksum (52 ∷ 50 ∷ 57 ∷ 52 ∷ 57 ∷ 54 ∷ 55 ∷ 50 ∷ 57 ∷ 53 ∷ []) ≡ Some 4294967295
 unfolding read_checksum at_most read_whole is_whole leading is_digit value_from
 largest = refl
 
-one_more : read_checksum (52 ∷ 50 ∷ 57 ∷ 52 ∷ 57 ∷ 54 ∷ 55 ∷ 50 ∷ 57 ∷ 54 ∷ []) ≡ refused
+one_more : read_checksum (52 ∷ 50 ∷ 57 ∷ 52 ∷ 57 ∷ 54 ∷ 55 ∷ 50 ∷ 57 ∷ 54 ∷ []) ≡ None
 unfolding read_checksum at_most read_whole is_whole leading is_digit value_from
 one_more = refl

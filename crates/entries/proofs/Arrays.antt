@@ -1,5 +1,6 @@
 -- An array of entries, entry by entry: what was met of the elements that were passed, what is left of them, and the buffer that has their numbers. At the
 -- end all of them were met. Assumes nothing.
+use Rattle.std.specs.Prelude.{None, Option, Some, ℕ}
 use Prim.Native.Nat.{ℕ, zero, suc, ◌+◌, ◌-◌, ◌≤◌, ◌<◌}
 use mathlib.Core.Path.{◌≡◌, refl, sym, ap, ap₂, ◌∙◌, subst}
 use mathlib.Core.Bool.{Bool, true, false}
@@ -11,12 +12,11 @@ use lib.Dec.{ltb}
 use lib.ListN.{length, take, set, length-append, length-map, length-take}
 use lib.Seq.{take_all, take-append-le, take-suc-set, set_out, append_snoc}
 use Rattle.text.specs.Text.{byte_at}
-use Rattle.decimal.specs.Digits.{Reading, reads, refused}
 use Rattle.edit.specs.Buffer.{max_buffered, buffer_words, entries_in}
 use Rattle.edit.specs.Buffer as buffers
 use Rattle.edit.proofs.Threes.{threes-length}
 use Rattle.edit.specs.declared.Side.{Side}
-use Rattle.json_tokens.specs.Tokens.{End, At, Broken, blanks, closing, separator}
+use Rattle.json_tokens.specs.Tokens.{blanks, closing, separator}
 use Rattle.json_tokens.specs.Ends.{end_of}
 use Rattle.json_tokens.proofs.Laws.{end-at}
 use Rattle.json_tokens.proofs.Bounds.{bounds, closing-in}
@@ -117,22 +117,22 @@ unfolding entries_in
 buffer-full buffer h = threes-length buffers.entry_of 200 buffer h
 
 -- one element, which is an entry
-pub one-row : {A B : Type 0} (f : A → Reading B) (a : A) (l : List B) → all f (a ∷ []) ≡ reads l → (r : B) × (f a ≡ reads r) × (l ≡ r ∷ [])
+pub one-row : {A B : Type 0} (f : A → Option B) (a : A) (l : List B) → all f (a ∷ []) ≡ Some l → (r : B) × (f a ≡ Some r) × (l ≡ r ∷ [])
 unfolding all and_then
 one-row {A} {B} f a l h = go (f a) refl h
   where
-    go : (y : Reading B) → f a ≡ y → and_then y (λ b. reads (b ∷ [])) ≡ reads l → (r : B) × (f a ≡ reads r) × (l ≡ r ∷ [])
-    go (reads r) q g = (r, q, same_row g)
-    go refused q g = no_row g
+    go : (y : Option B) → f a ≡ y → and_then y (λ b. Some (b ∷ [])) ≡ Some l → (r : B) × (f a ≡ Some r) × (l ≡ r ∷ [])
+    go (Some r) q g = (r, q, same_row g)
+    go None q g = no_row g
 
 -- one entry more, at most
-few-one : (base : ℕ) (s : List ℕ) (side : Side) (t : Tally) (y : Reading Row) → met (or_not base s side t y) ≤ suc (met t)
+few-one : (base : ℕ) (s : List ℕ) (side : Side) (t : Tally) (y : Option Row) → met (or_not base s side t y) ≤ suc (met t)
 unfolding or_not
-few-one base s side t (reads r) = let h = one-met base s t (sided side r) in omega arith
-few-one base s side t refused = omega arith
+few-one base s side t (Some r) = let h = one-met base s t (sided side r) in omega arith
+few-one base s side t None = omega arith
 
 module _ (base : ℕ) (s : List ℕ) (d : ℕ) (form : Form) (side : Side) (t : Tally) (before : List ℕ) where
-  abbrev entry : Span → Reading Row
+  abbrev entry : Span → Option Row
   entry = entry_of form d s
 
   abbrev one : Tally → Span → Tally
@@ -144,7 +144,7 @@ module _ (base : ℕ) (s : List ℕ) (d : ℕ) (form : Form) (side : Side) (t : 
 
   -- the same of elements, if they are entries
   pub Filled : List Span → List ℕ → Type 0
-  Filled l after = (rows : List Row) → all entry l ≡ reads rows → Has (map (sided side) rows) after
+  Filled l after = (rows : List Row) → all entry l ≡ Some rows → Has (map (sided side) rows) after
 
   has_one : (rows : List Row) (r : Row) (buffer after : List ℕ) → length before ≡ buffer_words → length buffer ≡ buffer_words
       → entries_in after ≡ set (entries_in buffer) (met t + length (map (sided side) rows)) (numbers_at s (sided side r)) → Has (map (sided side) rows) buffer
@@ -183,10 +183,10 @@ module _ (base : ℕ) (s : List ℕ) (d : ℕ) (form : Form) (side : Side) (t : 
         subst (λ (k : ℕ). Met base s k form side t 0 before after (record { end = e; tally = tally })) deep
         (record { told = all_told; few = λ n. few; room = room; kept = kept })
       where
-        ends : value (suc d) s 0 ≡ At e
+        ends : value (suc d) s 0 ≡ Some e
         ends = value-array s 0 d opens ∙ ap items_end (sym h)
 
-        these : (k : ℕ) → array_at (suc d) s (record { from = 0; to = k }) ≡ reads l
+        these : (k : ℕ) → array_at (suc d) s (record { from = 0; to = k }) ≡ Some l
         these k = holds k ∙ ap contents (sym h)
 
         all_told : record { end = e; tally = tally } ≡ told_at base s (suc d) form side t 0
@@ -194,14 +194,14 @@ module _ (base : ℕ) (s : List ℕ) (d : ℕ) (form : Form) (side : Side) (t : 
             ap (λ (x : Tally). record { end = e; tally = x }) (told ∙ ap (spans_tally base s d form side t) (sym (these e)) ∙ sym (array-spans base s form side d t (record { from = 0; to = e })))
             ∙ sym (told_is base s form side (suc d) t 0 e ends)
 
-        kept : (k : ℕ) → value (suc d) s 0 ≡ At k → (es : List Entry) → sided_at side form (suc d) s (record { from = 0; to = k }) ≡ reads es
+        kept : (k : ℕ) → value (suc d) s 0 ≡ Some k → (es : List Entry) → sided_at side form (suc d) s (record { from = 0; to = k }) ≡ Some es
             → take (met t + length es) (entries_in after) ≡ take max_buffered (take (met t) (entries_in before) ++ map (numbers_at s) es)
         kept k v es g = go (all entry l) refl (rw (these k) at g)
           where
-            go : (y : Reading (List Row)) → all entry l ≡ y → and_then y (λ rows. reads (map (sided side) rows)) ≡ reads es
+            go : (y : Option (List Row)) → all entry l ≡ y → and_then y (λ rows. Some (map (sided side) rows)) ≡ Some es
                 → take (met t + length es) (entries_in after) ≡ take max_buffered (take (met t) (entries_in before) ++ map (numbers_at s) es)
-            go (reads rows) q p = rw (same_row p) (filled rows q)
-            go refused q p = no_row p
+            go (Some rows) q p = rw (same_row p) (filled rows q)
+            go None q p = no_row p
 
     met-none : (after : List ℕ) → no_items ≡ elements (value d s) s 1 → length after ≡ buffer_words → Met base s depth form side t 0 before after (told_not 0)
     unfolding items_end
@@ -209,7 +209,7 @@ module _ (base : ℕ) (s : List ℕ) (d : ℕ) (form : Form) (side : Side) (t : 
         subst (λ (k : ℕ). Met base s k form side t 0 before after (told_not 0)) deep
         (record { told = sym (told-broken base s form side (suc d) t 0 broken); few = λ n. absurd (n refl); room = room; kept = λ e v. broken-at broken v })
       where
-        broken : value (suc d) s 0 ≡ Broken
+        broken : value (suc d) s 0 ≡ None
         broken = value-array s 0 d opens ∙ ap items_end (sym h)
 
   -- ---- the array is empty, or its first entry is to begin at k
@@ -251,20 +251,20 @@ module _ (base : ℕ) (s : List ℕ) (d : ℕ) (form : Form) (side : Side) (t : 
       this-is : found ≡ entry_place_of m.end (entry this)
       this-is = found-is form d s i found refl m.end (end-at (value d s i) m.end ends n)
 
-      formed : (r : Row) → entry this ≡ reads r → found ≡ entry_place_of m.end (reads r)
+      formed : (r : Row) → entry this ≡ Some r → found ≡ entry_place_of m.end (Some r)
       formed r h = this-is ∙ ap (entry_place_of m.end) h
 
       one_told : m.tally ≡ one tally this
       unfolding entry_place_of or_not one_more is_bad
       one_told = go (entry this) refl
         where
-          go : (y : Reading Row) → entry this ≡ y → m.tally ≡ or_not base s side tally y
-          go (reads r) h =
+          go : (y : Option Row) → entry this ≡ y → m.tally ≡ or_not base s side tally y
+          go (Some r) h =
               let f = formed r h in
               let w : r.whole ≡ this = entry_whole form d s this r h in
               c.entry (ap (λ (x : EntryPlace). x.well_formed) f)
               ∙ ap₂ (λ (x : EntryPlace) (k : ℕ). with_entry tally side (base + k) (is_bad false s (row_from (base + i) x)) (is_bad true s (row_from (base + i) x))) f (sym (ap (λ (a : Span). a.from) w))
-          go refused h = c.other (ap (λ (x : EntryPlace). x.well_formed) (this-is ∙ ap (entry_place_of m.end) h))
+          go None h = c.other (ap (λ (x : EntryPlace). x.well_formed) (this-is ∙ ap (entry_place_of m.end) h))
 
       all_told : m.tally ≡ fold_from one t (g.passed ++ (this ∷ []))
       unfolding fold_from
@@ -328,11 +328,11 @@ module _ (base : ℕ) (s : List ℕ) (d : ℕ) (form : Form) (side : Side) (t : 
 
 -- ---- a value that is no array
 module _ (base : ℕ) (s : List ℕ) (depth : ℕ) (form : Form) (side : Side) (t : Tally) (at : ℕ) (before : List ℕ) (h : byte_at s at ≡ 91 → ⊥) where
-  no-array : (e : ℕ) → array_at depth s (record { from = at; to = e }) ≡ refused
+  no-array : (e : ℕ) → array_at depth s (record { from = at; to = e }) ≡ None
   unfolding array_at
   no-array e = go depth
     where
-      go : (k : ℕ) → array_at k s (record { from = at; to = e }) ≡ refused
+      go : (k : ℕ) → array_at k s (record { from = at; to = e }) ≡ None
       go zero = refl
       go (suc k) = rw (ne_eqb (byte_at s at) 91 h)
 
@@ -340,11 +340,11 @@ module _ (base : ℕ) (s : List ℕ) (depth : ℕ) (form : Form) (side : Side) (
   unfolding end_of array_tally spans_tally sided_at entries_at and_then
   met-other room = record { told = go (value depth s at) refl; few = λ n. omega arith; room = room; kept = λ e v es g. no_row (sym (no-entries depth e (no-array e)) ∙ g) }
     where
-      go : (x : End) → value depth s at ≡ x → told_not (end_of x) ≡ told_at base s depth form side t at
-      go (At e) v =
+      go : (x : Option ℕ) → value depth s at ≡ x → told_not (end_of x) ≡ told_at base s depth form side t at
+      go (Some e) v =
           ap (λ (y : Tally). record { end = e; tally = y }) (sym (ap (spans_tally base s (depth - 1) form side t) (no-array e))) ∙ sym (told_is base s form side depth t at e v)
-      go Broken v = sym (told-broken base s form side depth t at v)
+      go None v = sym (told-broken base s form side depth t at v)
 
-      no-entries : (k e : ℕ) → array_at k s (record { from = at; to = e }) ≡ refused → sided_at side form k s (record { from = at; to = e }) ≡ refused
+      no-entries : (k e : ℕ) → array_at k s (record { from = at; to = e }) ≡ None → sided_at side form k s (record { from = at; to = e }) ≡ None
       no-entries zero e q = refl
       no-entries (suc k) e q = rw q

@@ -1,4 +1,5 @@
 -- Check 8 by the tally: a position of 0 says that no text breaks it, and any other is where the first entry begins that does. Assumes nothing.
+use Rattle.std.specs.Prelude.{None, Option, Some}
 use Prim.Native.Nat.{ℕ, suc, ◌+◌, ◌≤◌, ◌<◌}
 use mathlib.Core.Path.{◌≡◌, refl, sym, ap, ◌∙◌, subst}
 use mathlib.Core.Bool.{Bool, true, false, true≢false, ◌||◌, cond}
@@ -9,9 +10,7 @@ use borrow.Author.Tests.{eq-eqb, ne_eqb}
 use lib.Dec.{eqb}
 use lib.ListN.{length}
 use Rattle.text.specs.Text.{byte_at}
-use Rattle.decimal.specs.Digits.{Reading, reads, refused}
 use Rattle.edit.specs.declared.Side.{Side}
-use Rattle.json_tokens.specs.Tokens.{At}
 use Rattle.json_values.specs.Json.{Span, Items, items, no_items, elements, value}
 use Rattle.json_values.specs.Claims.{InOrder, then, IsElement}
 use Rattle.json_values.specs.Fold.{fold_from}
@@ -30,8 +29,8 @@ use Rattle.entries.proofs.Tallies.{also-reads}
 -- ---- entries that stand in the text, not at its start
 
 pub record Here (form : Form) (depth : ℕ) (s : List ℕ) (e : Entry) : Type 0 where
-  pub ends : value depth s e.row.whole.from ≡ At e.row.whole.to
-  pub is-entry : entry_of form depth s e.row.whole ≡ reads e.row
+  pub ends : value depth s e.row.whole.from ≡ Some e.row.whole.to
+  pub is-entry : entry_of form depth s e.row.whole ≡ Some e.row
   pub later : 0 < e.row.whole.from
   pub inside : e.row.whole.to ≤ length s
 
@@ -47,23 +46,23 @@ module _ {form : Form} {depth : ℕ} {s : List ℕ} where
   here-append none_here b = b
   here-append {m = m} (more-here e es h a) b = more-here e (es ++ m) h (here-append a b)
 
-  pub here-none : (es : List Entry) → reads [] ≡ reads es → AllHere form depth s es
+  pub here-none : (es : List Entry) → Some [] ≡ Some es → AllHere form depth s es
   here-none es h = subst (AllHere form depth s) (sym (same_row h)) none_here
 
-  pub here-also : (x y : Reading (List Entry)) → ((es : List Entry) → x ≡ reads es → AllHere form depth s es) → ((es : List Entry) → y ≡ reads es → AllHere form depth s es)
-      → (es : List Entry) → and_also x y ≡ reads es → AllHere form depth s es
+  pub here-also : (x y : Option (List Entry)) → ((es : List Entry) → x ≡ Some es → AllHere form depth s es) → ((es : List Entry) → y ≡ Some es → AllHere form depth s es)
+      → (es : List Entry) → and_also x y ≡ Some es → AllHere form depth s es
   here-also x y f g es h =
       let b = also-reads x y es h in
       subst (AllHere form depth s) (sym b.both) (here-append (f b.front b.reads-front) (g b.back b.reads-back))
 
 -- those of an array
 module _ (side : Side) (form : Form) (depth : ℕ) (s : List ℕ) where
-  entry_here : (a : Span) (r : Row) → value depth s a.from ≡ At a.to → entry_of form depth s a ≡ reads r → 0 < a.from → Here form depth s (sided side r)
+  entry_here : (a : Span) (r : Row) → value depth s a.from ≡ Some a.to → entry_of form depth s a ≡ Some r → 0 < a.from → Here form depth s (sided side r)
   entry_here a r v h p =
       let w : r.whole ≡ a = entry_whole form depth s a r h in
       record { ends = rw w v; is-entry = ap (entry_of form depth s) w ∙ h; later = rw w p; inside = rw w (ends-within depth s a.from a.to v).1 }
 
-  all_here : (hi lo : ℕ) (l : List Span) → 0 < lo → InOrder (IsElement depth s) hi lo l → (rows : List Row) → all (entry_of form depth s) l ≡ reads rows
+  all_here : (hi lo : ℕ) (l : List Span) → 0 < lo → InOrder (IsElement depth s) hi lo l → (rows : List Row) → all (entry_of form depth s) l ≡ Some rows
       → AllHere form depth s (map (sided side) rows)
   unfolding all and_then
   all_here hi lo [] p o rows h = subst (λ (l : List Row). AllHere form depth s (map (sided side) l)) (sym (same_row h)) none_here
@@ -71,30 +70,30 @@ module _ (side : Side) (form : Form) (depth : ℕ) (s : List ℕ) where
       let i = z.begins in
       go (entry_of form depth s a) refl (all (entry_of form depth s) l) (λ rs q. all_here hi to l (omega arith) o rs q) h
     where
-      go : (y : Reading Row) → entry_of form depth s a ≡ y → (z : Reading (List Row)) → ((rs : List Row) → z ≡ reads rs → AllHere form depth s (map (sided side) rs))
-          → and_then y (λ b. and_then z (λ bs. reads (b ∷ bs))) ≡ reads rows → AllHere form depth s (map (sided side) rows)
-      go (reads r) q (reads rs) later g =
+      go : (y : Option Row) → entry_of form depth s a ≡ y → (z : Option (List Row)) → ((rs : List Row) → z ≡ Some rs → AllHere form depth s (map (sided side) rs))
+          → and_then y (λ b. and_then z (λ bs. Some (b ∷ bs))) ≡ Some rows → AllHere form depth s (map (sided side) rows)
+      go (Some r) q (Some rs) later g =
           subst (λ (l : List Row). AllHere form depth s (map (sided side) l)) (sym (same_row g))
           (more-here (sided side r) (map (sided side) rs) (entry_here a r z.a_value q (omega arith)) (later rs refl))
-      go (reads r) q refused later g = no_row g
-      go refused q w later g = no_row g
+      go (Some r) q None later g = no_row g
+      go None q w later g = no_row g
 
-  pub sided-here : (a : Span) (es : List Entry) → sided_at side form (suc depth) s a ≡ reads es → AllHere form depth s es
+  pub sided-here : (a : Span) (es : List Entry) → sided_at side form (suc depth) s a ≡ Some es → AllHere form depth s es
   unfolding sided_at entries_at array_at contents and_then
   sided-here a es h = go (eqb (byte_at s a.from) 91) h
     where
-      rows-here : (l : List Span) (e : ℕ) → elements (value depth s) s (a.from + 1) ≡ items l e → (y : Reading (List Row)) → all (entry_of form depth s) l ≡ y
-          → and_then y (λ rows. reads (map (sided side) rows)) ≡ reads es → AllHere form depth s es
-      rows-here l e q (reads rows) p g =
+      rows-here : (l : List Span) (e : ℕ) → elements (value depth s) s (a.from + 1) ≡ items l e → (y : Option (List Row)) → all (entry_of form depth s) l ≡ y
+          → and_then y (λ rows. Some (map (sided side) rows)) ≡ Some es → AllHere form depth s es
+      rows-here l e q (Some rows) p g =
           subst (AllHere form depth s) (sym (same_row g)) (all_here e (a.from + 1) l (omega arith) (elements-in-order depth s (a.from + 1) l e q).0 rows p)
-      rows-here l e q refused p g = no_row g
+      rows-here l e q None p g = no_row g
 
       items-here : (x : Items Span) → elements (value depth s) s (a.from + 1) ≡ x
-          → and_then (and_then (contents x) (all (entry_of form depth s))) (λ rows. reads (map (sided side) rows)) ≡ reads es → AllHere form depth s es
+          → and_then (and_then (contents x) (all (entry_of form depth s))) (λ rows. Some (map (sided side) rows)) ≡ Some es → AllHere form depth s es
       items-here (items l e) q g = rows-here l e q (all (entry_of form depth s) l) refl g
       items-here no_items q g = no_row g
 
-      go : (b : Bool) → and_then (and_then (cond b (contents (elements (value depth s) s (a.from + 1))) refused) (all (entry_of form depth s))) (λ rows. reads (map (sided side) rows)) ≡ reads es
+      go : (b : Bool) → and_then (and_then (cond b (contents (elements (value depth s) s (a.from + 1))) None) (all (entry_of form depth s))) (λ rows. Some (map (sided side) rows)) ≡ Some es
           → AllHere form depth s es
       go true g = items-here (elements (value depth s) s (a.from + 1)) refl g
       go false g = no_row g
@@ -246,7 +245,7 @@ module _ (snapshot : Bool) (s : List ℕ) (form : Form) (depth : ℕ) (es : List
           row : Row
           row = b.which.row
 
-          found : entry_place_at form depth s at ≡ entry_place_of row.whole.to (reads row)
+          found : entry_place_at form depth s at ≡ entry_place_of row.whole.to (Some row)
           found =
               ap (entry_place_at form depth s) b.begins
               ∙ found-is form depth s row.whole.from (entry_place_at form depth s row.whole.from) refl row.whole.to b.stands.ends

@@ -1,6 +1,7 @@
 -- A decimal in quotes, read in one go: digits and a point stand for themselves in a string, so that it ends past the quote that follows them. Then an
 -- entry that begins with two such strings.
 -- Assumes nothing.
+use Rattle.std.specs.Prelude.{None, Option, Some}
 use Prim.Native.Nat.{ℕ, ◌+◌, ◌-◌, ◌≤◌, ◌<◌}
 use mathlib.Core.Path.{◌≡◌, refl, sym, ap, ap₂, ◌∙◌}
 use mathlib.Core.Bool.{Bool, true, false, ◌&&◌, ◌||◌, cond, and-eq-true_iff}
@@ -11,13 +12,13 @@ use lib.Dec.{eqb, leb}
 use lib.ListN.{length, get_or, take, drop, length-append, length-drop, take-append-drop}
 use lib.Seq.{drop-drop, length-take-le}
 use Rattle.text.specs.Text.{is_digit, byte_at}
-use Rattle.decimal.specs.Digits.{Reading, reads, refused, leading}
+use Rattle.decimal.specs.Digits.{leading}
 use Rattle.decimal.specs.Decimal.{Number, number, Prefix, prefixed, is_whole, fractional, prefix, read, max_whole, max_decimals}
 use Rattle.decimal.specs.declared.Decimal.{Decimal}
 use Rattle.decimal.proofs.Digits.{Digits, none, one, digit-in}
 use Rattle.decimal.proofs.Scan.{prefix-refused, prefix-pointed, pointed-plain, pointed-fraction, read_all}
 use Rattle.decimal.proofs.RoundTrip.{Shape, plain, with-point, read-shape, prefix-stop}
-use Rattle.json_tokens.specs.Tokens.{At, blanks, chars, separator, string_rest, string}
+use Rattle.json_tokens.specs.Tokens.{blanks, chars, separator, string_rest, string}
 use Rattle.json_tokens.proofs.Laws.{here, in-byte, string-yes}
 use Rattle.json_values.specs.Names.{inner}
 use Rattle.entries.specs.Rows.{is_bad_price, is_bad_size, bad_price, bad_size, is_bad, number_in, number_at}
@@ -33,18 +34,18 @@ use Rattle.entries.proofs.Strings.{no_row, same_row}
 -- ---- a decimal takes a byte at least
 
 module _ (p : Prefix) where
-  sized : (digits : List ℕ) (decimals size : ℕ) → prefixed digits decimals size ≡ reads p → 0 < size → 0 < p.size
+  sized : (digits : List ℕ) (decimals size : ℕ) → prefixed digits decimals size ≡ Some p → 0 < size → 0 < p.size
   sized digits decimals size h n = let e : p.size ≡ size = ap (λ (x : Prefix). x.size) (same_row h) in omega arith
 
-  fraction-some : (w f : List ℕ) → 0 < length w → fractional w f ≡ reads p → 0 < p.size
+  fraction-some : (w f : List ℕ) → 0 < length w → fractional w f ≡ Some p → 0 < p.size
   unfolding fractional
   fraction-some w f n h = go (leb 1 (length f) && leb (length f) max_decimals) h
     where
-      go : (b : Bool) → cond b (prefixed (w ++ f) (length f) (length w + 1 + length f)) refused ≡ reads p → 0 < p.size
+      go : (b : Bool) → cond b (prefixed (w ++ f) (length f) (length w + 1 + length f)) None ≡ Some p → 0 < p.size
       go true g = sized (w ++ f) (length f) (length w + 1 + length f) g (omega arith)
       go false g = no_row g
 
-  prefix-some : (t : List ℕ) → prefix t ≡ reads p → 0 < p.size
+  prefix-some : (t : List ℕ) → prefix t ≡ Some p → 0 < p.size
   unfolding is_whole
   prefix-some t h = whole (is_whole max_whole (leading t)) refl
     where
@@ -86,7 +87,7 @@ chars-decimal (with-point w f d g e some few) t i =
 
 -- ---- a decimal between two quotes of the text, the second at e
 
-module _ (s : List ℕ) (at e : ℕ) (d : Decimal) (h : reads (record { number = number d; size = e - (at + 1) }) ≡ prefix (drop (at + 1) s)) (opens : byte_at s at ≡ 34)
+module _ (s : List ℕ) (at e : ℕ) (d : Decimal) (h : Some (record { number = number d; size = e - (at + 1) }) ≡ prefix (drop (at + 1) s)) (opens : byte_at s at ≡ 34)
     (closes : byte_at s e ≡ 34) where
   between : List ℕ
   between = take (e - (at + 1)) (drop (at + 1) s)
@@ -110,13 +111,13 @@ module _ (s : List ℕ) (at e : ℕ) (d : Decimal) (h : reads (record { number =
   unfolding between
   long = let n = length-drop (at + 1) s in let i = inside in length-take-le (e - (at + 1)) (drop (at + 1) s) (omega arith)
 
-  between-reads : read between ≡ reads (number d)
+  between-reads : read between ≡ Some (number d)
   unfolding is_digit
   between-reads =
       read_all between (record { number = number d; size = e - (at + 1) })
       (sym (prefix-stop between 34 (drop (e + 1) s) refl (λ z. omega arith)) ∙ ap prefix (sym split) ∙ sym h) (sym long)
 
-  ends : string s at ≡ At (e + 1)
+  ends : string s at ≡ Some (e + 1)
   unfolding string_rest chars
   ends =
       let l = long in
@@ -124,13 +125,13 @@ module _ (s : List ℕ) (at e : ℕ) (d : Decimal) (h : reads (record { number =
       string-yes s at opens
       ∙ ap (λ (t : List ℕ). chars t (at + 1)) split
       ∙ chars-decimal (read-shape between (number d) between-reads) (34 ∷ drop (e + 1) s) (at + 1)
-      ∙ ap At (omega arith)
+      ∙ ap Some (omega arith)
 
   inner-is : inner s (record { from = at; to = e + 1 }) ≡ between
   unfolding inner between
   inner-is = let n : e + 1 - at - 2 ≡ e - (at + 1) = omega arith in ap (λ (k : ℕ). take k (drop (at + 1) s)) n
 
-module _ (s : List ℕ) (at e : ℕ) (d : Decimal) (h : reads (record { number = number d; size = e - (at + 1) }) ≡ prefix (drop (at + 1) s)) (opens : byte_at s at ≡ 34)
+module _ (s : List ℕ) (at e : ℕ) (d : Decimal) (h : Some (record { number = number d; size = e - (at + 1) }) ≡ prefix (drop (at + 1) s)) (opens : byte_at s at ≡ 34)
     (closes : byte_at s e ≡ 34) where
   pub decimal-quoted : QuotedAt s at (record { decimal = d; end = e + 1 })
   decimal-quoted = record { ends = ends s at e d h opens closes; text = ap read (inner-is s at e d h opens closes) ∙ between-reads s at e d h opens closes }
@@ -138,7 +139,7 @@ module _ (s : List ℕ) (at e : ℕ) (d : Decimal) (h : reads (record { number =
 -- ---- two of them at the front of an array, from k on, with a comma between
 
 module _ (s : List ℕ) (at : ℕ) (opens : byte_at s at ≡ 91) (k : ℕ) (begins : k ≡ blanks s (at + 1)) (p : QuotedDecimal) (first : QuotedAt s k p) (j : ℕ)
-    (comma : separator 44 s p.end ≡ At j) (z : QuotedDecimal) (second : QuotedAt s j z) where
+    (comma : separator 44 s p.end ≡ Some j) (z : QuotedDecimal) (second : QuotedAt s j z) where
   pub two-decimals : TwoDecimals s at (record { price = p.decimal; size = z.decimal; end = z.end })
   two-decimals =
       record {
@@ -156,7 +157,7 @@ module _ (form : Form) (depth : ℕ) (s : List ℕ) (at : ℕ) (a : Amounts) (d 
   abbrev found : EntryPlace
   found = entry_place_at form depth s at
 
-  found-is : found ≡ entry_place_of e (reads (row_from at d.found))
+  found-is : found ≡ entry_place_of e (Some (row_from at d.found))
   found-is = fits.some more at d.found d.two d.ends
 
   pub decimals-formed : found.well_formed ≡ true
@@ -167,20 +168,20 @@ module _ (form : Form) (depth : ℕ) (s : List ℕ) (at : ℕ) (a : Amounts) (d 
   unfolding entry_place_of
   decimals-end = ap (λ (x : EntryPlace). x.end) found-is
 
-  pub price-reads : read (inner s (price_span found)) ≡ reads (number a.price)
+  pub price-reads : read (inner s (price_span found)) ≡ Some (number a.price)
   unfolding entry_place_of
   price-reads = ap (λ (x : EntryPlace). read (inner s (price_span x))) found-is ∙ d.price
 
-  pub size-reads : read (inner s (size_span found)) ≡ reads (number a.size)
+  pub size-reads : read (inner s (size_span found)) ≡ Some (number a.size)
   unfolding entry_place_of
   size-reads = ap (λ (x : EntryPlace). read (inner s (size_span x))) found-is ∙ d.size
 
 -- ---- the numbers of two texts, and whether check 8 refuses them, by what is read of them
 
-module _ (s : List ℕ) (at : ℕ) (f : EntryPlace) (p z : Reading Number) (price : p ≡ read (inner s (price_span f))) (size : z ≡ read (inner s (size_span f))) where
+module _ (s : List ℕ) (at : ℕ) (f : EntryPlace) (p z : Option Number) (price : p ≡ read (inner s (price_span f))) (size : z ≡ read (inner s (size_span f))) where
   pub bad-by : (snapshot : Bool) → (is_bad_price p || is_bad_size snapshot z) ≡ is_bad snapshot s (row_from at f)
   unfolding is_bad bad_price bad_size
-  bad-by snapshot = ap₂ (λ (m n : Reading Number). is_bad_price m || is_bad_size snapshot n) price size
+  bad-by snapshot = ap₂ (λ (m n : Option Number). is_bad_price m || is_bad_size snapshot n) price size
 
   pub price-by : number_in p ≡ number_at s (price_span f)
   unfolding number_at

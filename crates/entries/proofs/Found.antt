@@ -1,12 +1,11 @@
 -- What is told of the entry at a position: where it ends, and that its price and its size are strings. Assumes nothing.
+use Rattle.std.specs.Prelude.{None, Option, Some, ℕ}
 use mathlib.Core.Path.{◌≡◌, refl, sym, ap, ◌∙◌}
 use mathlib.Core.List.{List}
 use mathlib.Core.Bool.{true, true≢false}
 use Prim.Native.Nat.{ℕ, ◌+◌, ◌-◌, ◌≤◌, ◌<◌}
 use native.Mathlib.Omega.{arith}
 use lib.ListN.{length, take, drop}
-use Rattle.decimal.specs.Digits.{Reading, reads, refused}
-use Rattle.json_tokens.specs.Tokens.{End, At, Broken}
 use Rattle.json_tokens.specs.Ends.{end_of}
 use Rattle.json_tokens.proofs.Laws.{end-at}
 use Rattle.json_tokens.proofs.Bounds.{bounds, end-broken}
@@ -25,7 +24,7 @@ unfolding inner
 inner-part s from to = let n : to - 1 - (from + 1) ≡ to - from - 2 = omega arith in ap (λ k. take k (drop (from + 1) s)) n
 
 module _ (form : Form) (d : ℕ) (s : List ℕ) where
-  abbrev entry : Span → Reading Row
+  abbrev entry : Span → Option Row
   entry = entry_of form d s
 
   module _ (i : ℕ) (g : EntryPlace) (told : g ≡ entry_place_at form d s i) where
@@ -33,13 +32,13 @@ module _ (form : Form) (d : ℕ) (s : List ℕ) where
     unfolding entry_place_at end_of entry_place_of
     found-end = ap (λ (x : EntryPlace). x.end) told ∙ go (value d s i)
       where
-        at_value : (e : ℕ) (y : Reading Row) → (entry_place_of e y).end ≡ e
-        at_value e (reads r) = refl
-        at_value e refused = refl
+        at_value : (e : ℕ) (y : Option Row) → (entry_place_of e y).end ≡ e
+        at_value e (Some r) = refl
+        at_value e None = refl
 
-        go : (x : End) → (elim x as (λ y. EntryPlace) [ At e ↦ entry_place_of e (entry (record { from = i; to = e })) | Broken ↦ entry_place_of 0 refused ]).end ≡ end_of x
-        go (At e) = at_value e (entry (record { from = i; to = e }))
-        go Broken = refl
+        go : (x : Option ℕ) → (elim x as (λ y. EntryPlace) [ Some e ↦ entry_place_of e (entry (record { from = i; to = e })) | None ↦ entry_place_of 0 None ]).end ≡ end_of x
+        go (Some e) = at_value e (entry (record { from = i; to = e }))
+        go None = refl
 
     -- a fair entry's price and size are strings
     pub found-strings : g.well_formed ≡ true
@@ -47,24 +46,24 @@ module _ (form : Form) (d : ℕ) (s : List ℕ) where
     unfolding entry_place_at entry_place_of
     found-strings fair = go (value d s i) told
       where
-        at_value : (e : ℕ) (y : Reading Row) → entry (record { from = i; to = e }) ≡ y → g ≡ entry_place_of e y
+        at_value : (e : ℕ) (y : Option Row) → entry (record { from = i; to = e }) ≡ y → g ≡ entry_place_of e y
             → StringAt s (price_span g) × StringAt s (size_span g)
-        at_value e (reads r) q h = rw h (sound form d s (record { from = i; to = e }) r q)
-        at_value e refused q h = absurd (true≢false (sym fair ∙ ap (λ (x : EntryPlace). x.well_formed) h))
+        at_value e (Some r) q h = rw h (sound form d s (record { from = i; to = e }) r q)
+        at_value e None q h = absurd (true≢false (sym fair ∙ ap (λ (x : EntryPlace). x.well_formed) h))
 
-        go : (x : End) → g ≡ elim x [ At e ↦ entry_place_of e (entry (record { from = i; to = e })) | Broken ↦ entry_place_of 0 refused ]
+        go : (x : Option ℕ) → g ≡ elim x [ Some e ↦ entry_place_of e (entry (record { from = i; to = e })) | None ↦ entry_place_of 0 None ]
             → StringAt s (price_span g) × StringAt s (size_span g)
-        go (At e) h = at_value e (entry (record { from = i; to = e })) refl h
-        go Broken h = absurd (true≢false (sym fair ∙ ap (λ (x : EntryPlace). x.well_formed) h))
+        go (Some e) h = at_value e (entry (record { from = i; to = e })) refl h
+        go None h = absurd (true≢false (sym fair ∙ ap (λ (x : EntryPlace). x.well_formed) h))
 
     pub found-laid : Laid s g
     found-laid fair = let c = found-strings fair in ((c.0.room, c.0.inside), (c.1.room, c.1.inside))
 
-    pub found-is : (e : ℕ) → value d s i ≡ At e → g ≡ entry_place_of e (entry (record { from = i; to = e }))
+    pub found-is : (e : ℕ) → value d s i ≡ Some e → g ≡ entry_place_of e (entry (record { from = i; to = e }))
     unfolding entry_place_at
     found-is e v = told ∙ rw (v, entry_place_at)
 
-    pub found-broken : g.end ≡ 0 → g ≡ entry_place_of 0 refused
+    pub found-broken : g.end ≡ 0 → g ≡ entry_place_of 0 None
     unfolding entry_place_at
     found-broken z = told ∙ rw (end-broken g.end (omega arith) (value_in d s i) found-end z, entry_place_at)
 

@@ -1,5 +1,6 @@
 -- A text that begins k bytes later, in the middle of another: its entries are the other's, k bytes earlier, and say the same numbers.
 -- Assumes nothing.
+use Rattle.std.specs.Prelude.{None, Option, Some}
 use Prim.Native.Nat.{ℕ, zero, suc, ◌+◌, ◌-◌, ◌≤◌}
 use mathlib.Core.Path.{◌≡◌, refl, sym, ap, ap₂, ◌∙◌}
 use mathlib.Core.Bool.{Bool, true, false, ◌&&◌, cond}
@@ -9,11 +10,9 @@ use lib.Dec.{eqb}
 use lib.ListN.{length, take, drop, length-drop, length-map}
 use lib.Seq.{drop-drop, take_all}
 use Rattle.text.specs.Text.{byte_at}
-use Rattle.decimal.specs.Digits.{Reading, reads, refused}
 use Rattle.decimal.specs.Decimal.{read}
 use Rattle.edit.specs.Buffer.{max_buffered, entries_in}
 use Rattle.edit.specs.declared.Side.{Side}
-use Rattle.json_tokens.specs.Tokens.{At, Broken}
 use Rattle.json_tokens.specs.Ends.{end_of}
 use Rattle.json_tokens.proofs.Laws.{end-at}
 use Rattle.json_tokens.proofs.Bounds.{bounds, end-broken}
@@ -43,17 +42,17 @@ shifted_entry k e = record { side = e.side; row = shifted_row k e.row }
 
 -- ---- what was read, changed
 
-unfoldable pub changed : {A B : Type 0} → (A → B) → Reading A → Reading B
-changed f (reads a) = reads (f a)
-changed f refused = refused
+unfoldable pub changed : {A B : Type 0} → (A → B) → Option A → Option B
+changed f (Some a) = Some (f a)
+changed f None = None
 
-then-changed : {A B C D : Type 0} (g : A → B) (h : C → D) (f : B → Reading D) (f' : A → Reading C) → ((a : A) → f (g a) ≡ changed h (f' a))
-    → (x : Reading A) → and_then (changed g x) f ≡ changed h (and_then x f')
+then-changed : {A B C D : Type 0} (g : A → B) (h : C → D) (f : B → Option D) (f' : A → Option C) → ((a : A) → f (g a) ≡ changed h (f' a))
+    → (x : Option A) → and_then (changed g x) f ≡ changed h (and_then x f')
 unfolding and_then changed
-then-changed g h f f' n (reads a) = n a
-then-changed g h f f' n refused = refl
+then-changed g h f f' n (Some a) = n a
+then-changed g h f f' n None = refl
 
-cond-changed : {A B : Type 0} (f : A → B) (b : Bool) (x : Reading A) → cond b (changed f x) refused ≡ changed f (cond b x refused)
+cond-changed : {A B : Type 0} (f : A → B) (b : Bool) (x : Option A) → cond b (changed f x) None ≡ changed f (cond b x None)
 unfolding changed
 cond-changed f true x = refl
 cond-changed f false x = refl
@@ -86,7 +85,7 @@ module _ (k : ℕ) (s : List ℕ) (a : Span) where
 module _ (k : ℕ) (s : List ℕ) where
   contents-shift : {x y : Items Span} → ItemsShifts k (shifted_span k) x y → contents x ≡ changed (map (shifted_span k)) (contents y)
   unfolding contents changed
-  contents-shift (both-items p q) = ap reads p
+  contents-shift (both-items p q) = ap Some p
   contents-shift no-items = refl
 
   -- where an array ends is told by its bytes: neither end is asked
@@ -94,12 +93,12 @@ module _ (k : ℕ) (s : List ℕ) where
   unfolding array_at changed
   array-shift zero i e f = refl
   array-shift (suc d) i e f =
-      ap₂ (λ (b : Bool) (x : Reading (List Span)). cond b x refused) (ap (λ (b : ℕ). eqb b 91) (byte-shift k s i))
+      ap₂ (λ (b : Bool) (x : Option (List Span)). cond b x None) (ap (λ (b : ℕ). eqb b 91) (byte-shift k s i))
       (ap (λ (n : ℕ). contents (elements (value d s) s n)) (past_one k i) ∙ contents-shift (elements-shift k d s (i + 1)))
       ∙ cond-changed (map (shifted_span k)) (eqb (byte_at (drop k s) i) 91) (contents (elements (value d (drop k s)) (drop k s) (i + 1)))
 
-  row-shift : (a p z : Span) (b : Bool) → cond b (reads (record { whole = shifted_span k a; price = shifted_span k p; size = shifted_span k z })) refused
-      ≡ changed (shifted_row k) (cond b (reads (record { whole = a; price = p; size = z })) refused)
+  row-shift : (a p z : Span) (b : Bool) → cond b (Some (record { whole = shifted_span k a; price = shifted_span k p; size = shifted_span k z })) None
+      ≡ changed (shifted_row k) (cond b (Some (record { whole = a; price = p; size = z })) None)
   unfolding changed shifted_row
   row-shift a p z true = refl
   row-shift a p z false = refl
@@ -121,7 +120,7 @@ module _ (k : ℕ) (s : List ℕ) where
     entry-shift : (d : ℕ) (a : Span) → entry_of form d s (shifted_span k a) ≡ changed (shifted_row k) (entry_of form d (drop k s) a)
     unfolding entry_of shifted_span
     entry-shift d a =
-        ap (λ (x : Reading (List Span)). and_then x (row_of form s (shifted_span k a))) (array-shift d a.from (k + a.to) a.to)
+        ap (λ (x : Option (List Span)). and_then x (row_of form s (shifted_span k a))) (array-shift d a.from (k + a.to) a.to)
         ∙ then-changed (map (shifted_span k)) (shifted_row k) (row_of form s (shifted_span k a)) (row_of form (drop k s) a) (rows-shifted form a) (array_at d (drop k s) a)
 
     all-shift : (d : ℕ) (l : List Span) → all (entry_of form d s) (map (shifted_span k) l) ≡ changed (map (shifted_row k)) (all (entry_of form d (drop k s)) l)
@@ -129,18 +128,18 @@ module _ (k : ℕ) (s : List ℕ) where
     all-shift d [] = refl
     all-shift d (a ∷ l) = rw (entry-shift d a, all-shift d l) (go (entry_of form d (drop k s) a) (all (entry_of form d (drop k s)) l))
       where
-        go : (x : Reading Row) (y : Reading (List Row)) → and_then (changed (shifted_row k) x) (λ b. and_then (changed (map (shifted_row k)) y) (λ bs. reads (b ∷ bs)))
-            ≡ changed (map (shifted_row k)) (and_then x (λ b. and_then y (λ bs. reads (b ∷ bs))))
-        go (reads r) (reads rs) = refl
-        go (reads r) refused = refl
-        go refused y = refl
+        go : (x : Option Row) (y : Option (List Row)) → and_then (changed (shifted_row k) x) (λ b. and_then (changed (map (shifted_row k)) y) (λ bs. Some (b ∷ bs)))
+            ≡ changed (map (shifted_row k)) (and_then x (λ b. and_then y (λ bs. Some (b ∷ bs))))
+        go (Some r) (Some rs) = refl
+        go (Some r) None = refl
+        go None y = refl
 
     -- the array of entries at k + i, and at i
     pub entries-shift : (depth i e f : ℕ) → entries_at form depth s (record { from = k + i; to = e }) ≡ changed (map (shifted_row k)) (entries_at form depth (drop k s) (record { from = i; to = f }))
     unfolding entries_at changed
     entries-shift zero i e f = refl
     entries-shift (suc d) i e f =
-        ap (λ (x : Reading (List Span)). and_then x (all (entry_of form d s))) (array-shift (suc d) i e f)
+        ap (λ (x : Option (List Span)). and_then x (all (entry_of form d s))) (array-shift (suc d) i e f)
         ∙ then-changed (map (shifted_span k)) (map (shifted_row k)) (all (entry_of form d s)) (all (entry_of form d (drop k s))) (all-shift d) (array_at (suc d) (drop k s) (record { from = i; to = f }))
 
     -- for one side
@@ -148,16 +147,16 @@ module _ (k : ℕ) (s : List ℕ) where
         ≡ changed (map (shifted_entry k)) (sided_at side form depth (drop k s) (record { from = i; to = f }))
     unfolding sided_at shifted_entry changed
     sided-shift side depth i e f =
-        ap (λ (x : Reading (List Row)). and_then x (λ rows. reads (map (sided side) rows))) (entries-shift depth i e f)
-        ∙ then-changed (map (shifted_row k)) (map (shifted_entry k)) (λ rows. reads (map (sided side) rows)) (λ rows. reads (map (sided side) rows)) each
+        ap (λ (x : Option (List Row)). and_then x (λ rows. Some (map (sided side) rows))) (entries-shift depth i e f)
+        ∙ then-changed (map (shifted_row k)) (map (shifted_entry k)) (λ rows. Some (map (sided side) rows)) (λ rows. Some (map (sided side) rows)) each
         (entries_at form depth (drop k s) (record { from = i; to = f }))
       where
         mapped : (rows : List Row) → map (sided side) (map (shifted_row k) rows) ≡ map (shifted_entry k) (map (sided side) rows)
         mapped [] = refl
         mapped (r ∷ l) = ap (λ (t : List Entry). sided side (shifted_row k r) ∷ t) (mapped l)
 
-        each : (rows : List Row) → reads (map (sided side) (map (shifted_row k) rows)) ≡ changed (map (shifted_entry k)) (reads (map (sided side) rows))
-        each rows = ap reads (mapped rows)
+        each : (rows : List Row) → Some (map (sided side) (map (shifted_row k) rows)) ≡ changed (map (shifted_entry k)) (Some (map (sided side) rows))
+        each rows = ap Some (mapped rows)
 
   -- ---- what is told of them: the text from k on stands at k of the message
 
@@ -176,9 +175,9 @@ module _ (k : ℕ) (s : List ℕ) where
     unfolding or_not changed shifted_entry
     span-shift d t a = ap (or_not 0 s side t) (entry-shift form d a) ∙ go (entry_of form d (drop k s) a)
       where
-        go : (y : Reading Row) → or_not 0 s side t (changed (shifted_row k) y) ≡ or_not k (drop k s) side t y
-        go (reads r) = one_shift t (sided side r)
-        go refused = refl
+        go : (y : Option Row) → or_not 0 s side t (changed (shifted_row k) y) ≡ or_not k (drop k s) side t y
+        go (Some r) = one_shift t (sided side r)
+        go None = refl
 
     spans-shift : (d : ℕ) (t : Tally) (l : List Span) → fold_from (one_span 0 s d form side) t (map (shifted_span k) l) ≡ fold_from (one_span k (drop k s) d form side) t l
     unfolding fold_from
@@ -190,9 +189,9 @@ module _ (k : ℕ) (s : List ℕ) where
     unfolding array_tally spans_tally changed
     tally-shift depth t i e f = ap (spans_tally 0 s (depth - 1) form side t) (array-shift depth i e f) ∙ go (array_at depth (drop k s) (record { from = i; to = f }))
       where
-        go : (x : Reading (List Span)) → spans_tally 0 s (depth - 1) form side t (changed (map (shifted_span k)) x) ≡ spans_tally k (drop k s) (depth - 1) form side t x
-        go (reads l) = spans-shift (depth - 1) t l
-        go refused = refl
+        go : (x : Option (List Span)) → spans_tally 0 s (depth - 1) form side t (changed (map (shifted_span k)) x) ≡ spans_tally k (drop k s) (depth - 1) form side t x
+        go (Some l) = spans-shift (depth - 1) t l
+        go None = refl
 
   numbers-shift : (es : List Entry) → map (numbers_at s) (map (shifted_entry k) es) ≡ map (numbers_at (drop k s)) es
   unfolding numbers_at shifted_entry shifted_row
@@ -225,10 +224,10 @@ module _ (k : ℕ) (s : List ℕ) (depth : ℕ) (form : Form) (side : Side) (t :
   pub met-later-broken : r.end ≡ 0 → Met 0 s depth form side t k before after (told_not 0)
   met-later-broken z = record { told = sym (told-broken 0 s form side depth t k broken); few = λ n. absurd (n refl); room = m.room; kept = λ e v. broken-at broken v }
     where
-      broken : value depth s k ≡ Broken
+      broken : value depth s k ≡ None
       broken = shifts-broken k moved (end-broken r.end (omega arith) (value_in depth later 0) ends z)
 
-  there : (r.end ≡ 0 → ⊥) → value depth later 0 ≡ At r.end
+  there : (r.end ≡ 0 → ⊥) → value depth later 0 ≡ Some r.end
   there n = end-at (value depth later 0) r.end ends n
 
   pub met-inside : (r.end ≡ 0 → ⊥) → k + r.end ≤ length s
@@ -246,14 +245,14 @@ module _ (k : ℕ) (s : List ℕ) (depth : ℕ) (form : Form) (side : Side) (t :
           ap (λ (x : Tally). record { end = k + r.end; tally = x }) (ap (λ (x : Entries). x.tally) (m.told ∙ told_is k later form side depth t 0 r.end (there n)) ∙ sym same)
           ∙ sym (told_is 0 s form side depth t k (k + r.end) (shifts-at k r.end moved (there n)))
 
-      kept : (e : ℕ) → value depth s k ≡ At e → (es : List Entry) → sided_at side form depth s (record { from = k; to = e }) ≡ reads es
+      kept : (e : ℕ) → value depth s k ≡ Some e → (es : List Entry) → sided_at side form depth s (record { from = k; to = e }) ≡ Some es
           → take (met t + length es) (entries_in after) ≡ take max_buffered (take (met t) (entries_in before) ++ map (numbers_at s) es)
       kept e v es h = go (sided_at side form depth later (record { from = 0; to = r.end })) refl (sym (rw here at (sided-shift k s form side depth 0 e r.end)) ∙ h)
         where
-          go : (y : Reading (List Entry)) → sided_at side form depth later (record { from = 0; to = r.end }) ≡ y → changed (map (shifted_entry k)) y ≡ reads es
+          go : (y : Option (List Entry)) → sided_at side form depth later (record { from = 0; to = r.end }) ≡ y → changed (map (shifted_entry k)) y ≡ Some es
               → take (met t + length es) (entries_in after) ≡ take max_buffered (take (met t) (entries_in before) ++ map (numbers_at s) es)
-          go (reads l) q p =
+          go (Some l) q p =
               let z = same_row p in
               let c = length-map l (shifted_entry k) in
               rw (z, c, numbers-shift k s l) (m.kept r.end (there n) l q)
-          go refused q p = no_row p
+          go None q p = no_row p

@@ -1,7 +1,5 @@
 -- What is told of one entry, in numbers. Assumes nothing: these are definitions.
-use Rattle.std.specs.Prelude.{ℕ, ◌+◌, ◌-◌, ◌≤◌, ◌≡◌, true, false, List, length}
-use Rattle.decimal.specs.Digits.{Reading, reads, refused}
-use Rattle.json_tokens.specs.Tokens.{At, Broken}
+use Rattle.std.specs.Prelude.{ℕ, ◌+◌, ◌-◌, ◌≤◌, ◌≡◌, true, false, List, length, None, Option, Some}
 use Rattle.json_values.specs.Json.{Span, value, max_depth}
 use Rattle.entries.specs.Rows.{Row, entry_of}
 use Rattle.entries.specs.declared.Form.{Form}
@@ -12,9 +10,9 @@ abbrev pub entry_depth : ℕ
 entry_depth = max_depth - 3
 
 -- The value ends at `end`, and is the entry that was read of it, or none.
-unfoldable pub entry_place_of : ℕ → Reading Row → EntryPlace
-entry_place_of end (reads r) = record { end = end; well_formed = true; price_from = r.price.from; price_to = r.price.to; size_from = r.size.from; size_to = r.size.to }
-entry_place_of end refused = record { end = end; well_formed = false; price_from = 0; price_to = 0; size_from = 0; size_to = 0 }
+unfoldable pub entry_place_of : ℕ → Option Row → EntryPlace
+entry_place_of end (Some r) = record { end = end; well_formed = true; price_from = r.price.from; price_to = r.price.to; size_from = r.size.from; size_to = r.size.to }
+entry_place_of end None = record { end = end; well_formed = false; price_from = 0; price_to = 0; size_from = 0; size_to = 0 }
 
 -- The texts of the price and the size that were found.
 abbrev pub price_span : EntryPlace → Span
@@ -29,7 +27,7 @@ row_from at f = record { whole = record { from = at; to = f.end }; price = price
 
 -- The value at a position as an entry.
 unfoldable pub entry_place_at : Form → ℕ → List ℕ → ℕ → EntryPlace
-entry_place_at form depth s at = elim (value depth s at) [ At e ↦ entry_place_of e (entry_of form depth s (record { from = at; to = e })) | Broken ↦ entry_place_of 0 refused ]
+entry_place_at form depth s at = elim (value depth s at) [ Some e ↦ entry_place_of e (entry_of form depth s (record { from = at; to = e })) | None ↦ entry_place_of 0 None ]
 
 -- A part of the text that is long enough for two quotes.
 abbrev pub Quoted : List ℕ → ℕ → ℕ → Type 0

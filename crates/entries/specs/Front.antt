@@ -1,10 +1,9 @@
 -- What the readers of an entry find on the way: the two strings at its front, and the end of its array from a later element on.
 -- Assumes nothing: these are definitions.
-use Rattle.std.specs.Prelude.{ℕ, zero, suc, ◌+◌, ◌≤◌, ◌≡◌, true, false, List, length}
+use Rattle.std.specs.Prelude.{ℕ, zero, suc, ◌+◌, ◌≤◌, ◌≡◌, true, false, List, length, None, Option, Some}
 use Rattle.text.specs.Text.{byte_at}
-use Rattle.decimal.specs.Digits.{reads, refused}
 use Rattle.json_tokens.specs.Bytes.{open_array, comma, close_array}
-use Rattle.json_tokens.specs.Tokens.{End, At, Broken, blanks, separator, string}
+use Rattle.json_tokens.specs.Tokens.{blanks, separator, string}
 use Rattle.json_tokens.specs.Ends.{end_of}
 use Rattle.json_values.specs.Json.{list, items_end, element, value}
 use Rattle.entries.specs.Rows.{entry_of}
@@ -16,20 +15,20 @@ use Rattle.entries.specs.declared.EntryPlace.{EntryPlace}
 pub record Two (s : List ℕ) (at : ℕ) (f : EntryPlace) : Type 0 where
   pub opens : byte_at s at ≡ open_array
   pub begins : f.price_from ≡ blanks s (at + 1)
-  pub price : string s f.price_from ≡ At f.price_to
-  pub comma : separator comma s f.price_to ≡ At f.size_from
-  pub size : string s f.size_from ≡ At f.size_to
+  pub price : string s f.price_from ≡ Some f.price_to
+  pub comma : separator comma s f.price_to ≡ Some f.size_from
+  pub size : string s f.size_from ≡ Some f.size_to
   pub ends : f.end ≡ f.size_to
 
 -- f tells whether two strings are there; without them the value is an entry of neither form.
 pub record Front (s : List ℕ) (at : ℕ) (f : EntryPlace) : Type 0 where
   pub two : f.well_formed ≡ true → Two s at f
-  pub neither : f.well_formed ≡ false → (form : Form) (depth to : ℕ) → entry_of form depth s (record { from = at; to = to }) ≡ refused
+  pub neither : f.well_formed ≡ false → (form : Form) (depth to : ℕ) → entry_of form depth s (record { from = at; to = to }) ≡ None
 
 -- A number as an end: nothing ends at 0.
-unfoldable pub end_in : ℕ → End
-end_in zero = Broken
-end_in (suc n) = At (suc n)
+unfoldable pub end_in : ℕ → Option ℕ
+end_in zero = None
+end_in (suc n) = Some (suc n)
 
 -- The array whose element ends at `at` ends at r, in however many steps, if they are enough; its elements have this depth.
 abbrev pub RestEnd : ℕ → List ℕ → ℕ → ℕ → Type 0
@@ -37,10 +36,10 @@ RestEnd depth s at r = (n : ℕ) → length s ≤ n + at → items_end (list (el
 
 -- An entry whose two strings end at `at` ends at r; an r of 0 says that what follows is no entry's.
 pub record EntryEnd (form : Form) (depth : ℕ) (s : List ℕ) (at r : ℕ) : Type 0 where
-  pub some : (r ≡ 0 → ⊥) → (from : ℕ) (f : EntryPlace) → Two s from f → f.end ≡ at → entry_place_at form depth s from ≡ entry_place_of r (reads (row_from from f))
-  pub none : r ≡ 0 → (from : ℕ) (f : EntryPlace) → Two s from f → f.end ≡ at → (to : ℕ) → entry_of form depth s (record { from = from; to = to }) ≡ refused
+  pub some : (r ≡ 0 → ⊥) → (from : ℕ) (f : EntryPlace) → Two s from f → f.end ≡ at → entry_place_at form depth s from ≡ entry_place_of r (Some (row_from from f))
+  pub none : r ≡ 0 → (from : ℕ) (f : EntryPlace) → Two s from f → f.end ≡ at → (to : ℕ) → entry_of form depth s (record { from = from; to = to }) ≡ None
 
 -- The entry at `at` whose front is f, if it ends at e; an e of 0 says that it is none.
 pub record EndedAt (depth : ℕ) (s : List ℕ) (at : ℕ) (f : EntryPlace) (e : ℕ) (r : EntryPlace) : Type 0 where
-  pub some : (e ≡ 0 → ⊥) → r ≡ entry_place_of e (reads (row_from at f))
-  pub none : e ≡ 0 → r ≡ entry_place_of (end_of (value depth s at)) refused
+  pub some : (e ≡ 0 → ⊥) → r ≡ entry_place_of e (Some (row_from at f))
+  pub none : e ≡ 0 → r ≡ entry_place_of (end_of (value depth s at)) None

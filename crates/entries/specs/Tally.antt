@@ -1,11 +1,9 @@
 -- What is met of the entries of a message, entry by entry: how many there are for each side, the first that check 8 refuses, and the buffer that has their
 -- numbers. `base` is where the text begins in its message. Assumes nothing: these are definitions.
-use Rattle.std.specs.Prelude.{ℕ, ◌+◌, ◌-◌, ◌≤◌, ◌≡◌, Bool, true, false, ◌&&◌, cond, List, ◌++◌, map, eqb, length, take}
-use Rattle.decimal.specs.Digits.{Reading, reads, refused}
+use Rattle.std.specs.Prelude.{ℕ, ◌+◌, ◌-◌, ◌≤◌, ◌≡◌, Bool, true, false, ◌&&◌, cond, List, ◌++◌, map, eqb, length, take, None, Option, Some}
 use Rattle.edit.specs.Buffer.{max_buffered, buffer_words, entries_in, Put}
 use Rattle.edit.specs.declared.Side.{Side}
 use Rattle.edit.specs.declared.Side.TheVariants.{Bids, Asks}
-use Rattle.json_tokens.specs.Tokens.{At, Broken}
 use Rattle.json_values.specs.Json.{Span, value}
 use Rattle.json_values.specs.Fold.{fold_from}
 use Rattle.entries.specs.Places.{array_at}
@@ -59,28 +57,28 @@ abbrev pub tally_of : List ℕ → List Entry → Tally
 tally_of s es = fold_from (one_more 0 s) none_yet es
 
 -- t tells what was read of the entries so far.
-pub record Tells (s : List ℕ) (x : Reading (List Entry)) (t : Tally) : Type 0 where
-  pub all : (es : List Entry) → x ≡ reads es → t ≡ tally_of s es
-  pub none : x ≡ refused → t.well_formed ≡ false
+pub record Tells (s : List ℕ) (x : Option (List Entry)) (t : Tally) : Type 0 where
+  pub all : (es : List Entry) → x ≡ Some es → t ≡ tally_of s es
+  pub none : x ≡ None → t.well_formed ≡ false
 
 -- The buffer has the numbers of those that were read, up to its end.
-pub record Kept (s : List ℕ) (x : Reading (List Entry)) (buffer : List ℕ) : Type 0 where
+pub record Kept (s : List ℕ) (x : Option (List Entry)) (buffer : List ℕ) : Type 0 where
   pub room : length buffer ≡ buffer_words
-  pub front : (es : List Entry) → x ≡ reads es → take (length es) (entries_in buffer) ≡ take max_buffered (map (numbers_at s) es)
+  pub front : (es : List Entry) → x ≡ Some es → take (length es) (entries_in buffer) ≡ take max_buffered (map (numbers_at s) es)
 
 -- ---- an array of entries
 
 -- The value that a span is, as one more entry.
-unfoldable pub or_not : ℕ → List ℕ → Side → Tally → Reading Row → Tally
-or_not base s side t (reads r) = one_more base s t (sided side r)
-or_not base s side t refused = not_entries
+unfoldable pub or_not : ℕ → List ℕ → Side → Tally → Option Row → Tally
+or_not base s side t (Some r) = one_more base s t (sided side r)
+or_not base s side t None = not_entries
 
 abbrev pub one_span : ℕ → List ℕ → ℕ → Form → Side → Tally → Span → Tally
 one_span base s depth form side t a = or_not base s side t (entry_of form depth s a)
 
-unfoldable pub spans_tally : ℕ → List ℕ → ℕ → Form → Side → Tally → Reading (List Span) → Tally
-spans_tally base s depth form side t (reads l) = fold_from (one_span base s depth form side) t l
-spans_tally base s depth form side t refused = not_entries
+unfoldable pub spans_tally : ℕ → List ℕ → ℕ → Form → Side → Tally → Option (List Span) → Tally
+spans_tally base s depth form side t (Some l) = fold_from (one_span base s depth form side) t l
+spans_tally base s depth form side t None = not_entries
 
 -- What is told of the value at a position as an array of entries, whose elements have one depth less; t was told before.
 unfoldable pub array_tally : ℕ → List ℕ → ℕ → Form → Side → Tally → Span → Tally
@@ -88,7 +86,7 @@ array_tally base s depth form side t a = spans_tally base s (depth - 1) form sid
 
 unfoldable pub told_at : ℕ → List ℕ → ℕ → Form → Side → Tally → ℕ → Entries
 told_at base s depth form side t at =
-    elim (value depth s at) [ At e ↦ record { end = e; tally = array_tally base s depth form side t (record { from = at; to = e }) } | Broken ↦ told_not 0 ]
+    elim (value depth s at) [ Some e ↦ record { end = e; tally = array_tally base s depth form side t (record { from = at; to = e }) } | None ↦ told_not 0 ]
 
 -- ---- what the readers promise
 
@@ -111,5 +109,5 @@ pub record Met (base : ℕ) (s : List ℕ) (depth : ℕ) (form : Form) (side : S
   pub few : (r.end ≡ 0 → ⊥) → met r.tally ≤ base + r.end
   pub room : length after ≡ buffer_words
   -- behind those that were met before it has the numbers of the entries, up to its end
-  pub kept : (e : ℕ) → value depth s at ≡ At e → (es : List Entry) → sided_at side form depth s (record { from = at; to = e }) ≡ reads es
+  pub kept : (e : ℕ) → value depth s at ≡ Some e → (es : List Entry) → sided_at side form depth s (record { from = at; to = e }) ≡ Some es
       → take (met t + length es) (entries_in after) ≡ take max_buffered (take (met t) (entries_in before) ++ map (numbers_at s) es)

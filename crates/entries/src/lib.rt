@@ -10,9 +10,8 @@
 //     edit::entry_in(&buffer, 0)     // the first of them, if read.tally.bids is not 0
 #![tactic(auto)]
 
-ghost use Rattle.std.specs.Prelude.{◌≡◌, true, false, ◌||◌, suc, ◌+◌, ◌≤◌, ◌<◌, ◌^◌, length};
+ghost use Rattle.std.specs.Prelude.{◌≡◌, true, false, ◌||◌, suc, ◌+◌, ◌≤◌, ◌<◌, ◌^◌, length, None};
 ghost use Rattle.text.specs.Text.{byte_at};
-ghost use Rattle.decimal.specs.Digits.{refused};
 ghost use Rattle.decimal.specs.Decimal.{number, read};
 ghost use Rattle.decimal.specs.Reads.{parsed};
 ghost use Rattle.edit.specs.Buffer.{buffer_words};
@@ -424,7 +423,7 @@ fn rest_end(s: &[u8], at: usize, depth: usize) -> usize
 
 // The value at `at`, which is no entry.
 fn passed_over(s: &[u8], at: usize, depth: usize) -> EntryPlace
-    ensures { result ≡ entry_place_of (end_of (value depth s.now at)) refused }
+    ensures { result ≡ entry_place_of (end_of (value depth s.now at)) None }
 {
     no_entry(value_end(s, at, depth))
 }
@@ -448,7 +447,7 @@ fn ended_at(s: &[u8], at: usize, depth: usize, front: EntryPlace, end: usize) ->
 
 // A value that ends at `end` and is no entry.
 fn no_entry(end: usize) -> EntryPlace
-    ensures { result ≡ entry_place_of end refused }
+    ensures { result ≡ entry_place_of end None }
 {
     EntryPlace {
         end,

@@ -1,4 +1,5 @@
 -- A line 1 that is longer than what is carried of it opens a shut book, and so does what is carried. Assumes nothing.
+use Rattle.std.specs.Prelude.{None, Option, Some}
 use Prim.Native.Nat.{ℕ, suc, ◌≤◌, ◌<◌}
 use mathlib.Core.Path.{◌≡◌, refl, ap, ◌∙◌}
 use mathlib.Core.Bool.{Bool, true, false, ◌&&◌, cond}
@@ -9,7 +10,6 @@ use lib.Dec.{leb, ltb}
 use lib.ListN.{length, take, drop, length-drop}
 use lib.Seq.{take_all, length-take-le}
 use Rattle.lines.specs.Lines.{bytes_before}
-use Rattle.decimal.specs.Digits.{Reading, reads, refused}
 use Rattle.decimal.specs.Whole.{read_whole, max_whole_number}
 use Rattle.decimal.proofs.Scan.{whole_long}
 use Rattle.decimal.proofs.WholeNumber.{whole-wrong}
@@ -32,23 +32,23 @@ shut-bad : good shut ≡ false
 unfolding good good_depth
 shut-bad = refl
 
-long-bad : (dialect : Dialect) (r : Reading ℕ) (name : List ℕ) → 16 < length name → good (with_depth dialect r name) ≡ false
+long-bad : (dialect : Dialect) (r : Option ℕ) (name : List ℕ) → 16 < length name → good (with_depth dialect r name) ≡ false
 unfolding good with_depth good_depth
-long-bad dialect (reads n) name h = ap (λ (b : Bool). good_depth dialect n && b) (long-name name h) ∙ and_no (good_depth dialect n)
-long-bad dialect refused name h = refl
+long-bad dialect (Some n) name h = ap (λ (b : Bool). good_depth dialect n && b) (long-name name h) ∙ and_no (good_depth dialect n)
+long-bad dialect None name h = refl
 
-no-depth : (dialect : Dialect) (name : List ℕ) {r : Reading ℕ} → r ≡ refused → good (with_depth dialect r name) ≡ false
+no-depth : (dialect : Dialect) (name : List ℕ) {r : Option ℕ} → r ≡ None → good (with_depth dialect r name) ≡ false
 unfolding with_depth
-no-depth dialect name e = ap (λ (x : Reading ℕ). good (with_depth dialect x name)) e ∙ shut-bad
+no-depth dialect name e = ap (λ (x : Option ℕ). good (with_depth dialect x name)) e ∙ shut-bad
 
 -- of no dialect
 unknown-bad : (s : List ℕ) → good (depth_and_name Unknown s) ≡ false
 unfolding depth_and_name with_depth good good_depth
 unknown-bad s = at (ltb (bytes_before space s) (length s)) (read_whole (take (bytes_before space s) s))
   where
-    at : (b : Bool) (r : Reading ℕ) → good (cond b (with_depth Unknown r (drop (suc (bytes_before space s)) s)) shut) ≡ false
-    at true (reads n) = refl
-    at true refused = refl
+    at : (b : Bool) (r : Option ℕ) → good (cond b (with_depth Unknown r (drop (suc (bytes_before space s)) s)) shut) ≡ false
+    at true (Some n) = refl
+    at true None = refl
     at false r = refl
 
 -- a depth of too many digits, or a name of too many bytes

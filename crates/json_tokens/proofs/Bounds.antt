@@ -1,5 +1,6 @@
 -- Where tokens end: past where they begin, and within the text.
 -- Assumes nothing.
+use Rattle.std.specs.Prelude.{None, Option, Some, ℕ}
 use mathlib.Core.Path.{◌≡◌, refl, sym, ap, ◌∙◌}
 use mathlib.Core.List.{List, [], ◌∷◌}
 use mathlib.Core.Bool.{Bool, true, false, ◌||◌}
@@ -10,40 +11,40 @@ use lib.Dec.{ltb, eqb}
 use borrow.Author.Tests.{eqb-true}
 use Rattle.text.specs.Text.{byte_at, is_digit}
 use Rattle.json_tokens.specs.Bytes.{blank, hex_digit, escaped}
-use Rattle.json_tokens.specs.Tokens.{End, At, Broken, and_then, skip_while, blanks, digits, some_digits, closing, separator, chars, escape, hexes, string_rest, string, minus, sign, int, fraction, exponent, json_number, starts_with, literal, scalar}
+use Rattle.json_tokens.specs.Tokens.{and_then, skip_while, blanks, digits, some_digits, closing, separator, chars, escape, hexes, string_rest, string, minus, sign, int, fraction, exponent, json_number, starts_with, literal, scalar}
 use Rattle.json_tokens.specs.Ends.{end_of}
 use Rattle.json_tokens.proofs.Laws.{in-digit, in-byte, digits-on}
 
 -- the end, if there is one, is from lo to hi
-pub data In (lo hi : ℕ) : End → Type 0 where
-  within : (e : ℕ) → lo ≤ e → e ≤ hi → In lo hi (At e)
-  none : In lo hi Broken
+pub data In (lo hi : ℕ) : Option ℕ → Type 0 where
+  within : (e : ℕ) → lo ≤ e → e ≤ hi → In lo hi (Some e)
+  none : In lo hi None
 
-pub bounds : {lo hi : ℕ} {x : End} (e : ℕ) → In lo hi x → x ≡ At e → (lo ≤ e) × (e ≤ hi)
+pub bounds : {lo hi : ℕ} {x : Option ℕ} (e : ℕ) → In lo hi x → x ≡ Some e → (lo ≤ e) × (e ≤ hi)
 bounds {lo} {hi} {x} e p h = go (rw h at p)
   where
-    go : In lo hi (At e) → (lo ≤ e) × (e ≤ hi)
+    go : In lo hi (Some e) → (lo ≤ e) × (e ≤ hi)
     go (within e l m) = (l, m)
 
 -- what ends past a position does not end at 0, so the number 0 tells that it is broken
-pub end-broken : {lo hi : ℕ} {x : End} (e : ℕ) → 0 < lo → In lo hi x → e ≡ end_of x → e ≡ 0 → x ≡ Broken
+pub end-broken : {lo hi : ℕ} {x : Option ℕ} (e : ℕ) → 0 < lo → In lo hi x → e ≡ end_of x → e ≡ 0 → x ≡ None
 unfolding end_of
 end-broken e p (within k l m) h z = absurd (omega arith)
 end-broken e p none h z = refl
 
-in-if : {lo hi : ℕ} {x y : End} (b : Bool) → In lo hi x → In lo hi y → In lo hi (elim b [ true ↦ x | false ↦ y ])
+in-if : {lo hi : ℕ} {x y : Option ℕ} (b : Bool) → In lo hi x → In lo hi y → In lo hi (elim b [ true ↦ x | false ↦ y ])
 in-if true p q = p
 in-if false p q = q
 
-pub in-when : {lo hi : ℕ} {x y : End} (b : Bool) → (b ≡ true → In lo hi x) → In lo hi y → In lo hi (elim b [ true ↦ x | false ↦ y ])
+pub in-when : {lo hi : ℕ} {x y : Option ℕ} (b : Bool) → (b ≡ true → In lo hi x) → In lo hi y → In lo hi (elim b [ true ↦ x | false ↦ y ])
 in-when true p q = p refl
 in-when false p q = q
 
-pub in-sub : {lo hi lo' hi' : ℕ} {x : End} → lo ≤ lo' → hi' ≤ hi → In lo' hi' x → In lo hi x
+pub in-sub : {lo hi lo' hi' : ℕ} {x : Option ℕ} → lo ≤ lo' → hi' ≤ hi → In lo' hi' x → In lo hi x
 in-sub l h (within e p q) = within e (omega arith) (omega arith)
 in-sub l h none = none
 
-in_then : {lo hi : ℕ} {x : End} (f : ℕ → End) → In lo hi x → ((e : ℕ) → lo ≤ e → e ≤ hi → In e hi (f e)) → In lo hi (and_then x f)
+in_then : {lo hi : ℕ} {x : Option ℕ} (f : ℕ → Option ℕ) → In lo hi x → ((e : ℕ) → lo ≤ e → e ≤ hi → In e hi (f e)) → In lo hi (and_then x f)
 unfolding and_then
 in_then f (within e l h) g = in-sub l (omega arith) (g e l h)
 in_then f none g = none
@@ -59,7 +60,7 @@ run_in p (c ∷ t) i = go (p c) (run_in p t (i + 1))
     go true h = (omega arith, omega arith)
     go false h = (omega arith, omega arith)
 
-step : (t : List ℕ) (i : ℕ) {x : End} → In (i + 1 + 1) (i + 1 + length t) x → In (i + 1) (i + suc (length t)) x
+step : (t : List ℕ) (i : ℕ) {x : Option ℕ} → In (i + 1 + 1) (i + 1 + length t) x → In (i + 1) (i + suc (length t)) x
 step t i p = in-sub (omega arith) (omega arith) p
 
 mutual
@@ -91,7 +92,7 @@ prefix-in (c ∷ w) (d ∷ t) i = in-if (eqb d c) (in-sub (omega arith) (omega a
 
 -- ---- at a position of a text
 -- what has a byte at least: it ends past i, and within the text
-abbrev pub Within : List ℕ → ℕ → End → Type 0
+abbrev pub Within : List ℕ → ℕ → Option ℕ → Type 0
 Within s i x = In (i + 1) (length s) x
 
 module _ (s : List ℕ) where
@@ -104,7 +105,7 @@ module _ (s : List ℕ) where
   digits_in i = rw (length-drop i s) at (run_in is_digit (drop i s) i)
 
   -- an end past i that lies at most at the end of the text from i on, lies in the text
-  inner : (i : ℕ) {x : End} → In (i + 1) (i + length (drop i s)) x → Within s i x
+  inner : (i : ℕ) {x : Option ℕ} → In (i + 1) (i + length (drop i s)) x → Within s i x
   inner i (within e l h) = let n = length-drop i s in within e l (omega arith)
   inner i none = none
 
@@ -194,14 +195,14 @@ module _ (s : List ℕ) where
       (in-if (eqb (byte_at s i) 110) (word_in _ i (omega arith)) (number_in i))))
 
 -- ---- a word that stands at i is the text from there on
-prefix-is : (w t : List ℕ) (i e : ℕ) → starts_with w t i ≡ At e → w ≡ take (e - i) t
+prefix-is : (w t : List ℕ) (i e : ℕ) → starts_with w t i ≡ Some e → w ≡ take (e - i) t
 unfolding starts_with
 prefix-is [] t i e h = let z : i ≡ e = cc in let n : 0 ≡ e - i = omega arith in ap (λ k. take k t) n
 prefix-is (c ∷ w) [] i e h = let z : ◌≡◌ {A = ℕ} 0 1 = cc in absurd (omega arith)
 prefix-is (c ∷ w) (d ∷ t) i e h = go (eqb d c) refl (λ p. prefix-is w t (i + 1) e p) h
   where
-    go : (b : Bool) → eqb d c ≡ b → (starts_with w t (i + 1) ≡ At e → w ≡ take (e - (i + 1)) t)
-        → elim b [ true ↦ starts_with w t (i + 1) | false ↦ Broken ] ≡ At e → (c ∷ w) ≡ take (e - i) (d ∷ t)
+    go : (b : Bool) → eqb d c ≡ b → (starts_with w t (i + 1) ≡ Some e → w ≡ take (e - (i + 1)) t)
+        → elim b [ true ↦ starts_with w t (i + 1) | false ↦ None ] ≡ Some e → (c ∷ w) ≡ take (e - i) (d ∷ t)
     go true q ih h =
         let b = bounds e (prefix-in w t (i + 1)) h in
         let n : e - i ≡ suc (e - (i + 1)) = omega arith in
@@ -209,6 +210,6 @@ prefix-is (c ∷ w) (d ∷ t) i e h = go (eqb d c) refl (λ p. prefix-is w t (i 
         ap (λ x. x ∷ w) (sym z) ∙ ap (λ y. d ∷ y) (ih h) ∙ ap (λ k. take k (d ∷ t)) (sym n)
     go false q ih h = let z : ◌≡◌ {A = ℕ} 0 1 = cc in absurd (omega arith)
 
-pub word-is : (w s : List ℕ) (i e : ℕ) → literal w s i ≡ At e → w ≡ take (e - i) (drop i s)
+pub word-is : (w s : List ℕ) (i e : ℕ) → literal w s i ≡ Some e → w ≡ take (e - i) (drop i s)
 unfolding literal
 word-is w s i e h = prefix-is w (drop i s) i e h

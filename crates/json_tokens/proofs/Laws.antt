@@ -1,6 +1,7 @@
 -- The definitions of `Tokens`, one step at a time at a position: the byte at i decides, and the rest goes on at i + 1.
 -- Past the end the byte is 0, and each definition does there what it does at a 0, so no step asks that i lies in the text.
 -- Assumes nothing.
+use Rattle.std.specs.Prelude.{None, Option, Some, ℕ}
 use mathlib.Core.Path.{◌≡◌, refl, sym, ap, ◌∙◌}
 use mathlib.Core.List.{List, [], ◌∷◌, ◌++◌}
 use mathlib.Core.Bool.{Bool, true, false, true≢false, ◌&&◌, and-eq-true_iff}
@@ -14,28 +15,28 @@ use lib.Dec.{ltb, eqb}
 use borrow.Author.Tests.{eq-eqb, ne_eqb, lt-ltb, le-ltb}
 use Rattle.text.specs.Text.{byte_at, is_digit}
 use Rattle.json_tokens.specs.Bytes.{blank, hex_digit, escaped}
-use Rattle.json_tokens.specs.Tokens.{End, At, Broken, and_then, skip_while, blanks, digits, some_digits, closing, separator, chars, escape, hexes, string_rest, string, minus, sign, int, fraction, exponent, json_number, starts_with, literal, scalar}
+use Rattle.json_tokens.specs.Tokens.{and_then, skip_while, blanks, digits, some_digits, closing, separator, chars, escape, hexes, string_rest, string, minus, sign, int, fraction, exponent, json_number, starts_with, literal, scalar}
 use Rattle.json_tokens.specs.Ends.{end_of, four_hex}
 
 -- ---- an end as a number
-pub end-at : (x : End) (e : ℕ) → e ≡ end_of x → (e ≡ 0 → ⊥) → x ≡ At e
+pub end-at : (x : Option ℕ) (e : ℕ) → e ≡ end_of x → (e ≡ 0 → ⊥) → x ≡ Some e
 unfolding end_of
-end-at (At k) e h n = ap At (sym h)
-end-at Broken e h n = absurd (n h)
+end-at (Some k) e h n = ap Some (sym h)
+end-at None e h n = absurd (n h)
 
-pub end_is : {x : End} {e : ℕ} → x ≡ At e → e ≡ end_of x
+pub end_is : {x : Option ℕ} {e : ℕ} → x ≡ Some e → e ≡ end_of x
 unfolding end_of
 end_is h = rw h
 
-pub end_none : {x : End} → x ≡ Broken → 0 ≡ end_of x
+pub end_none : {x : Option ℕ} → x ≡ None → 0 ≡ end_of x
 unfolding end_of
 end_none h = rw h
 
-pub then_at : {x : End} {e : ℕ} (f : ℕ → End) → x ≡ At e → and_then x f ≡ f e
+pub then_at : {x : Option ℕ} {e : ℕ} (f : ℕ → Option ℕ) → x ≡ Some e → and_then x f ≡ f e
 unfolding and_then
 then_at f h = rw (h, and_then)
 
-pub then-broken : {x : End} (f : ℕ → End) → x ≡ Broken → and_then x f ≡ Broken
+pub then-broken : {x : Option ℕ} (f : ℕ → Option ℕ) → x ≡ None → and_then x f ≡ None
 unfolding and_then
 then-broken f h = rw (h, and_then)
 
@@ -110,46 +111,46 @@ module _ (s : List ℕ) (i : ℕ) where
   unfolding digits is_digit
   digits-stop h = run-stops is_digit refl s i h
 
-  pub some-yes : is_digit (byte_at s i) ≡ true → some_digits s i ≡ At (digits s i)
+  pub some-yes : is_digit (byte_at s i) ≡ true → some_digits s i ≡ Some (digits s i)
   unfolding some_digits
   some-yes h = rw (h, some_digits)
 
-  pub some-no : is_digit (byte_at s i) ≡ false → some_digits s i ≡ Broken
+  pub some-no : is_digit (byte_at s i) ≡ false → some_digits s i ≡ None
   unfolding some_digits
   some-no h = rw (h, some_digits)
 
 -- ---- structural characters
 module _ (c : ℕ) (s : List ℕ) (i : ℕ) where
-  pub closing-yes : byte_at s (blanks s i) ≡ c → closing c s i ≡ At (blanks s i + 1)
+  pub closing-yes : byte_at s (blanks s i) ≡ c → closing c s i ≡ Some (blanks s i + 1)
   unfolding closing
   closing-yes h = rw (eq-eqb _ _ h, closing)
 
-  pub closing-no : (byte_at s (blanks s i) ≡ c → ⊥) → closing c s i ≡ Broken
+  pub closing-no : (byte_at s (blanks s i) ≡ c → ⊥) → closing c s i ≡ None
   unfolding closing
   closing-no n = rw (ne_eqb _ _ n, closing)
 
-  pub separator-yes : byte_at s (blanks s i) ≡ c → separator c s i ≡ At (blanks s (blanks s i + 1))
+  pub separator-yes : byte_at s (blanks s i) ≡ c → separator c s i ≡ Some (blanks s (blanks s i + 1))
   unfolding separator
   separator-yes h = rw (eq-eqb _ _ h, separator)
 
-  pub separator-no : (byte_at s (blanks s i) ≡ c → ⊥) → separator c s i ≡ Broken
+  pub separator-no : (byte_at s (blanks s i) ≡ c → ⊥) → separator c s i ≡ None
   unfolding separator
   separator-no n = rw (ne_eqb _ _ n, separator)
 
 -- ---- strings, past the first quote: one step by the byte at i
-escape_at : List ℕ → ℕ → End
+escape_at : List ℕ → ℕ → Option ℕ
 escape_at s i = escape (drop i s) i
 
-hexes_at : List ℕ → ℕ → ℕ → End
+hexes_at : List ℕ → ℕ → ℕ → Option ℕ
 hexes_at s n i = hexes (drop i s) n i
 
 module _ (s : List ℕ) (i : ℕ) where
   rest_at : string_rest s i ≡
       elim (eqb (byte_at s i) 34) [
-        | true ↦ At (i + 1)
+        | true ↦ Some (i + 1)
         | false ↦ elim (eqb (byte_at s i) 92) [
           | true ↦ escape_at s (i + 1)
-          | false ↦ elim (ltb (byte_at s i) 32) [ true ↦ Broken | false ↦ string_rest s (i + 1) ]
+          | false ↦ elim (ltb (byte_at s i) 32) [ true ↦ None | false ↦ string_rest s (i + 1) ]
         ]
       ]
   unfolding string_rest chars escape_at
@@ -158,7 +159,7 @@ module _ (s : List ℕ) (i : ℕ) where
   escape-at : escape_at s i ≡
       elim (eqb (byte_at s i) 117) [
         | true ↦ hexes_at s 3 (i + 1)
-        | false ↦ elim (escaped (byte_at s i)) [ true ↦ string_rest s (i + 1) | false ↦ Broken ]
+        | false ↦ elim (escaped (byte_at s i)) [ true ↦ string_rest s (i + 1) | false ↦ None ]
       ]
   unfolding string_rest chars escape_at hexes_at escaped
   escape-at = by_place s i (λ l. rw (here s i l)) (λ g. rw (drop_of_length-le s g, past s i g, past s i g))
@@ -166,7 +167,7 @@ module _ (s : List ℕ) (i : ℕ) where
   hexes-at : (n : ℕ) → hexes_at s n i ≡
       elim (hex_digit (byte_at s i)) [
         | true ↦ elim n [ zero ↦ string_rest s (i + 1) | suc m ↦ hexes_at s m (i + 1) ]
-        | false ↦ Broken
+        | false ↦ None
       ]
   unfolding string_rest chars hexes_at hex_digit is_digit
   hexes-at n = by_place s i (λ l. rw (here s i l)) (λ g. rw (drop_of_length-le s g, past s i g))
@@ -183,7 +184,7 @@ module _ (s : List ℕ) where
   hex-last : (i : ℕ) → hex_digit (byte_at s i) ≡ true → hexes_at s 0 i ≡ string_rest s (i + 1)
   hex-last i h = rw (hexes-at s i 0, h)
 
-  hex-no : (i m : ℕ) → hex_digit (byte_at s i) ≡ false → hexes_at s m i ≡ Broken
+  hex-no : (i m : ℕ) → hex_digit (byte_at s i) ≡ false → hexes_at s m i ≡ None
   hex-no i m h = rw (hexes-at s i m, h)
 
   plus-two : (i : ℕ) → i + 1 + 1 ≡ i + 2
@@ -203,7 +204,7 @@ module _ (s : List ℕ) where
       ∙ hex-last (i + 3) r.1
       ∙ ap (string_rest s) (omega arith)
 
-  hexes-none : (i : ℕ) → four_hex s i ≡ false → hexes_at s 3 i ≡ Broken
+  hexes-none : (i : ℕ) → four_hex s i ≡ false → hexes_at s 3 i ≡ None
   unfolding four_hex
   hexes-none i h =
       by_and _ _ h (λ n. hex-no i 3 n) λ a h1.
@@ -220,10 +221,10 @@ module _ (s : List ℕ) where
       in-hex s (i + 3) r.1
 
 module _ (s : List ℕ) (i : ℕ) where
-  pub rest-quote : byte_at s i ≡ 34 → string_rest s i ≡ At (i + 1)
+  pub rest-quote : byte_at s i ≡ 34 → string_rest s i ≡ Some (i + 1)
   rest-quote h = rw (rest_at s i, h)
 
-  pub rest-low : (byte_at s i ≡ 34 → ⊥) → (byte_at s i ≡ 92 → ⊥) → byte_at s i < 32 → string_rest s i ≡ Broken
+  pub rest-low : (byte_at s i ≡ 34 → ⊥) → (byte_at s i ≡ 92 → ⊥) → byte_at s i < 32 → string_rest s i ≡ None
   rest-low n m h = rw (rest_at s i, ne_eqb _ _ n, ne_eqb _ _ m, lt-ltb _ _ h)
 
   pub rest_plain : (byte_at s i ≡ 34 → ⊥) → (byte_at s i ≡ 92 → ⊥) → 32 ≤ byte_at s i → string_rest s i ≡ string_rest s (i + 1)
@@ -235,7 +236,7 @@ module _ (s : List ℕ) (i : ℕ) where
   pub rest-two : byte_at s i ≡ 92 → (byte_at s (i + 1) ≡ 117 → ⊥) → escaped (byte_at s (i + 1)) ≡ true → string_rest s i ≡ string_rest s (i + 2)
   rest-two h n e = rw (rest-escape h, escape-at s (i + 1), ne_eqb _ _ n, e) (ap (string_rest s) (omega arith))
 
-  pub rest-two-no : byte_at s i ≡ 92 → (byte_at s (i + 1) ≡ 117 → ⊥) → escaped (byte_at s (i + 1)) ≡ false → string_rest s i ≡ Broken
+  pub rest-two-no : byte_at s i ≡ 92 → (byte_at s (i + 1) ≡ 117 → ⊥) → escaped (byte_at s (i + 1)) ≡ false → string_rest s i ≡ None
   rest-two-no h n e = rw (rest-escape h, escape-at s (i + 1), ne_eqb _ _ n, e)
 
   rest-u : byte_at s i ≡ 92 → byte_at s (i + 1) ≡ 117 → string_rest s i ≡ hexes_at s 3 (i + 2)
@@ -244,14 +245,14 @@ module _ (s : List ℕ) (i : ℕ) where
   pub rest-six : byte_at s i ≡ 92 → byte_at s (i + 1) ≡ 117 → four_hex s (i + 2) ≡ true → string_rest s i ≡ string_rest s (i + 6)
   rest-six h e x = rest-u h e ∙ hexes-four s (i + 2) x ∙ ap (string_rest s) (omega arith)
 
-  pub rest-six-no : byte_at s i ≡ 92 → byte_at s (i + 1) ≡ 117 → four_hex s (i + 2) ≡ false → string_rest s i ≡ Broken
+  pub rest-six-no : byte_at s i ≡ 92 → byte_at s (i + 1) ≡ 117 → four_hex s (i + 2) ≡ false → string_rest s i ≡ None
   rest-six-no h e x = rest-u h e ∙ hexes-none s (i + 2) x
 
   pub string-yes : byte_at s i ≡ 34 → string s i ≡ string_rest s (i + 1)
   unfolding string
   string-yes h = rw (h, string)
 
-  pub string-no : (byte_at s i ≡ 34 → ⊥) → string s i ≡ Broken
+  pub string-no : (byte_at s i ≡ 34 → ⊥) → string s i ≡ None
   unfolding string
   string-no n = rw (ne_eqb _ _ n, string)
 
@@ -277,7 +278,7 @@ module _ (s : List ℕ) (i : ℕ) where
   unfolding sign
   sign-none n m = rw (ne_eqb _ _ n, ne_eqb _ _ m, sign)
 
-  pub int-zero : byte_at s i ≡ 48 → int s i ≡ At (i + 1)
+  pub int-zero : byte_at s i ≡ 48 → int s i ≡ Some (i + 1)
   unfolding int
   int-zero h = rw (h, int)
 
@@ -289,7 +290,7 @@ module _ (s : List ℕ) (i : ℕ) where
   unfolding fraction
   fraction-point h = rw (h, fraction)
 
-  pub fraction-none : (byte_at s i ≡ 46 → ⊥) → fraction s i ≡ At i
+  pub fraction-none : (byte_at s i ≡ 46 → ⊥) → fraction s i ≡ Some i
   unfolding fraction
   fraction-none n = rw (ne_eqb _ _ n, fraction)
 
@@ -301,29 +302,29 @@ module _ (s : List ℕ) (i : ℕ) where
   unfolding exponent
   exponent-upper h = rw (h, exponent)
 
-  pub exponent-none : (byte_at s i ≡ 101 → ⊥) → (byte_at s i ≡ 69 → ⊥) → exponent s i ≡ At i
+  pub exponent-none : (byte_at s i ≡ 101 → ⊥) → (byte_at s i ≡ 69 → ⊥) → exponent s i ≡ Some i
   unfolding exponent
   exponent-none n m = rw (ne_eqb _ _ n, ne_eqb _ _ m, exponent)
 
-  pub number_is : (j k : ℕ) → int s (minus s i) ≡ At j → fraction s j ≡ At k → json_number s i ≡ exponent s k
+  pub number_is : (j k : ℕ) → int s (minus s i) ≡ Some j → fraction s j ≡ Some k → json_number s i ≡ exponent s k
   unfolding json_number
   number_is j k p q = then_at (exponent s) (then_at (fraction s) p ∙ q)
 
-  pub number-no-int : int s (minus s i) ≡ Broken → json_number s i ≡ Broken
+  pub number-no-int : int s (minus s i) ≡ None → json_number s i ≡ None
   unfolding json_number
   number-no-int p = then-broken (exponent s) (then-broken (fraction s) p)
 
-  pub number-no-fraction : (j : ℕ) → int s (minus s i) ≡ At j → fraction s j ≡ Broken → json_number s i ≡ Broken
+  pub number-no-fraction : (j : ℕ) → int s (minus s i) ≡ Some j → fraction s j ≡ None → json_number s i ≡ None
   unfolding json_number
   number-no-fraction j p q = then-broken (exponent s) (then_at (fraction s) p ∙ q)
 
 -- ---- a step of a word
 module _ (w s : List ℕ) (k i : ℕ) where
-  pub word-ends : length w ≤ k → starts_with (drop k w) (drop i s) i ≡ At i
+  pub word-ends : length w ≤ k → starts_with (drop k w) (drop i s) i ≡ Some i
   unfolding starts_with
   word-ends h = rw (drop_of_length-le w h)
 
-  pub word-past : k < length w → length s ≤ i → starts_with (drop k w) (drop i s) i ≡ Broken
+  pub word-past : k < length w → length s ≤ i → starts_with (drop k w) (drop i s) i ≡ None
   unfolding starts_with
   word-past h g = rw (here w k h, drop_of_length-le s g)
 
@@ -331,13 +332,13 @@ module _ (w s : List ℕ) (k i : ℕ) where
   unfolding starts_with byte_at
   word_on h g e = rw (here w k h, here s i g, eq-eqb _ _ e, starts_with)
 
-  pub word-off : k < length w → i < length s → (get_or s i 0 ≡ get_or w k 0 → ⊥) → starts_with (drop k w) (drop i s) i ≡ Broken
+  pub word-off : k < length w → i < length s → (get_or s i 0 ≡ get_or w k 0 → ⊥) → starts_with (drop k w) (drop i s) i ≡ None
   unfolding starts_with byte_at
   word-off h g n = rw (here w k h, here s i g, ne_eqb _ _ n, starts_with)
 
 -- ---- a word, by its first byte
 module _ (s : List ℕ) (i : ℕ) where
-  pub word-nil : literal [] s i ≡ At i
+  pub word-nil : literal [] s i ≡ Some i
   unfolding literal starts_with
   word-nil = refl
 
@@ -345,7 +346,7 @@ module _ (s : List ℕ) (i : ℕ) where
   unfolding literal starts_with
   word-cons c w p h = rw (here s i (in-byte s i c p h), eq-eqb _ _ h, starts_with)
 
-  pub word-other : (c : ℕ) (w : List ℕ) → (byte_at s i ≡ c → ⊥) → literal (c ∷ w) s i ≡ Broken
+  pub word-other : (c : ℕ) (w : List ℕ) → (byte_at s i ≡ c → ⊥) → literal (c ∷ w) s i ≡ None
   unfolding literal starts_with
   word-other c w n = by_place s i (λ l. rw (here s i l, ne_eqb _ _ n, starts_with)) (λ g. rw (drop_of_length-le s g))
 
@@ -356,8 +357,8 @@ word_append [] w s i = refl
 word_append (c ∷ v) w s i = by_place s i (λ l. rw (here s i l) (go (eqb (byte_at s i) c) (word_append v w s (i + 1)))) (λ g. rw (drop_of_length-le s g))
   where
     go : (b : Bool) → literal (v ++ w) s (i + 1) ≡ and_then (literal v s (i + 1)) (literal w s)
-        → elim b [ true ↦ starts_with (v ++ w) (drop (i + 1) s) (i + 1) | false ↦ Broken ]
-        ≡ and_then (elim b [ true ↦ starts_with v (drop (i + 1) s) (i + 1) | false ↦ Broken ]) (literal w s)
+        → elim b [ true ↦ starts_with (v ++ w) (drop (i + 1) s) (i + 1) | false ↦ None ]
+        ≡ and_then (elim b [ true ↦ starts_with v (drop (i + 1) s) (i + 1) | false ↦ None ]) (literal w s)
     go true ih = ih
     go false ih = refl
 

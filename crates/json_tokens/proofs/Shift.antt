@@ -1,5 +1,6 @@
 -- A text that begins k bytes later, in the middle of another: each token of it is the other's, and ends k bytes earlier.
 -- Assumes nothing.
+use Rattle.std.specs.Prelude.{None, Option, Some, ℕ}
 use Prim.Native.Nat.{ℕ, zero, suc, ◌+◌}
 use mathlib.Core.Path.{◌≡◌, refl, sym, ap, ◌∙◌}
 use mathlib.Core.Bool.{Bool, true, false, ◌||◌}
@@ -10,43 +11,43 @@ use lib.Seq.{drop-drop, get_or-drop}
 use lib.Dec.{eqb, ltb}
 use Rattle.text.specs.Text.{byte_at, is_digit}
 use Rattle.json_tokens.specs.Bytes.{blank, hex_digit, escaped}
-use Rattle.json_tokens.specs.Tokens.{End, At, Broken, and_then, skip_while, blanks, digits, some_digits, closing, separator, chars, escape, hexes, string_rest, string, minus, sign, int, fraction, exponent, json_number, starts_with, literal, scalar}
+use Rattle.json_tokens.specs.Tokens.{and_then, skip_while, blanks, digits, some_digits, closing, separator, chars, escape, hexes, string_rest, string, minus, sign, int, fraction, exponent, json_number, starts_with, literal, scalar}
 
 -- an end, k bytes later
-unfoldable pub shifted : ℕ → End → End
-shifted k (At e) = At (k + e)
-shifted k Broken = Broken
+unfoldable pub shifted : ℕ → Option ℕ → Option ℕ
+shifted k (Some e) = Some (k + e)
+shifted k None = None
 
 -- the first is the second, k bytes later
-pub data Shifts (k : ℕ) : End → End → Type 0 where
-  both : {x e : ℕ} → x ≡ k + e → Shifts k (At x) (At e)
-  neither : Shifts k Broken Broken
+pub data Shifts (k : ℕ) : Option ℕ → Option ℕ → Type 0 where
+  both : {x e : ℕ} → x ≡ k + e → Shifts k (Some x) (Some e)
+  neither : Shifts k None None
 
-pub shifts-is : {k : ℕ} {x y : End} → Shifts k x y → x ≡ shifted k y
+pub shifts-is : {k : ℕ} {x y : Option ℕ} → Shifts k x y → x ≡ shifted k y
 unfolding shifted
-shifts-is (both h) = ap At h
+shifts-is (both h) = ap Some h
 shifts-is neither = refl
 
 module _ (k : ℕ) where
   pub past_one : (i : ℕ) → k + i + 1 ≡ k + (i + 1)
   past_one i = omega arith
 
-  pub shifts-at : {x y : End} (e : ℕ) → Shifts k x y → y ≡ At e → x ≡ At (k + e)
+  pub shifts-at : {x y : Option ℕ} (e : ℕ) → Shifts k x y → y ≡ Some e → x ≡ Some (k + e)
   unfolding shifted
   shifts-at e h q = shifts-is h ∙ ap (shifted k) q
 
-  pub shifts-broken : {x y : End} → Shifts k x y → y ≡ Broken → x ≡ Broken
+  pub shifts-broken : {x y : Option ℕ} → Shifts k x y → y ≡ None → x ≡ None
   unfolding shifted
   shifts-broken h q = shifts-is h ∙ ap (shifted k) q
 
-  shifts-on : {x y v w : End} (b : Bool) → Shifts k x v → Shifts k y w → Shifts k (elim b [ true ↦ x | false ↦ y ]) (elim b [ true ↦ v | false ↦ w ])
+  shifts-on : {x y v w : Option ℕ} (b : Bool) → Shifts k x v → Shifts k y w → Shifts k (elim b [ true ↦ x | false ↦ y ]) (elim b [ true ↦ v | false ↦ w ])
   shifts-on true p q = p
   shifts-on false p q = q
 
-  pub shifts-if : {b c : Bool} {x y v w : End} → b ≡ c → Shifts k x v → Shifts k y w → Shifts k (elim b [ true ↦ x | false ↦ y ]) (elim c [ true ↦ v | false ↦ w ])
+  pub shifts-if : {b c : Bool} {x y v w : Option ℕ} → b ≡ c → Shifts k x v → Shifts k y w → Shifts k (elim b [ true ↦ x | false ↦ y ]) (elim c [ true ↦ v | false ↦ w ])
   shifts-if {b} {c} h p q = rw h (shifts-on c p q)
 
-  pub shifts-then : {x v : End} (f g : ℕ → End) → Shifts k x v → ((e : ℕ) → Shifts k (f (k + e)) (g e)) → Shifts k (and_then x f) (and_then v g)
+  pub shifts-then : {x v : Option ℕ} (f g : ℕ → Option ℕ) → Shifts k x v → ((e : ℕ) → Shifts k (f (k + e)) (g e)) → Shifts k (and_then x f) (and_then v g)
   unfolding and_then
   shifts-then f g (both {x} {e} h) n = rw h (n e)
   shifts-then f g neither n = neither

@@ -1,13 +1,12 @@
 -- What contracts say of tokens, in terms of the code. Assumes nothing: these are definitions.
-use Rattle.std.specs.Prelude.{ℕ, ◌+◌, Bool, ◌&&◌, not, List, leb, eqb}
+use Rattle.std.specs.Prelude.{ℕ, ◌+◌, Bool, ◌&&◌, not, List, leb, eqb, None, Option, Some}
 use Rattle.text.specs.Text.{byte_at}
 use Rattle.json_tokens.specs.Bytes.{quote, backslash, hex_digit}
-use Rattle.json_tokens.specs.Tokens.{End, At, Broken}
 
 -- An end as one number: no token of a byte or more ends at 0
-unfoldable pub end_of : End → ℕ
-end_of (At e) = e
-end_of Broken = 0
+unfoldable pub end_of : Option ℕ → ℕ
+end_of (Some e) = e
+end_of None = 0
 
 -- 4HEXDIG stand at i
 unfoldable pub four_hex : List ℕ → ℕ → Bool

@@ -1,19 +1,14 @@
 -- The tokens of JSON, RFC 8259: blanks, structural characters, strings, numbers, literal names. Each is a function from a text and a position
--- to where the token that begins there ends. Its name in the RFC's grammar stands above each.
+-- to the position past the token that begins there, or none where no token of its kind begins there. Its name in the RFC's grammar stands above each.
 -- Assumes nothing: these are definitions.
-use Rattle.std.specs.Prelude.{ℕ, zero, suc, ◌+◌, List, [], ◌∷◌, Bool, true, false, ◌||◌, drop, length, ltb, eqb}
+use Rattle.std.specs.Prelude.{ℕ, zero, suc, ◌+◌, List, [], ◌∷◌, Bool, true, false, ◌||◌, drop, length, ltb, eqb, None, Option, Some}
 use Rattle.text.specs.Text.{byte_at, is_digit}
 use Rattle.json_tokens.specs.Bytes.{quote, backslash, blank, hex_digit, escaped}
 
--- The position past what begins at a position, or that nothing of its kind begins there.
-pub data End : Type 0 where
-  At : ℕ → End
-  Broken : End
-
 -- one thing, and from where it ends the next
-unfoldable pub and_then : End → (ℕ → End) → End
-and_then (At e) next = next e
-and_then Broken next = Broken
+unfoldable pub and_then : Option ℕ → (ℕ → Option ℕ) → Option ℕ
+and_then (Some e) next = next e
+and_then None next = None
 
 -- ---- runs of bytes of one kind. `run p t i`: the position past the bytes that pass p; t is the text from i on
 unfoldable pub skip_while : (ℕ → Bool) → List ℕ → ℕ → ℕ
@@ -29,48 +24,48 @@ unfoldable pub digits : List ℕ → ℕ → ℕ
 digits s i = skip_while is_digit (drop i s) i
 
 -- 1*DIGIT
-unfoldable pub some_digits : List ℕ → ℕ → End
-some_digits s i = elim (is_digit (byte_at s i)) [ true ↦ At (digits s i) | false ↦ Broken ]
+unfoldable pub some_digits : List ℕ → ℕ → Option ℕ
+some_digits s i = elim (is_digit (byte_at s i)) [ true ↦ Some (digits s i) | false ↦ None ]
 
 -- ---- structural characters. Blanks past a closing bracket belong to what follows, so that a value ends with its own last byte
 -- end-array, end-object: ws close
-unfoldable pub closing : ℕ → List ℕ → ℕ → End
-closing close s i = elim (eqb (byte_at s (blanks s i)) close) [ true ↦ At (blanks s i + 1) | false ↦ Broken ]
+unfoldable pub closing : ℕ → List ℕ → ℕ → Option ℕ
+closing close s i = elim (eqb (byte_at s (blanks s i)) close) [ true ↦ Some (blanks s i + 1) | false ↦ None ]
 
 -- name-separator, value-separator: ws separator ws
-unfoldable pub separator : ℕ → List ℕ → ℕ → End
-separator byte s i = elim (eqb (byte_at s (blanks s i)) byte) [ true ↦ At (blanks s (blanks s i + 1)) | false ↦ Broken ]
+unfoldable pub separator : ℕ → List ℕ → ℕ → Option ℕ
+separator byte s i = elim (eqb (byte_at s (blanks s i)) byte) [ true ↦ Some (blanks s (blanks s i + 1)) | false ↦ None ]
 
 -- ---- strings
 -- *char quotation-mark; t is the text from i on. No byte below 32; bytes of 128 and above are not examined.
 -- `escape` is past a backslash; `hexes t n i` owes one hex digit, and n more
 unfoldable mutual
-  pub chars : List ℕ → ℕ → End
-  chars [] i = Broken
+  pub chars : List ℕ → ℕ → Option ℕ
+  chars [] i = None
   chars (c ∷ t) i =
       elim (eqb c quote) [
-        | true ↦ At (i + 1)
+        | true ↦ Some (i + 1)
         | false ↦ elim (eqb c backslash) [
           | true ↦ escape t (i + 1)
-          | false ↦ elim (ltb c 32) [ true ↦ Broken | false ↦ chars t (i + 1) ]
+          | false ↦ elim (ltb c 32) [ true ↦ None | false ↦ chars t (i + 1) ]
         ]
       ]
 
-  pub escape : List ℕ → ℕ → End
-  escape [] i = Broken
-  escape (c ∷ t) i = elim (eqb c 117) [ true ↦ hexes t 3 (i + 1) | false ↦ elim (escaped c) [ true ↦ chars t (i + 1) | false ↦ Broken ] ]
+  pub escape : List ℕ → ℕ → Option ℕ
+  escape [] i = None
+  escape (c ∷ t) i = elim (eqb c 117) [ true ↦ hexes t 3 (i + 1) | false ↦ elim (escaped c) [ true ↦ chars t (i + 1) | false ↦ None ] ]
 
-  pub hexes : List ℕ → ℕ → ℕ → End
-  hexes [] n i = Broken
-  hexes (c ∷ t) n i = elim (hex_digit c) [ true ↦ elim n [ zero ↦ chars t (i + 1) | suc m ↦ hexes t m (i + 1) ] | false ↦ Broken ]
+  pub hexes : List ℕ → ℕ → ℕ → Option ℕ
+  hexes [] n i = None
+  hexes (c ∷ t) n i = elim (hex_digit c) [ true ↦ elim n [ zero ↦ chars t (i + 1) | suc m ↦ hexes t m (i + 1) ] | false ↦ None ]
 
 -- the same at a position of a text: a string from past its first quote
-unfoldable pub string_rest : List ℕ → ℕ → End
+unfoldable pub string_rest : List ℕ → ℕ → Option ℕ
 string_rest s i = chars (drop i s) i
 
 -- string = quotation-mark *char quotation-mark
-unfoldable pub string : List ℕ → ℕ → End
-string s i = elim (eqb (byte_at s i) quote) [ true ↦ string_rest s (i + 1) | false ↦ Broken ]
+unfoldable pub string : List ℕ → ℕ → Option ℕ
+string s i = elim (eqb (byte_at s i) quote) [ true ↦ string_rest s (i + 1) | false ↦ None ]
 
 -- ---- numbers
 -- [ minus ]
@@ -82,32 +77,32 @@ unfoldable pub sign : List ℕ → ℕ → ℕ
 sign s i = elim (eqb (byte_at s i) 43 || eqb (byte_at s i) 45) [ true ↦ i + 1 | false ↦ i ]
 
 -- int = zero / ( digit1-9 *DIGIT )
-unfoldable pub int : List ℕ → ℕ → End
-int s i = elim (eqb (byte_at s i) 48) [ true ↦ At (i + 1) | false ↦ some_digits s i ]
+unfoldable pub int : List ℕ → ℕ → Option ℕ
+int s i = elim (eqb (byte_at s i) 48) [ true ↦ Some (i + 1) | false ↦ some_digits s i ]
 
 -- [ frac ], frac = decimal-point 1*DIGIT
-unfoldable pub fraction : List ℕ → ℕ → End
-fraction s i = elim (eqb (byte_at s i) 46) [ true ↦ some_digits s (i + 1) | false ↦ At i ]
+unfoldable pub fraction : List ℕ → ℕ → Option ℕ
+fraction s i = elim (eqb (byte_at s i) 46) [ true ↦ some_digits s (i + 1) | false ↦ Some i ]
 
 -- [ exp ], exp = e [ minus / plus ] 1*DIGIT, with e a lower or an upper case letter
-unfoldable pub exponent : List ℕ → ℕ → End
-exponent s i = elim (eqb (byte_at s i) 101 || eqb (byte_at s i) 69) [ true ↦ some_digits s (sign s (i + 1)) | false ↦ At i ]
+unfoldable pub exponent : List ℕ → ℕ → Option ℕ
+exponent s i = elim (eqb (byte_at s i) 101 || eqb (byte_at s i) 69) [ true ↦ some_digits s (sign s (i + 1)) | false ↦ Some i ]
 
 -- number = [ minus ] int [ frac ] [ exp ]
-unfoldable pub json_number : List ℕ → ℕ → End
+unfoldable pub json_number : List ℕ → ℕ → Option ℕ
 json_number s i = and_then (and_then (int s (minus s i)) (fraction s)) (exponent s)
 
 -- ---- literal names: the bytes w stand at the front of t, the text from i on
-unfoldable pub starts_with : List ℕ → List ℕ → ℕ → End
-starts_with [] t i = At i
-starts_with (c ∷ w) [] i = Broken
-starts_with (c ∷ w) (d ∷ t) i = elim (eqb d c) [ true ↦ starts_with w t (i + 1) | false ↦ Broken ]
+unfoldable pub starts_with : List ℕ → List ℕ → ℕ → Option ℕ
+starts_with [] t i = Some i
+starts_with (c ∷ w) [] i = None
+starts_with (c ∷ w) (d ∷ t) i = elim (eqb d c) [ true ↦ starts_with w t (i + 1) | false ↦ None ]
 
-unfoldable pub literal : List ℕ → List ℕ → ℕ → End
+unfoldable pub literal : List ℕ → List ℕ → ℕ → Option ℕ
 literal w s i = starts_with w (drop i s) i
 
 -- ---- a value that is no array and no object: its first byte tells which
-unfoldable pub scalar : List ℕ → ℕ → End
+unfoldable pub scalar : List ℕ → ℕ → Option ℕ
 scalar s i =
     elim (eqb (byte_at s i) quote) [
       | true ↦ string s i

@@ -1,10 +1,10 @@
 -- Eight bytes of a string at once, and one character of it. The code alone leans on these: what a string is says `Tokens`.
 -- Assumes nothing: these are definitions.
-use Rattle.std.specs.Prelude.{◌≡◌, ℕ, ◌+◌, ◌≤◌, ◌<◌, List, length}
+use Rattle.std.specs.Prelude.{◌≡◌, ℕ, ◌+◌, ◌≤◌, ◌<◌, List, length, None}
 use Rattle.std.specs.Int.Bits.{bit_and, bit_or, bit_xor}
 use Rattle.text.specs.Text.{byte_at}
 use Rattle.json_tokens.specs.Bytes.{quote}
-use Rattle.json_tokens.specs.Tokens.{Broken, string_rest}
+use Rattle.json_tokens.specs.Tokens.{string_rest}
 
 -- Eight times the same byte: 127, 128, 96, a quote, a backslash.
 abbrev pub low : ℕ
@@ -38,5 +38,5 @@ special_bytes x =
 
 -- r is where the character of a string at i ends, which is no quote, and 0 if none stands there.
 pub record CharEnd (s : List ℕ) (i r : ℕ) : Type 0 where
-  pub none : r ≡ 0 → (byte_at s i ≡ quote → ⊥) → string_rest s i ≡ Broken
+  pub none : r ≡ 0 → (byte_at s i ≡ quote → ⊥) → string_rest s i ≡ None
   pub some : (r ≡ 0 → ⊥) → (i < r) × (r ≤ length s) × (string_rest s i ≡ string_rest s r)

@@ -1,5 +1,6 @@
 -- The laws that `specs/Claims` states.
 -- Assumes nothing.
+use Rattle.std.specs.Prelude.{None, Option, Some, ℕ}
 use mathlib.Core.Path.{◌≡◌, refl, sym, ◌∙◌}
 use mathlib.Core.List.{List, [], ◌∷◌}
 use mathlib.Core.Bool.{Bool, true, false, true≢false}
@@ -7,7 +8,7 @@ use Prim.Native.Nat.{ℕ, zero, suc, ◌≤◌, ◌<◌}
 use native.Mathlib.Omega.{arith}
 use lib.ListN.{length}
 use borrow.Author.Tests.{eqb-true, eq-eqb}
-use Rattle.json_tokens.specs.Tokens.{End, At, Broken, blanks, closing, separator, string, ended}
+use Rattle.json_tokens.specs.Tokens.{blanks, closing, separator, string, ended}
 use Rattle.json_tokens.proofs.Bounds.{bounds, blanks-in, closing-in, separator-in, string-in}
 use Rattle.json_values.specs.Json.{Next, item, ends, wrong, Items, items, no_items, next, prepended, onward, list, list_of, element, member, elements, members, value, max_depth, text}
 use Rattle.json_values.specs.Claims.{EndsWithin, InOrder, end, then, IsElement, IsMember, ElementsInOrder, MembersInOrder, Reading, OneReading, OneName}
@@ -52,18 +53,18 @@ module _ {A : Type 0} (s : List ℕ) (is : A → ℕ → ℕ → Type 0) where
     unfolding next
     next-found true i = go (closing close s i) refl
       where
-        go : (x : End) → closing close s i ≡ x → Found s is i (elim x [ At e ↦ ends e | Broken ↦ one (blanks s i) ])
-        go (At e) h = let b = bounds e (closing-in s close i pos) h in finished e (omega arith) b.1
-        go Broken h = sooner i (blanks s i) (blanks-in s i).0 (one (blanks s i)) (one_found (blanks s i))
+        go : (x : Option ℕ) → closing close s i ≡ x → Found s is i (elim x [ Some e ↦ ends e | None ↦ one (blanks s i) ])
+        go (Some e) h = let b = bounds e (closing-in s close i pos) h in finished e (omega arith) b.1
+        go None h = sooner i (blanks s i) (blanks-in s i).0 (one (blanks s i)) (one_found (blanks s i))
     next-found false i = go (separator 44 s i) refl
       where
-        close-found : (y : End) → closing close s i ≡ y → Found s is i (elim y [ At e ↦ ends e | Broken ↦ wrong ])
-        close-found (At e) h = let b = bounds e (closing-in s close i pos) h in finished e (omega arith) b.1
-        close-found Broken h = nothing
+        close-found : (y : Option ℕ) → closing close s i ≡ y → Found s is i (elim y [ Some e ↦ ends e | None ↦ wrong ])
+        close-found (Some e) h = let b = bounds e (closing-in s close i pos) h in finished e (omega arith) b.1
+        close-found None h = nothing
 
-        go : (x : End) → separator 44 s i ≡ x → Found s is i (elim x [ At j ↦ one j | Broken ↦ elim (closing close s i) [ At e ↦ ends e | Broken ↦ wrong ] ])
-        go (At j) h = let b = bounds j (separator-in s 44 i (omega arith)) h in sooner i j (omega arith) (one j) (one_found j)
-        go Broken h = close-found (closing close s i) refl
+        go : (x : Option ℕ) → separator 44 s i ≡ x → Found s is i (elim x [ Some j ↦ one j | None ↦ elim (closing close s i) [ Some e ↦ ends e | None ↦ wrong ] ])
+        go (Some j) h = let b = bounds j (separator-in s 44 i (omega arith)) h in sooner i j (omega arith) (one j) (one_found j)
+        go None h = close-found (closing close s i) refl
 
     list-laid : (n : ℕ) (first : Bool) (i : ℕ) → Laid s is i (list one close s n first i)
     unfolding list
@@ -82,38 +83,38 @@ module _ (d : ℕ) (s : List ℕ) where
   unfolding element
   element-found i = go (value d s i) refl
     where
-      go : (x : End) → value d s i ≡ x → Found s (IsElement d s) i (elim x [ At e ↦ item (record { from = i; to = e }) e | Broken ↦ wrong ])
-      go (At e) h =
+      go : (x : Option ℕ) → value d s i ≡ x → Found s (IsElement d s) i (elim x [ Some e ↦ item (record { from = i; to = e }) e | None ↦ wrong ])
+      go (Some e) h =
           let b = ends-within d s i e h in
           found (record { from = i; to = e }) i e (omega arith) b.0 b.1 (record { begins = refl; finishes = refl; a_value = h })
-      go Broken h = nothing
+      go None h = nothing
 
   member-found : (i : ℕ) → Found s (IsMember d s) i (member (value d s) s i)
   unfolding member
   member-found i = at_name (string s i) refl
     where
-      at_value : (k j : ℕ) → string s i ≡ At k → separator 58 s k ≡ At j → (x : End) → value d s j ≡ x
-          → Found s (IsMember d s) i (elim x [ At e ↦ item (record { name = record { from = i; to = k }; value = record { from = j; to = e } }) e | Broken ↦ wrong ])
-      at_value k j p q (At e) r =
+      at_value : (k j : ℕ) → string s i ≡ Some k → separator 58 s k ≡ Some j → (x : Option ℕ) → value d s j ≡ x
+          → Found s (IsMember d s) i (elim x [ Some e ↦ item (record { name = record { from = i; to = k }; value = record { from = j; to = e } }) e | None ↦ wrong ])
+      at_value k j p q (Some e) r =
           let a = bounds k (string-in s i) p in
           let b = bounds j (separator-in s 58 k (omega arith)) q in
           let c = ends-within d s j e r in
           found (record { name = record { from = i; to = k }; value = record { from = j; to = e } }) i e (omega arith) (omega arith) c.1
           (record { begins = refl; finishes = refl; a_string = p; a_colon = q; a_value = r })
-      at_value k j p q Broken r = nothing
+      at_value k j p q None r = nothing
 
-      at-colon : (k : ℕ) → string s i ≡ At k → (x : End) → separator 58 s k ≡ x
-          → Found s (IsMember d s) i (elim x [ At j ↦ elim (value d s j) [ At e ↦ item (record { name = record { from = i; to = k }; value = record { from = j; to = e } }) e | Broken ↦ wrong ] | Broken ↦ wrong ])
-      at-colon k p (At j) q = at_value k j p q (value d s j) refl
-      at-colon k p Broken q = nothing
+      at-colon : (k : ℕ) → string s i ≡ Some k → (x : Option ℕ) → separator 58 s k ≡ x
+          → Found s (IsMember d s) i (elim x [ Some j ↦ elim (value d s j) [ Some e ↦ item (record { name = record { from = i; to = k }; value = record { from = j; to = e } }) e | None ↦ wrong ] | None ↦ wrong ])
+      at-colon k p (Some j) q = at_value k j p q (value d s j) refl
+      at-colon k p None q = nothing
 
-      at_name : (x : End) → string s i ≡ x
+      at_name : (x : Option ℕ) → string s i ≡ x
           → Found s (IsMember d s) i (elim x [
-            | At k ↦ elim (separator 58 s k) [ At j ↦ elim (value d s j) [ At e ↦ item (record { name = record { from = i; to = k }; value = record { from = j; to = e } }) e | Broken ↦ wrong ] | Broken ↦ wrong ]
-            | Broken ↦ wrong
+            | Some k ↦ elim (separator 58 s k) [ Some j ↦ elim (value d s j) [ Some e ↦ item (record { name = record { from = i; to = k }; value = record { from = j; to = e } }) e | None ↦ wrong ] | None ↦ wrong ]
+            | None ↦ wrong
           ])
-      at_name (At k) p = at-colon k p (separator 58 s k) refl
-      at_name Broken p = nothing
+      at_name (Some k) p = at-colon k p (separator 58 s k) refl
+      at_name None p = nothing
 
 pub elements-in-order : ElementsInOrder
 unfolding elements
@@ -128,9 +129,9 @@ pub one-reading : OneReading
 unfolding ended
 one-reading s = (reads, is-text, same)
   where
-    go : (x : End) → value max_depth s (blanks s 0) ≡ x → text s ≡ true → (e : ℕ) × Reading s e
-    go (At e) p h = (e, record { a_value = p; then_blanks = eqb-true (blanks s e) (length s) (sym (text-ends s e p) ∙ h) })
-    go Broken p h = absurd (true≢false (sym h ∙ text-broken s p))
+    go : (x : Option ℕ) → value max_depth s (blanks s 0) ≡ x → text s ≡ true → (e : ℕ) × Reading s e
+    go (Some e) p h = (e, record { a_value = p; then_blanks = eqb-true (blanks s e) (length s) (sym (text-ends s e p) ∙ h) })
+    go None p h = absurd (true≢false (sym h ∙ text-broken s p))
 
     reads : text s ≡ true → (e : ℕ) × Reading s e
     reads h = go (value max_depth s (blanks s 0)) refl h

@@ -1,10 +1,11 @@
 -- The loops over an array and an object that ask only for the end: what they keep of the items is nothing. `Fold` has their law.
 -- Assumes nothing.
+use Rattle.std.specs.Prelude.{None, Option, Some, ℕ}
 use mathlib.Core.Path.{◌≡◌, refl, ◌∙◌}
 use mathlib.Core.List.{List}
 use Prim.Native.Nat.{ℕ, ◌<◌}
 use native.Mathlib.Omega.{arith}
-use Rattle.json_tokens.specs.Tokens.{End, At, Broken, blanks, closing, separator}
+use Rattle.json_tokens.specs.Tokens.{blanks, closing, separator}
 use Rattle.json_tokens.specs.Ends.{end_of}
 use Rattle.json_tokens.proofs.Laws.{end-at, end_is, end_none}
 use Rattle.json_tokens.proofs.Bounds.{Within, bounds, end-broken, closing-in}
@@ -20,10 +21,10 @@ abbrev pub list_end : {A : Type 0} → Items A → ℕ
 list_end x = end_of (items_end x)
 
 -- `end` tells of each position where the item there ends, or that none begins there
-pub record Tells {A : Type 0} (one : ℕ → Next A) (s : List ℕ) (end : ℕ → End) : Type 0 where
+pub record Tells {A : Type 0} (one : ℕ → Next A) (s : List ℕ) (end : ℕ → Option ℕ) : Type 0 where
   pub inside : (i : ℕ) → Within s i (end i)
-  pub is-item : (i e : ℕ) → end i ≡ At e → (a : A) × (one i ≡ item a e)
-  pub is-wrong : (i : ℕ) → end i ≡ Broken → one i ≡ wrong
+  pub is-item : (i e : ℕ) → end i ≡ Some e → (a : A) × (one i ≡ item a e)
+  pub is-wrong : (i : ℕ) → end i ≡ None → one i ≡ wrong
 
 module _ (d : ℕ) (s : List ℕ) where
   pub elements-tell : Tells (element (value d s)) s (value d s)
@@ -41,7 +42,7 @@ module _ (d : ℕ) (s : List ℕ) where
     is-wrong = no_member (value d s) s;
   }
 
-module _ {A : Type 0} {one : ℕ → Next A} {s : List ℕ} {end : ℕ → End} (t : Tells one s end) (i e : ℕ) (h : e ≡ end_of (end i)) where
+module _ {A : Type 0} {one : ℕ → Next A} {s : List ℕ} {end : ℕ → Option ℕ} (t : Tells one s end) (i e : ℕ) (h : e ≡ end_of (end i)) where
   pub tells-wrong : e ≡ 0 → one i ≡ wrong
   tells-wrong z = t.is-wrong i (end-broken e (omega arith) (t.inside i) h z)
 
@@ -74,8 +75,8 @@ module _ {A : Type 0} (one : ℕ → Next A) (bracket : ℕ) (is_byte : 0 < brac
   unfolding end_of
   ends_last {i} {r} w {a} {e} h l c z = go (closing bracket s e) refl
     where
-      go : (x : End) → closing bracket s e ≡ x → end_of x ≡ r
-      go (At k) q =
+      go : (x : Option ℕ) → closing bracket s e ≡ x → end_of x ≡ r
+      go (Some k) q =
           let b = bounds k (closing-in s bracket e is_byte) q in
           fold-last ends tt w h l c z k (end_is q) (λ y. omega arith) refl
-      go Broken q = fold-broken ends tt w h l c z 0 (end_none q) refl
+      go None q = fold-broken ends tt w h l c z 0 (end_none q) refl

@@ -1,12 +1,13 @@
 -- The law of every loop over the items of an array or an object, whose answer is made of them item by item. Ends are the numbers that the
 -- functions answer: 0 where it is not JSON. The loop stands where an item is to begin. What elements and members have of their own is at the end.
 -- Assumes nothing.
+use Rattle.std.specs.Prelude.{None, Some}
 use mathlib.Core.Path.{◌≡◌, refl, sym, ap, ◌∙◌}
 use mathlib.Core.List.{List, [], ◌∷◌}
 use Prim.Native.Nat.{ℕ, ◌≤◌, ◌<◌}
 use native.Mathlib.Omega.{arith}
 use lib.ListN.{length}
-use Rattle.json_tokens.specs.Tokens.{At, Broken, blanks, closing, separator, string}
+use Rattle.json_tokens.specs.Tokens.{blanks, closing, separator, string}
 use Rattle.json_tokens.specs.Ends.{end_of}
 use Rattle.json_tokens.proofs.Laws.{end-at}
 use Rattle.json_tokens.proofs.Bounds.{bounds, end-broken, blanks-in, closing-in, separator-in, string-in}
@@ -69,13 +70,13 @@ module _ {A S R : Type 0} (o : Loop A S R) where
 
     -- an item, and l past the comma behind it
     module _ {a : A} {e : ℕ} (h : Stands o.one o.text i a e) (l : ℕ) (c : l ≡ end_of (separator 44 o.text e)) where
-      past-comma : (l ≡ 0 → ⊥) → (e ≤ l) × (separator 44 o.text e ≡ At l)
+      past-comma : (l ≡ 0 → ⊥) → (e ≤ l) × (separator 44 o.text e ≡ Some l)
       past-comma n =
           let q = end-at (separator 44 o.text e) l c n in
           let b = bounds l (separator-in o.text 44 e (omega arith)) q in
           (omega arith, q)
 
-      no-comma : l ≡ 0 → separator 44 o.text e ≡ Broken
+      no-comma : l ≡ 0 → separator 44 o.text e ≡ None
       no-comma z = end-broken l (omega arith) (separator-in o.text 44 e (omega arith)) c z
 
       pub fold-further : (l ≡ 0 → ⊥) → (i < e) × (e ≤ l) × (i < length o.text)

@@ -1,5 +1,6 @@
 -- The definitions of `Json`, one step at a time.
 -- Assumes nothing.
+use Rattle.std.specs.Prelude.{None, Option, Some, ℕ}
 use mathlib.Core.Path.{◌≡◌, refl, ◌∙◌}
 use mathlib.Core.List.{List}
 use mathlib.Core.Bool.{true, false, and-eq-true_iff}
@@ -8,7 +9,7 @@ use native.Mathlib.Omega.{arith}
 use lib.Dec.{leb}
 use borrow.Author.Tests.{ne_eqb, leb-true}
 use Rattle.text.specs.Text.{byte_at, is_digit}
-use Rattle.json_tokens.specs.Tokens.{End, At, Broken, and_then, blanks, closing, separator, string, json_number, scalar, ended}
+use Rattle.json_tokens.specs.Tokens.{and_then, blanks, closing, separator, string, json_number, scalar, ended}
 use Rattle.json_tokens.proofs.Laws.{scalar-string, scalar-number}
 use Rattle.json_values.specs.Json.{Next, item, ends, wrong, Items, items, no_items, next, prepended, items_end, element, member, elements, members, value, text}
 use Rattle.json_values.specs.Ends.{member_end}
@@ -47,24 +48,24 @@ module _ (s : List ℕ) (i : ℕ) where
 -- ---- what is found in a list of items
 module _ {A : Type 0} (one : ℕ → Next A) (close : ℕ) (s : List ℕ) (i : ℕ) where
   -- at first
-  pub first_ends : (e : ℕ) → closing close s i ≡ At e → next one close s true i ≡ ends e
+  pub first_ends : (e : ℕ) → closing close s i ≡ Some e → next one close s true i ≡ ends e
   unfolding next
   first_ends e h = rw (h, next)
 
-  pub first-item : closing close s i ≡ Broken → next one close s true i ≡ one (blanks s i)
+  pub first-item : closing close s i ≡ None → next one close s true i ≡ one (blanks s i)
   unfolding next
   first-item h = rw (h, next)
 
   -- past an item
-  pub later-item : (j : ℕ) → separator 44 s i ≡ At j → next one close s false i ≡ one j
+  pub later-item : (j : ℕ) → separator 44 s i ≡ Some j → next one close s false i ≡ one j
   unfolding next
   later-item j h = rw (h, next)
 
-  pub later-ends : (e : ℕ) → separator 44 s i ≡ Broken → closing close s i ≡ At e → next one close s false i ≡ ends e
+  pub later-ends : (e : ℕ) → separator 44 s i ≡ None → closing close s i ≡ Some e → next one close s false i ≡ ends e
   unfolding next
   later-ends e h q = rw (h, q, next)
 
-  pub later-wrong : separator 44 s i ≡ Broken → closing close s i ≡ Broken → next one close s false i ≡ wrong
+  pub later-wrong : separator 44 s i ≡ None → closing close s i ≡ None → next one close s false i ≡ wrong
   unfolding next
   later-wrong h q = rw (h, q, next)
 
@@ -74,69 +75,69 @@ before-end a (items l e) = refl
 before-end a no_items = refl
 
 -- ---- an element, by its value
-module _ (v : ℕ → End) (i : ℕ) where
-  pub element-is : (e : ℕ) → v i ≡ At e → element v i ≡ item (record { from = i; to = e }) e
+module _ (v : ℕ → Option ℕ) (i : ℕ) where
+  pub element-is : (e : ℕ) → v i ≡ Some e → element v i ≡ item (record { from = i; to = e }) e
   unfolding element
   element-is e h = rw (h, element)
 
-  pub element-wrong : v i ≡ Broken → element v i ≡ wrong
+  pub element-wrong : v i ≡ None → element v i ≡ wrong
   unfolding element
   element-wrong h = rw (h, element)
 
 -- ---- a member, by its parts
-module _ (v : ℕ → End) (s : List ℕ) (i : ℕ) where
-  pub member_is : (k j e : ℕ) → string s i ≡ At k → separator 58 s k ≡ At j → v j ≡ At e
+module _ (v : ℕ → Option ℕ) (s : List ℕ) (i : ℕ) where
+  pub member_is : (k j e : ℕ) → string s i ≡ Some k → separator 58 s k ≡ Some j → v j ≡ Some e
       → member v s i ≡ item (record { name = record { from = i; to = k }; value = record { from = j; to = e } }) e
   unfolding member
   member_is k j e p q r = rw (p, q, r, member)
 
-  pub member-no-name : string s i ≡ Broken → member v s i ≡ wrong
+  pub member-no-name : string s i ≡ None → member v s i ≡ wrong
   unfolding member
   member-no-name p = rw (p, member)
 
-  pub member-no-colon : (k : ℕ) → string s i ≡ At k → separator 58 s k ≡ Broken → member v s i ≡ wrong
+  pub member-no-colon : (k : ℕ) → string s i ≡ Some k → separator 58 s k ≡ None → member v s i ≡ wrong
   unfolding member
   member-no-colon k p q = rw (p, q, member)
 
-  pub member-no-value : (k j : ℕ) → string s i ≡ At k → separator 58 s k ≡ At j → v j ≡ Broken → member v s i ≡ wrong
+  pub member-no-value : (k j : ℕ) → string s i ≡ Some k → separator 58 s k ≡ Some j → v j ≡ None → member v s i ≡ wrong
   unfolding member
   member-no-value k j p q r = rw (p, q, r, member)
 
   -- by its parts, where the member is known to be one, or not to be one
-  pub by-member : {B : Type 0} (e : ℕ) → member_end v s i ≡ At e
-      → ((k j : ℕ) → string s i ≡ At k → separator 58 s k ≡ At j → v j ≡ At e → B) → B
+  pub by-member : {B : Type 0} (e : ℕ) → member_end v s i ≡ Some e
+      → ((k j : ℕ) → string s i ≡ Some k → separator 58 s k ≡ Some j → v j ≡ Some e → B) → B
   unfolding member_end and_then
   by-member {B} e h f = at_name (string s i) refl h
     where
-      no : {C : Type 0} → Broken ≡ At e → C
+      no : {C : Type 0} → None ≡ Some e → C
       no h = let z : ◌≡◌ {A = ℕ} 0 1 = cc in absurd (omega arith)
 
-      at-colon : (k : ℕ) → string s i ≡ At k → (y : End) → separator 58 s k ≡ y → and_then y v ≡ At e → B
-      at-colon k p (At j) q h = f k j p q h
-      at-colon k p Broken q h = no h
+      at-colon : (k : ℕ) → string s i ≡ Some k → (y : Option ℕ) → separator 58 s k ≡ y → and_then y v ≡ Some e → B
+      at-colon k p (Some j) q h = f k j p q h
+      at-colon k p None q h = no h
 
-      at_name : (x : End) → string s i ≡ x → and_then x (λ k. and_then (separator 58 s k) v) ≡ At e → B
-      at_name (At k) p h = at-colon k p (separator 58 s k) refl h
-      at_name Broken p h = no h
+      at_name : (x : Option ℕ) → string s i ≡ x → and_then x (λ k. and_then (separator 58 s k) v) ≡ Some e → B
+      at_name (Some k) p h = at-colon k p (separator 58 s k) refl h
+      at_name None p h = no h
 
-  pub no_member : member_end v s i ≡ Broken → member v s i ≡ wrong
+  pub no_member : member_end v s i ≡ None → member v s i ≡ wrong
   unfolding member_end and_then
   no_member h = at_name (string s i) refl h
     where
-      at-colon : (k : ℕ) → string s i ≡ At k → (y : End) → separator 58 s k ≡ y → and_then y v ≡ Broken → member v s i ≡ wrong
-      at-colon k p (At j) q h = member-no-value k j p q h
-      at-colon k p Broken q h = member-no-colon k p q
+      at-colon : (k : ℕ) → string s i ≡ Some k → (y : Option ℕ) → separator 58 s k ≡ y → and_then y v ≡ None → member v s i ≡ wrong
+      at-colon k p (Some j) q h = member-no-value k j p q h
+      at-colon k p None q h = member-no-colon k p q
 
-      at_name : (x : End) → string s i ≡ x → and_then x (λ k. and_then (separator 58 s k) v) ≡ Broken → member v s i ≡ wrong
-      at_name (At k) p h = at-colon k p (separator 58 s k) refl h
-      at_name Broken p h = member-no-name p
+      at_name : (x : Option ℕ) → string s i ≡ x → and_then x (λ k. and_then (separator 58 s k) v) ≡ None → member v s i ≡ wrong
+      at_name (Some k) p h = at-colon k p (separator 58 s k) refl h
+      at_name None p h = member-no-name p
 
 -- ---- a whole text
 module _ (s : List ℕ) where
-  pub text-ends : (e : ℕ) → value 16 s (blanks s 0) ≡ At e → text s ≡ ended s e
+  pub text-ends : (e : ℕ) → value 16 s (blanks s 0) ≡ Some e → text s ≡ ended s e
   unfolding text
   text-ends e h = rw (h, text)
 
-  pub text-broken : value 16 s (blanks s 0) ≡ Broken → text s ≡ false
+  pub text-broken : value 16 s (blanks s 0) ≡ None → text s ≡ false
   unfolding text
   text-broken h = rw (h, text)

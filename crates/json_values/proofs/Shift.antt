@@ -1,5 +1,6 @@
 -- A text that begins k bytes later, in the middle of another: each value of it is the other's, and so are the elements of each array and the members
 -- of each object, k bytes earlier. Assumes nothing.
+use Rattle.std.specs.Prelude.{None, Option, Some, ℕ}
 use Prim.Native.Nat.{ℕ, zero, suc, ◌+◌, ◌≤◌, ◌<◌}
 use mathlib.Core.Path.{◌≡◌, refl, ap, ◌∙◌}
 use mathlib.Core.Bool.{Bool, true, false}
@@ -7,7 +8,7 @@ use mathlib.Core.List.{List, ◌∷◌, map}
 use native.Mathlib.Omega.{arith}
 use lib.Dec.{eqb}
 use lib.ListN.{length, drop, length-drop}
-use Rattle.json_tokens.specs.Tokens.{End, At, Broken, blanks, closing, separator}
+use Rattle.json_tokens.specs.Tokens.{blanks, closing, separator}
 use Rattle.json_tokens.proofs.Bounds.{bounds, blanks-in, separator-in}
 use Rattle.json_tokens.proofs.Shift.{shifted, Shifts, both, neither, shifts-is, shifts-if, past_one, byte-shift, blanks-shift, closing-shift, separator-shift, string-shift, scalar-shift}
 use Rattle.json_values.specs.Json.{Span, Pair, Next, item, ends, wrong, Items, items, no_items, next, prepended, onward, list, list_of, items_end, element, member, elements, members, value}
@@ -36,7 +37,7 @@ items-end (both-items p q) = both q
 items-end no-items = neither
 
 -- ---- lists of items: `other` finds in the later text what `one` finds in the whole, and tells where it ends
-module _ {A : Type 0} (k : ℕ) (s : List ℕ) (move : A → A) (one other : ℕ → Next A) (close : ℕ) {end : ℕ → End} (t : Tells other (drop k s) end)
+module _ {A : Type 0} (k : ℕ) (s : List ℕ) (move : A → A) (one other : ℕ → Next A) (close : ℕ) {end : ℕ → Option ℕ} (t : Tells other (drop k s) end)
     (same : (i : ℕ) → NextShifts k move (one (k + i)) (other i)) where
   abbrev u : List ℕ
   u = drop k s
@@ -44,49 +45,49 @@ module _ {A : Type 0} (k : ℕ) (s : List ℕ) (move : A → A) (one other : ℕ
   other-in : (i : ℕ) (a : A) (e : ℕ) → other i ≡ item a e → (i < e) × (e ≤ length u)
   other-in i a e h = go (end i) refl
     where
-      go : (x : End) → end i ≡ x → (i < e) × (e ≤ length u)
-      go (At f) q =
+      go : (x : Option ℕ) → end i ≡ x → (i < e) × (e ≤ length u)
+      go (Some f) q =
           let p = t.is-item i f q in
           let g = p.1 in
           let z : e ≡ f = cc in
           let b = bounds f (t.inside i) q in
           (omega arith, omega arith)
-      go Broken q = let g = t.is-wrong i q in let z : ◌≡◌ {A = ℕ} 0 1 = cc in absurd (omega arith)
+      go None q = let g = t.is-wrong i q in let z : ◌≡◌ {A = ℕ} 0 1 = cc in absurd (omega arith)
 
   next-in : (first : Bool) (i : ℕ) (a : A) (e : ℕ) → next other close u first i ≡ item a e → (i < e) × (e ≤ length u)
   unfolding next
   next-in true i a e h = go (closing close u i) h
     where
-      go : (x : End) → ◌≡◌ {A = Next A} (elim x [ At e ↦ ends e | Broken ↦ other (blanks u i) ]) (item a e) → (i < e) × (e ≤ length u)
-      go (At f) h = let z : ◌≡◌ {A = ℕ} 0 1 = cc in absurd (omega arith)
-      go Broken h = let b = other-in (blanks u i) a e h in let l = blanks-in u i in (omega arith, b.1)
+      go : (x : Option ℕ) → ◌≡◌ {A = Next A} (elim x [ Some e ↦ ends e | None ↦ other (blanks u i) ]) (item a e) → (i < e) × (e ≤ length u)
+      go (Some f) h = let z : ◌≡◌ {A = ℕ} 0 1 = cc in absurd (omega arith)
+      go None h = let b = other-in (blanks u i) a e h in let l = blanks-in u i in (omega arith, b.1)
   next-in false i a e h = go (separator 44 u i) refl h
     where
-      none : (y : End) → ◌≡◌ {A = Next A} (elim y [ At e ↦ ends e | Broken ↦ wrong ]) (item a e) → (i < e) × (e ≤ length u)
-      none (At f) h = let z : ◌≡◌ {A = ℕ} 0 1 = cc in absurd (omega arith)
-      none Broken h = let z : ◌≡◌ {A = ℕ} 0 1 = cc in absurd (omega arith)
+      none : (y : Option ℕ) → ◌≡◌ {A = Next A} (elim y [ Some e ↦ ends e | None ↦ wrong ]) (item a e) → (i < e) × (e ≤ length u)
+      none (Some f) h = let z : ◌≡◌ {A = ℕ} 0 1 = cc in absurd (omega arith)
+      none None h = let z : ◌≡◌ {A = ℕ} 0 1 = cc in absurd (omega arith)
 
-      go : (x : End) → separator 44 u i ≡ x
-          → ◌≡◌ {A = Next A} (elim x [ At j ↦ other j | Broken ↦ elim (closing close u i) [ At e ↦ ends e | Broken ↦ wrong ] ]) (item a e) → (i < e) × (e ≤ length u)
-      go (At j) q h = let b = other-in j a e h in let l = bounds j (separator-in u 44 i (omega arith)) q in (omega arith, b.1)
-      go Broken q h = none (closing close u i) h
+      go : (x : Option ℕ) → separator 44 u i ≡ x
+          → ◌≡◌ {A = Next A} (elim x [ Some j ↦ other j | None ↦ elim (closing close u i) [ Some e ↦ ends e | None ↦ wrong ] ]) (item a e) → (i < e) × (e ≤ length u)
+      go (Some j) q h = let b = other-in j a e h in let l = bounds j (separator-in u 44 i (omega arith)) q in (omega arith, b.1)
+      go None q h = none (closing close u i) h
 
   next-shift : (first : Bool) (i : ℕ) → NextShifts k move (next one close s first (k + i)) (next other close u first i)
   unfolding next
   next-shift true i = go (closing-shift k s close i)
     where
-      go : {x y : End} → Shifts k x y → NextShifts {A = A} k move (elim x [ At e ↦ ends e | Broken ↦ one (blanks s (k + i)) ]) (elim y [ At e ↦ ends e | Broken ↦ other (blanks u i) ])
+      go : {x y : Option ℕ} → Shifts k x y → NextShifts {A = A} k move (elim x [ Some e ↦ ends e | None ↦ one (blanks s (k + i)) ]) (elim y [ Some e ↦ ends e | None ↦ other (blanks u i) ])
       go (both h) = both_end h
       go neither = rw (blanks-shift k s i) (same (blanks u i))
   next-shift false i = go (separator-shift k s 44 i)
     where
-      none : {x y : End} → Shifts k x y → NextShifts {A = A} k move (elim x [ At e ↦ ends e | Broken ↦ wrong ]) (elim y [ At e ↦ ends e | Broken ↦ wrong ])
+      none : {x y : Option ℕ} → Shifts k x y → NextShifts {A = A} k move (elim x [ Some e ↦ ends e | None ↦ wrong ]) (elim y [ Some e ↦ ends e | None ↦ wrong ])
       none (both h) = both_end h
       none neither = both-wrong
 
-      go : {x y : End} → Shifts k x y → NextShifts {A = A} k move
-          (elim x [ At j ↦ one j | Broken ↦ elim (closing close s (k + i)) [ At e ↦ ends e | Broken ↦ wrong ] ])
-          (elim y [ At j ↦ other j | Broken ↦ elim (closing close u i) [ At e ↦ ends e | Broken ↦ wrong ] ])
+      go : {x y : Option ℕ} → Shifts k x y → NextShifts {A = A} k move
+          (elim x [ Some j ↦ one j | None ↦ elim (closing close s (k + i)) [ Some e ↦ ends e | None ↦ wrong ] ])
+          (elim y [ Some j ↦ other j | None ↦ elim (closing close u i) [ Some e ↦ ends e | None ↦ wrong ] ])
       go (both {x} {e} h) = rw h (same e)
       go neither = none (closing-shift k s close i)
 
@@ -129,21 +130,21 @@ unfolding shifted_pair shifted_span
 pair-shift k i n j e f g h = rw (f, g, h)
 
 -- the same, by where its value, its colon and its name end
-abbrev at-end : ℕ → ℕ → ℕ → End → Next Pair
-at-end i n j x = elim x [ At e ↦ item (pair_at i n j e) e | Broken ↦ wrong ]
+abbrev at-end : ℕ → ℕ → ℕ → Option ℕ → Next Pair
+at-end i n j x = elim x [ Some e ↦ item (pair_at i n j e) e | None ↦ wrong ]
 
-abbrev past-colon : (ℕ → End) → ℕ → ℕ → End → Next Pair
-past-colon v i n x = elim x [ At j ↦ at-end i n j (v j) | Broken ↦ wrong ]
+abbrev past-colon : (ℕ → Option ℕ) → ℕ → ℕ → Option ℕ → Next Pair
+past-colon v i n x = elim x [ Some j ↦ at-end i n j (v j) | None ↦ wrong ]
 
-abbrev past-name : (ℕ → End) → List ℕ → ℕ → End → Next Pair
-past-name v s i x = elim x [ At n ↦ past-colon v i n (separator 58 s n) | Broken ↦ wrong ]
+abbrev past-name : (ℕ → Option ℕ) → List ℕ → ℕ → Option ℕ → Next Pair
+past-name v s i x = elim x [ Some n ↦ past-colon v i n (separator 58 s n) | None ↦ wrong ]
 
-module _ (k : ℕ) (s : List ℕ) (v w : ℕ → End) (same : (i : ℕ) → Shifts k (v (k + i)) (w i)) where
+module _ (k : ℕ) (s : List ℕ) (v w : ℕ → Option ℕ) (same : (i : ℕ) → Shifts k (v (k + i)) (w i)) where
   element-shift : (i : ℕ) → NextShifts k (shifted_span k) (element v (k + i)) (element w i)
   unfolding element shifted_span
   element-shift i = go (same i)
     where
-      go : {x y : End} → Shifts k x y → NextShifts k (shifted_span k) (elim x [ At e ↦ item (record { from = k + i; to = e }) e | Broken ↦ wrong ]) (elim y [ At e ↦ item (record { from = i; to = e }) e | Broken ↦ wrong ])
+      go : {x y : Option ℕ} → Shifts k x y → NextShifts k (shifted_span k) (elim x [ Some e ↦ item (record { from = k + i; to = e }) e | None ↦ wrong ]) (elim y [ Some e ↦ item (record { from = i; to = e }) e | None ↦ wrong ])
       go (both h) = both-item (ap (λ (e : ℕ). record { from = k + i; to = e }) h) h
       go neither = both-wrong
 
@@ -151,15 +152,15 @@ module _ (k : ℕ) (s : List ℕ) (v w : ℕ → End) (same : (i : ℕ) → Shif
   unfolding member shifted_pair shifted_span
   member-shift i = at_name (string-shift k s i)
     where
-      at_value : {x y : End} (o p n j : ℕ) → o ≡ k + n → p ≡ k + j → Shifts k x y → NextShifts k (shifted_pair k) (at-end (k + i) o p x) (at-end i n j y)
+      at_value : {x y : Option ℕ} (o p n j : ℕ) → o ≡ k + n → p ≡ k + j → Shifts k x y → NextShifts k (shifted_pair k) (at-end (k + i) o p x) (at-end i n j y)
       at_value o p n j f g (both {x} {e} h) = both-item (pair-shift k i n j e f g h) h
       at_value o p n j f g neither = both-wrong
 
-      at-colon : {x y : End} (o n : ℕ) → o ≡ k + n → Shifts k x y → NextShifts k (shifted_pair k) (past-colon v (k + i) o x) (past-colon w i n y)
+      at-colon : {x y : Option ℕ} (o n : ℕ) → o ≡ k + n → Shifts k x y → NextShifts k (shifted_pair k) (past-colon v (k + i) o x) (past-colon w i n y)
       at-colon o n f (both {x} {e} h) = let q : Shifts k (v x) (w e) = rw h (same e) in at_value o x n e f h q
       at-colon o n f neither = both-wrong
 
-      at_name : {x y : End} → Shifts k x y → NextShifts k (shifted_pair k) (past-name v s (k + i) x) (past-name w (drop k s) i y)
+      at_name : {x y : Option ℕ} → Shifts k x y → NextShifts k (shifted_pair k) (past-name v s (k + i) x) (past-name w (drop k s) i y)
       at_name (both {x} {e} h) = let q : Shifts k (separator 58 s x) (separator 58 (drop k s) e) = rw h (separator-shift k s 58 e) in at-colon x e h q
       at_name neither = both-wrong
 

@@ -1,14 +1,14 @@
 -- The laws of the definitions, as statements; `proofs/Claims` and `proofs/Names` prove each under its own name.
-use Rattle.std.specs.Prelude.{ℕ, ◌≤◌, ◌<◌, ◌≡◌, List, [], ◌∷◌, Bool, true, false, ◌||◌, length, eqb}
+use Rattle.std.specs.Prelude.{ℕ, ◌≤◌, ◌<◌, ◌≡◌, List, [], ◌∷◌, Bool, true, false, ◌||◌, length, eqb, Some}
 use Rattle.text.specs.Text.{colon}
-use Rattle.json_tokens.specs.Tokens.{At, blanks, separator, string}
+use Rattle.json_tokens.specs.Tokens.{blanks, separator, string}
 use Rattle.json_values.specs.Json.{Span, Pair, items, elements, members, value, max_depth, text}
 use Rattle.json_tokens.specs.Bytes.{backslash}
 use Rattle.json_values.specs.Names.{meaning, means}
 
 -- A value is not empty and ends within the text.
 abbrev pub EndsWithin : Type 0
-EndsWithin = (d : ℕ) (s : List ℕ) (i e : ℕ) → value d s i ≡ At e → (i < e) × (e ≤ length s)
+EndsWithin = (d : ℕ) (s : List ℕ) (i e : ℕ) → value d s i ≡ Some e → (i < e) × (e ≤ length s)
 
 -- the items lie one after another from lo on, and the list ends past them, at hi. `is a from to`: the item a lies there
 pub data InOrder {A : Type 0} (is : A → ℕ → ℕ → Type 0) (hi : ℕ) : ℕ → List A → Type 0 where
@@ -19,15 +19,15 @@ pub data InOrder {A : Type 0} (is : A → ℕ → ℕ → Type 0) (hi : ℕ) : �
 pub record IsElement (d : ℕ) (s : List ℕ) (a : Span) (from to : ℕ) : Type 0 where
   pub begins : a.from ≡ from
   pub finishes : a.to ≡ to
-  pub a_value : value d s a.from ≡ At a.to
+  pub a_value : value d s a.from ≡ Some a.to
 
 -- a member is a string, a colon and a value
 pub record IsMember (d : ℕ) (s : List ℕ) (m : Pair) (from to : ℕ) : Type 0 where
   pub begins : m.name.from ≡ from
   pub finishes : m.value.to ≡ to
-  pub a_string : string s m.name.from ≡ At m.name.to
-  pub a_colon : separator colon s m.name.to ≡ At m.value.from
-  pub a_value : value d s m.value.from ≡ At m.value.to
+  pub a_string : string s m.name.from ≡ Some m.name.to
+  pub a_colon : separator colon s m.name.to ≡ Some m.value.from
+  pub a_value : value d s m.value.from ≡ Some m.value.to
 
 -- The elements of an array are values, in written order, and lie inside the array, which lies inside the text.
 abbrev pub ElementsInOrder : Type 0
@@ -41,7 +41,7 @@ MembersInOrder = (d : ℕ) (s : List ℕ) (i : ℕ) (l : List Pair) (e : ℕ) �
 
 -- one reading of a text: its value ends at e, and only blanks follow
 pub record Reading (s : List ℕ) (e : ℕ) : Type 0 where
-  pub a_value : value max_depth s (blanks s 0) ≡ At e
+  pub a_value : value max_depth s (blanks s 0) ≡ Some e
   pub then_blanks : blanks s e ≡ length s
 
 -- A text is JSON exactly when it has a reading, and then it has only one.

@@ -1,10 +1,10 @@
 -- JSON, RFC 8259, over its tokens: where a value ends, what elements an array has and what members an object has, and which texts are JSON.
 -- The RFC's own productions stand above each definition.
 -- Assumes nothing: these are definitions.
-use Rattle.std.specs.Prelude.{ℕ, zero, suc, ◌+◌, List, [], ◌∷◌, Bool, true, false, length, eqb}
+use Rattle.std.specs.Prelude.{ℕ, zero, suc, ◌+◌, List, [], ◌∷◌, Bool, true, false, length, eqb, None, Option, Some}
 use Rattle.text.specs.Text.{byte_at, colon}
 use Rattle.json_tokens.specs.Bytes.{comma, open_array, close_array, open_object, close_object}
-use Rattle.json_tokens.specs.Tokens.{End, At, Broken, blanks, closing, separator, string, scalar, ended}
+use Rattle.json_tokens.specs.Tokens.{blanks, closing, separator, string, scalar, ended}
 
 -- a part of the text: its first position, and the position past it
 pub record Span : Type 0 where
@@ -31,8 +31,8 @@ pub data Items (A : Type 0) : Type 0 where
 -- What is found at i, where `one` says which item begins at a position. At first, past the opening bracket, that is the closing bracket or an
 -- item; later, past an item, it is a comma and an item, or the closing bracket.
 unfoldable pub next : {A : Type 0} → (ℕ → Next A) → ℕ → List ℕ → Bool → ℕ → Next A
-next one close s true i = elim (closing close s i) [ At e ↦ ends e | Broken ↦ one (blanks s i) ]
-next one close s false i = elim (separator comma s i) [ At j ↦ one j | Broken ↦ elim (closing close s i) [ At e ↦ ends e | Broken ↦ wrong ] ]
+next one close s true i = elim (closing close s i) [ Some e ↦ ends e | None ↦ one (blanks s i) ]
+next one close s false i = elim (separator comma s i) [ Some j ↦ one j | None ↦ elim (closing close s i) [ Some e ↦ ends e | None ↦ wrong ] ]
 
 unfoldable pub prepended : {A : Type 0} → A → Items A → Items A
 prepended a (items l e) = items (a ∷ l) e
@@ -53,38 +53,38 @@ list one close s (suc n) first i = onward (λ e. list one close s n false e) (ne
 unfoldable pub list_of : {A : Type 0} → (ℕ → Next A) → ℕ → List ℕ → ℕ → Items A
 list_of one close s i = list one close s (suc (length s)) true i
 
-unfoldable pub items_end : {A : Type 0} → Items A → End
-items_end (items l e) = At e
-items_end no_items = Broken
+unfoldable pub items_end : {A : Type 0} → Items A → Option ℕ
+items_end (items l e) = Some e
+items_end no_items = None
 
 -- ---- arrays and objects; `value` says where the value at a position ends
-unfoldable pub element : (ℕ → End) → ℕ → Next Span
-element value i = elim (value i) [ At e ↦ item (record { from = i; to = e }) e | Broken ↦ wrong ]
+unfoldable pub element : (ℕ → Option ℕ) → ℕ → Next Span
+element value i = elim (value i) [ Some e ↦ item (record { from = i; to = e }) e | None ↦ wrong ]
 
 -- member = string name-separator value
-unfoldable pub member : (ℕ → End) → List ℕ → ℕ → Next Pair
+unfoldable pub member : (ℕ → Option ℕ) → List ℕ → ℕ → Next Pair
 member value s i =
     elim (string s i) [
-      | At k ↦ elim (separator colon s k) [
-        | At v ↦ elim (value v) [
-          | At e ↦ item (record { name = record { from = i; to = k }; value = record { from = v; to = e } }) e
-          | Broken ↦ wrong
+      | Some k ↦ elim (separator colon s k) [
+        | Some v ↦ elim (value v) [
+          | Some e ↦ item (record { name = record { from = i; to = k }; value = record { from = v; to = e } }) e
+          | None ↦ wrong
         ]
-        | Broken ↦ wrong
+        | None ↦ wrong
       ]
-      | Broken ↦ wrong
+      | None ↦ wrong
     ]
 
 -- array = begin-array [ value *( value-separator value ) ] end-array, from past the bracket
-unfoldable pub elements : (ℕ → End) → List ℕ → ℕ → Items Span
+unfoldable pub elements : (ℕ → Option ℕ) → List ℕ → ℕ → Items Span
 elements value s i = list_of (element value) close_array s i
 
 -- object = begin-object [ member *( value-separator member ) ] end-object, from past the brace
-unfoldable pub members : (ℕ → End) → List ℕ → ℕ → Items Pair
+unfoldable pub members : (ℕ → Option ℕ) → List ℕ → ℕ → Items Pair
 members value s i = list_of (member value s) close_object s i
 
 -- ---- value = false / null / true / object / array / number / string; d is how deep arrays and objects may still nest
-unfoldable pub value : ℕ → List ℕ → ℕ → End
+unfoldable pub value : ℕ → List ℕ → ℕ → Option ℕ
 value zero s i = scalar s i
 value (suc d) s i =
     elim (eqb (byte_at s i) open_array) [
@@ -98,4 +98,4 @@ max_depth = 16
 
 -- JSON-text = ws value ws, and nothing more
 unfoldable pub text : List ℕ → Bool
-text s = elim (value max_depth s (blanks s 0)) [ At e ↦ ended s e | Broken ↦ false ]
+text s = elim (value max_depth s (blanks s 0)) [ Some e ↦ ended s e | None ↦ false ]

@@ -1,10 +1,10 @@
 -- The outline of a layout is made of what is told of its entries.
 -- Assumes nothing.
+use Rattle.std.specs.Prelude.{None, Option, Some}
 use mathlib.Core.Path.{◌≡◌, refl, sym, ap, ◌∙◌}
 use mathlib.Core.List.{List}
 use mathlib.Core.Bool.{Bool, true, false, cond, true≢false}
 use Prim.Native.Nat.{ℕ}
-use Rattle.decimal.specs.Digits.{Reading, reads, refused}
 use Rattle.entries.specs.Places.{and_then}
 use Rattle.entries.specs.Rows.{Entry}
 use Rattle.entries.specs.Tally.{tally_of, Tells}
@@ -36,34 +36,34 @@ follows-none kind t sent sum number = at t.well_formed
     at true = refl
     at false = refl
 
-pub outline-of : (s : List ℕ) (kind : Kind) (p : Printed) (n : ℕ) (x : Reading (List Entry)) (t : Tally) → Tells s x t
+pub outline-of : (s : List ℕ) (kind : Kind) (p : Printed) (n : ℕ) (x : Option (List Entry)) (t : Tally) → Tells s x t
     → outline_from kind t (is_printed p) (sum_of p) n ≡ outline_of s (laid kind p n x)
 unfolding laid and_then outline_of
-outline-of s kind p n (reads es) t h =
+outline-of s kind p n (Some es) t h =
     ap (λ (u : Tally). outline_from kind u (is_printed p) (sum_of p) n) (h.all es refl) ∙ follows-none kind (tally_of s es) (is_printed p) (sum_of p) n
-outline-of s kind p n refused t h = sym (outline-none kind t (is_printed p) (sum_of p) n (h.none refl))
+outline-of s kind p n None t h = sym (outline-none kind t (is_printed p) (sum_of p) n (h.none refl))
 
 -- the outline of a layout, whose entries are entries
 module _ (s : List ℕ) (l : Layout) where
   abbrev pub outline_as : Outline
   outline_as = following l.previous (whole l.kind (tally_of s l.entries) (is_printed l.checksum) (sum_of l.checksum) l.number (bad_at l.kind (tally_of s l.entries)))
 
-  pub outline-is : outline_of s (reads l) ≡ outline_as
+  pub outline-is : outline_of s (Some l) ≡ outline_as
   unfolding outline_of
   outline-is =
       ap (following l.previous) (sym (outline-formed l.kind (tally_of s l.entries) (is_printed l.checksum) (sum_of l.checksum) l.number (tally-formed s l.entries) (bad_at l.kind (tally_of s l.entries)) refl))
 
-  pub outline-reads : (outline_of s (reads l)).well_formed ≡ true
+  pub outline-reads : (outline_of s (Some l)).well_formed ≡ true
   outline-reads = ap (λ (o : Outline). o.well_formed) outline-is
 
-  pub outline-kind : (outline_of s (reads l)).kind ≡ l.kind
+  pub outline-kind : (outline_of s (Some l)).kind ≡ l.kind
   outline-kind = ap (λ (o : Outline). o.kind) outline-is
 
 -- the entries of a layout that is laid are those that were read
-pub laid-entries : (kind : Kind) (p : Printed) (n : ℕ) (x : Reading (List Entry)) (l : Layout) → laid kind p n x ≡ reads l → x ≡ reads l.entries
+pub laid-entries : (kind : Kind) (p : Printed) (n : ℕ) (x : Option (List Entry)) (l : Layout) → laid kind p n x ≡ Some l → x ≡ Some l.entries
 unfolding laid and_then
-laid-entries kind p n (reads es) l h = ap (λ (y : Reading Layout). elim y [ reads k ↦ reads k.entries | refused ↦ refused ]) h
-laid-entries kind p n refused l h = absurd (true≢false (sym (ap (λ (y : Reading Layout). elim y [ reads k ↦ true | refused ↦ false ]) h)))
+laid-entries kind p n (Some es) l h = ap (λ (y : Option Layout). elim y [ Some k ↦ Some k.entries | None ↦ None ]) h
+laid-entries kind p n None l h = absurd (true≢false (sym (ap (λ (y : Option Layout). elim y [ Some k ↦ true | None ↦ false ]) h)))
 
 -- where the first bad entry begins, by the kind
 pub bad-snapshot : (kind : Kind) (t : Tally) → is_snapshot kind ≡ true → t.strict_at ≡ bad_at kind t

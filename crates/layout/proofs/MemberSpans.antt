@@ -1,5 +1,6 @@
 -- Marks hold what the values of a name are, as far as it is asked.
 -- Assumes nothing.
+use Rattle.std.specs.Prelude.{None, Option, Some}
 use mathlib.Core.Path.{◌≡◌, refl, sym, ap, ◌∙◌}
 use mathlib.Core.List.{List, [], ◌∷◌}
 use mathlib.Core.Bool.{Bool, true, false, cond}
@@ -8,7 +9,6 @@ use native.Mathlib.Omega.{arith}
 use borrow.Author.Tests.{eq-eqb, ne_eqb, eqb-true, eqb-false}
 use lib.Dec.{eqb}
 use lib.ListN.{length}
-use Rattle.decimal.specs.Digits.{Reading, reads, refused}
 use Rattle.json_values.specs.Json.{Span, Pair}
 use Rattle.json_values.specs.Names.{means}
 use Rattle.entries.specs.Places.{and_then, values_of, only}
@@ -84,7 +84,7 @@ few-many (suc (suc n)) h = refl
 
 -- ---- the only value of a list
 
-pub only-once : (l : List Span) → (member_span_of l).times ≡ 1 → only l ≡ reads (record { from = (member_span_of l).from; to = (member_span_of l).to })
+pub only-once : (l : List Span) → (member_span_of l).times ≡ 1 → only l ≡ Some (record { from = (member_span_of l).from; to = (member_span_of l).to })
 unfolding only fold_from with_member_span few_more
 only-once [] h = absurd (omega arith)
 only-once (a ∷ []) h = refl
@@ -93,7 +93,7 @@ only-once (a ∷ (b ∷ l)) h =
     let n = few-once (suc (suc (length l))) (sym t ∙ h) in
     absurd (omega arith)
 
-pub only-other : (l : List Span) → ((member_span_of l).times ≡ 1 → ⊥) → only l ≡ refused
+pub only-other : (l : List Span) → ((member_span_of l).times ≡ 1 → ⊥) → only l ≡ None
 unfolding only fold_from with_member_span few_more
 only-other [] h = refl
 only-other (a ∷ []) h = absurd (h refl)
@@ -138,20 +138,20 @@ abbrev pub place_of : MemberSpan → Span
 place_of m = record { from = m.from; to = m.to }
 
 module _ (m : MemberSpan) where
-  pub once-yes : m.times ≡ 1 → once_at m ≡ reads (place_of m)
+  pub once-yes : m.times ≡ 1 → once_at m ≡ Some (place_of m)
   unfolding once_at
   once-yes h = rw (eq-eqb m.times 1 h)
 
-  pub once-no : (m.times ≡ 1 → ⊥) → once_at m ≡ refused
+  pub once-no : (m.times ≡ 1 → ⊥) → once_at m ≡ None
   unfolding once_at
   once-no h = rw (ne_eqb m.times 1 h)
 
-  module _ {A : Type 0} (f : Span → Reading A) where
+  module _ {A : Type 0} (f : Span → Option A) where
     pub then-yes : m.times ≡ 1 → and_then (once_at m) f ≡ f (place_of m)
     unfolding and_then
     then-yes h = rw (once-yes h)
 
-    pub then-no : (m.times ≡ 1 → ⊥) → and_then (once_at m) f ≡ refused
+    pub then-no : (m.times ≡ 1 → ⊥) → and_then (once_at m) f ≡ None
     unfolding and_then
     then-no h = rw (once-no h)
 

@@ -1,6 +1,5 @@
 -- What is read of a message, in either dialect. Assumes nothing: these are definitions.
-use Rattle.std.specs.Prelude.{ℕ, Bool, true, false, cond, List, [], ◌∷◌}
-use Rattle.decimal.specs.Digits.{Reading, reads}
+use Rattle.std.specs.Prelude.{ℕ, Bool, true, false, cond, List, [], ◌∷◌, Option, Some}
 use Rattle.edit.specs.declared.Side.TheVariants.{Bids, Asks}
 use Rattle.json_values.specs.Json.{Pair}
 use Rattle.json_values.specs.Names.{means}
@@ -31,18 +30,18 @@ pub record Layout : Type 0 where
 -- A message of the dialect's outer form: whether it is this book's (check 5), and its layout (check 6).
 pub record Envelope : Type 0 where
   pub ours : Bool
-  pub layout : Reading Layout
+  pub layout : Option Layout
 
 -- The entries that a member holds, by its name: the bids' or the asks'. depth is how deep arrays and objects may nest in its value.
-unfoldable pub member_entries : Form → ℕ → List ℕ → List ℕ → List ℕ → Pair → Reading (List Entry)
+unfoldable pub member_entries : Form → ℕ → List ℕ → List ℕ → List ℕ → Pair → Option (List Entry)
 member_entries form depth s bids asks m =
     cond (means s m.name bids) (sided_at Bids form depth s m.value)
-    (cond (means s m.name asks) (sided_at Asks form depth s m.value) (reads []))
+    (cond (means s m.name asks) (sided_at Asks form depth s m.value) (Some []))
 
 -- Those that the members of an object hold, in their order.
-unfoldable pub entries_in : Form → ℕ → List ℕ → List ℕ → List ℕ → List Pair → Reading (List Entry)
-entries_in form depth s bids asks [] = reads []
+unfoldable pub entries_in : Form → ℕ → List ℕ → List ℕ → List ℕ → List Pair → Option (List Entry)
+entries_in form depth s bids asks [] = Some []
 entries_in form depth s bids asks (m ∷ ms) = and_also (member_entries form depth s bids asks m) (entries_in form depth s bids asks ms)
 
-unfoldable pub laid : Kind → Printed → ℕ → Reading (List Entry) → Reading Layout
-laid kind sum number entries = and_then entries (λ es. reads (record { kind = kind; entries = es; checksum = sum; number = number; previous = 0 }))
+unfoldable pub laid : Kind → Printed → ℕ → Option (List Entry) → Option Layout
+laid kind sum number entries = and_then entries (λ es. Some (record { kind = kind; entries = es; checksum = sum; number = number; previous = 0 }))

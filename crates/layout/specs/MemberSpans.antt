@@ -1,7 +1,6 @@
 -- One member of an object more; how often members have one of our names, told up to twice, and where the last of them lies.
 -- Assumes nothing: these are definitions.
-use Rattle.std.specs.Prelude.{ℕ, zero, suc, Bool, cond, List, eqb}
-use Rattle.decimal.specs.Digits.{Reading, reads, refused}
+use Rattle.std.specs.Prelude.{ℕ, zero, suc, Bool, cond, List, eqb, None, Option, Some}
 use Rattle.json_tokens.specs.Ends.{end_of}
 use Rattle.json_values.specs.Json.{Span, Pair, value}
 use Rattle.json_values.specs.Names.{means}
@@ -29,8 +28,8 @@ abbrev pub member_span_of : List Span → MemberSpan
 member_span_of l = fold_from with_member_span no_member_span l
 
 -- The value of a name that was met once.
-unfoldable pub once_at : MemberSpan → Reading Span
-once_at m = cond (eqb m.times 1) (reads (record { from = m.from; to = m.to })) refused
+unfoldable pub once_at : MemberSpan → Option Span
+once_at m = cond (eqb m.times 1) (Some (record { from = m.from; to = m.to })) None
 
 -- ---- one member more
 

@@ -1,7 +1,5 @@
 -- What one walk over a message tells, in numbers. Assumes nothing: these are definitions.
-use Rattle.std.specs.Prelude.{ℕ, Bool, true, false, cond, List, ◌≡◌}
-use Rattle.decimal.specs.Digits.{Reading, reads, refused}
-use Rattle.json_tokens.specs.Tokens.{At, Broken}
+use Rattle.std.specs.Prelude.{ℕ, Bool, true, false, cond, List, ◌≡◌, None, Option, Some}
 use Rattle.json_values.specs.Json.{Span, value, max_depth}
 use Rattle.entries.specs.Tally.{tally_of, Kept}
 use Rattle.entries.specs.declared.Tally.{Tally}
@@ -61,9 +59,9 @@ following n o =
       previous = n;
     }
 
-unfoldable pub outline_of : List ℕ → Reading Layout → Outline
-outline_of s (reads l) = following l.previous (outline_from l.kind (tally_of s l.entries) (is_printed l.checksum) (sum_of l.checksum) l.number)
-outline_of s refused = no_outline
+unfoldable pub outline_of : List ℕ → Option Layout → Outline
+outline_of s (Some l) = following l.previous (outline_from l.kind (tally_of s l.entries) (is_printed l.checksum) (sum_of l.checksum) l.number)
+outline_of s None = no_outline
 
 -- ---- the message
 
@@ -71,16 +69,16 @@ outline_of s refused = no_outline
 abbrev pub not_framed : ℕ → Scan
 not_framed end = record { end = end; framed = false; ours = false; outline = no_outline }
 
-unfoldable pub scan_of : List ℕ → ℕ → Reading Envelope → Scan
-scan_of s end (reads h) = record { end = end; framed = true; ours = h.ours; outline = outline_of s h.layout }
-scan_of s end refused = not_framed end
+unfoldable pub scan_of : List ℕ → ℕ → Option Envelope → Scan
+scan_of s end (Some h) = record { end = end; framed = true; ours = h.ours; outline = outline_of s h.layout }
+scan_of s end None = not_framed end
 
 -- The value at a position as a message; `hear` is K's or M's.
-unfoldable pub scan_at : (List ℕ → Span → Reading Envelope) → List ℕ → ℕ → Scan
-scan_at hear s at = elim (value max_depth s at) [ At e ↦ scan_of s e (hear s (record { from = at; to = e })) | Broken ↦ scan_of s 0 refused ]
+unfoldable pub scan_at : (List ℕ → Span → Option Envelope) → List ℕ → ℕ → Scan
+scan_at hear s at = elim (value max_depth s at) [ Some e ↦ scan_of s e (hear s (record { from = at; to = e })) | None ↦ scan_of s 0 None ]
 
 -- What a walk promises: what it tells, and that the buffer has the numbers of the entries of a message that is this book's and laid out right.
-pub record Scanned (hear : List ℕ → Span → Reading Envelope) (s : List ℕ) (at : ℕ) (buffer : List ℕ) (r : Scan) : Type 0 where
+pub record Scanned (hear : List ℕ → Span → Option Envelope) (s : List ℕ) (at : ℕ) (buffer : List ℕ) (r : Scan) : Type 0 where
   pub told : r ≡ scan_at hear s at
-  pub kept : (e : ℕ) → value max_depth s at ≡ At e → (h : Envelope) → hear s (record { from = at; to = e }) ≡ reads h → h.ours ≡ true
-      → (l : Layout) → h.layout ≡ reads l → Kept s (reads l.entries) buffer
+  pub kept : (e : ℕ) → value max_depth s at ≡ Some e → (h : Envelope) → hear s (record { from = at; to = e }) ≡ Some h → h.ours ≡ true
+      → (l : Layout) → h.layout ≡ Some l → Kept s (Some l.entries) buffer

@@ -1,5 +1,5 @@
 -- How a book stands, in terms of the code. Assumes nothing: these are definitions.
-use Rattle.std.specs.Prelude.{ℕ, ◌≤◌, ◌≡◌, List, Bool, true, false, ◌&&◌, ◌||◌, not, cond, leb, eqb, length}
+use Rattle.std.specs.Prelude.{ℕ, ◌≤◌, ◌≡◌, List, Bool, true, false, ◌&&◌, ◌||◌, not, cond, leb, eqb, length, Some}
 use Rattle.answer.specs.Answers.{leaves_status}
 use Rattle.answer.specs.declared.Answer.{Answer}
 use Rattle.answer.specs.declared.Answer.TheVariants.{Taken, PriceTwice, NoSnapshot, OldNumber, TooManyLevels, Crossed}
@@ -11,7 +11,6 @@ use Rattle.settings.specs.Kept.{config_of}
 use Rattle.settings.specs.declared.Settings.{Settings}
 use Rattle.settings.specs.declared.Dialect.{Dialect}
 use Rattle.settings.specs.declared.Dialect.TheVariants.{K, M, Unknown}
-use Rattle.decimal.specs.Digits.{reads}
 use Rattle.entries.specs.Tally.{Kept}
 use Rattle.layout.specs.Layout.{is_snapshot, Layout}
 use Rattle.layout.specs.declared.Kind.{Kind}
@@ -103,4 +102,4 @@ judged settings now number s =
 -- What `judge` promises: the verdict, and that the buffer has the entries of a message that passes.
 pub record JudgedAs (settings : Settings) (now : Lifecycle) (number : ℕ) (s buffer : List ℕ) (r : Verdict) : Type 0 where
   pub told : r ≡ judged settings now number s
-  pub kept : is_shut (status_of now.state) ≡ false → (l : Layout) → checked (config_of settings) s ≡ passes l → Kept s (reads l.entries) buffer
+  pub kept : is_shut (status_of now.state) ≡ false → (l : Layout) → checked (config_of settings) s ≡ passes l → Kept s (Some l.entries) buffer

@@ -1,4 +1,5 @@
 -- Laws of the settings on line 1, case by case. Assumes nothing.
+use Rattle.std.specs.Prelude.{None, Some}
 use Prim.Native.Nat.{ℕ, suc, ◌+◌, ◌-◌, ◌≤◌, ◌<◌}
 use mathlib.Core.Path.{◌≡◌, refl, sym, ap, ap₂, ◌∙◌}
 use mathlib.Core.Bool.{cond}
@@ -10,7 +11,6 @@ use lib.Dec.{eqb}
 use lib.ListN.{length, get_or, take, drop, length-drop, drop_of_length-le}
 use lib.Seq.{take_all, drop-drop}
 use Rattle.lines.specs.Lines.{bytes_before}
-use Rattle.decimal.specs.Digits.{reads, refused}
 use Rattle.decimal.specs.Whole.{read_whole}
 use Rattle.settings.specs.Settings.{Config, shut}
 use Rattle.settings.specs.declared.Dialect.{Dialect}
@@ -51,11 +51,11 @@ module _ (line : List ℕ) (at : ℕ) (dialect : Dialect) (e : ℕ) (is : e ≡ 
         (ap (λ (x : List ℕ). with_depth dialect (read_whole (take (bytes_before space rest) rest)) x) (drop-drop (suc (bytes_before space rest)) at line ∙ ap (λ (m : ℕ). drop m line) k)
         ∙ ap (λ (m : ℕ). with_depth dialect (read_whole (take m rest)) (drop (e + 1) line)) n)
 
-    pub bad-depth : refused ≡ read_whole (take (e - at) (drop at line)) → shut ≡ depth_and_name dialect (drop at line)
+    pub bad-depth : None ≡ read_whole (take (e - at) (drop at line)) → shut ≡ depth_and_name dialect (drop at line)
     unfolding with_depth
     bad-depth q = ap (λ x. with_depth dialect x (drop (e + 1) line)) q ∙ sym parted
 
-    pub good-depth : (n : ℕ) → reads n ≡ read_whole (take (e - at) (drop at line)) → Found line (depth_and_name dialect (drop at line)) (record { dialect = dialect; depth = n; name = e + 1 })
+    pub good-depth : (n : ℕ) → Some n ≡ read_whole (take (e - at) (drop at line)) → Found line (depth_and_name dialect (drop at line)) (record { dialect = dialect; depth = n; name = e + 1 })
     unfolding with_depth config_on
     good-depth n q = record { same = ap (λ x. with_depth dialect x (drop (e + 1) line)) q ∙ sym parted; within = omega arith }
 

@@ -1,8 +1,7 @@
 -- Line 1, as document 01 has it under "The line program": dialect, depth (written as a whole number) and name, one blank between.
 -- Assumes nothing: these are definitions.
-use Rattle.std.specs.Prelude.{ℕ, suc, ◌≤◌, ◌≡◌, cond, List, [], ◌∷◌, eqb, ltb, length, take, drop}
+use Rattle.std.specs.Prelude.{ℕ, suc, ◌≤◌, ◌≡◌, cond, List, [], ◌∷◌, eqb, ltb, length, take, drop, None, Option, Some}
 use Rattle.lines.specs.Lines.{bytes_before}
-use Rattle.decimal.specs.Digits.{Reading, reads, refused}
 use Rattle.decimal.specs.Whole.{read_whole}
 use Rattle.settings.specs.Settings.{Config, shut}
 use Rattle.settings.specs.declared.Dialect.{Dialect}
@@ -26,9 +25,9 @@ dialect_of (c ∷ []) = by_letter c
 dialect_of (c ∷ (d ∷ [])) = cond (eqb c 77) (by_edition d) Unknown
 dialect_of (c ∷ (d ∷ (e ∷ w))) = Unknown
 
-unfoldable pub with_depth : Dialect → Reading ℕ → List ℕ → Config
-with_depth dialect (reads depth) name = record { dialect = dialect; depth = depth; name = name }
-with_depth dialect refused name = shut
+unfoldable pub with_depth : Dialect → Option ℕ → List ℕ → Config
+with_depth dialect (Some depth) name = record { dialect = dialect; depth = depth; name = name }
+with_depth dialect None name = shut
 
 -- What follows the dialect and a blank: the depth, a blank, and the name, which goes on to the line's end.
 unfoldable pub depth_and_name : Dialect → List ℕ → Config

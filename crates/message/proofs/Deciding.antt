@@ -1,5 +1,6 @@
 -- The checks by what one walk over a message tells are the checks of the message.
 -- Assumes nothing.
+use Rattle.std.specs.Prelude.{None, Option, Some, ℕ}
 use mathlib.Core.Path.{◌≡◌, refl, sym, ap, ap₂, ◌∙◌}
 use mathlib.Core.List.{List, [], ◌∷◌}
 use mathlib.Core.Bool.{Bool, true, false, ◌||◌, cond}
@@ -8,8 +9,7 @@ use native.Mathlib.Omega.{arith}
 use borrow.Author.Tests.{eq-eqb, ne_eqb}
 use lib.Dec.{ltb}
 use lib.ListN.{length}
-use Rattle.decimal.specs.Digits.{Reading, reads, refused}
-use Rattle.json_tokens.specs.Tokens.{End, At, Broken, blanks, ended}
+use Rattle.json_tokens.specs.Tokens.{blanks, ended}
 use Rattle.json_tokens.proofs.Bounds.{bounds}
 use Rattle.json_values.specs.Json.{Span, value, text}
 use Rattle.json_values.proofs.Bounds.{value_in}
@@ -85,25 +85,25 @@ module _ (s : List ℕ) (l : Layout) where
   abbrev t : Tally
   t = tally_of s l.entries
 
-  pub outline-bids : (outline_of s (reads l)).bids ≡ length (entries_for Bids l)
+  pub outline-bids : (outline_of s (Some l)).bids ≡ length (entries_for Bids l)
   outline-bids = ap (λ (o : Outline). o.bids) (outline-is s l) ∙ tally-bids s l.entries
 
-  pub outline-asks : (outline_of s (reads l)).asks ≡ length (entries_for Asks l)
+  pub outline-asks : (outline_of s (Some l)).asks ≡ length (entries_for Asks l)
   outline-asks = ap (λ (o : Outline). o.asks) (outline-is s l) ∙ tally-asks s l.entries
 
-  pub outline-printed : (outline_of s (reads l)).printed ≡ is_printed l.checksum
+  pub outline-printed : (outline_of s (Some l)).printed ≡ is_printed l.checksum
   outline-printed = ap (λ (o : Outline). o.printed) (outline-is s l)
 
-  pub outline-checksum : (outline_of s (reads l)).checksum ≡ sum_of l.checksum
+  pub outline-checksum : (outline_of s (Some l)).checksum ≡ sum_of l.checksum
   outline-checksum = ap (λ (o : Outline). o.checksum) (outline-is s l)
 
-  pub outline-number : (outline_of s (reads l)).number ≡ l.number
+  pub outline-number : (outline_of s (Some l)).number ≡ l.number
   outline-number = ap (λ (o : Outline). o.number) (outline-is s l)
 
-  pub outline-previous : (outline_of s (reads l)).previous ≡ l.previous
+  pub outline-previous : (outline_of s (Some l)).previous ≡ l.previous
   outline-previous = ap (λ (o : Outline). o.previous) (outline-is s l)
 
-  pub outline-bad : (outline_of s (reads l)).bad_at ≡ bad_at (is_snapshot l.kind) t
+  pub outline-bad : (outline_of s (Some l)).bad_at ≡ bad_at (is_snapshot l.kind) t
   unfolding layout_bad
   outline-bad = ap (λ (o : Outline). o.bad_at) (outline-is s l) ∙ go (is_snapshot l.kind)
     where
@@ -119,48 +119,48 @@ few-entries most o b a h p q =
     ap (λ (x : Bool). cond x (cond (ltb most o.bids || ltb most o.asks) (Fails TooManyEntries) (Passes o)) (Fails BadLayout)) h
     ∙ ap₂ (λ (x y : ℕ). cond (ltb most x || ltb most y) (Fails TooManyEntries) (Passes o)) p q
 
-refused-laid : (most : ℕ) (s : List ℕ) → laid_outline most (outline_of s refused) ≡ verdict_of s (laid_out most refused)
+refused-laid : (most : ℕ) (s : List ℕ) → laid_outline most (outline_of s None) ≡ verdict_of s (laid_out most None)
 unfolding laid_outline outline_of laid_out verdict_of
 refused-laid most s = refl
 
-laid-is : (most : ℕ) (s : List ℕ) (l : Reading Layout) → laid_outline most (outline_of s l) ≡ verdict_of s (laid_out most l)
+laid-is : (most : ℕ) (s : List ℕ) (l : Option Layout) → laid_outline most (outline_of s l) ≡ verdict_of s (laid_out most l)
 unfolding laid_out counted too_many verdict_of
-laid-is most s (reads l) =
-    few-entries most (outline_of s (reads l)) (length (entries_for Bids l)) (length (entries_for Asks l)) (outline-reads s l) (outline-bids s l) (outline-asks s l)
+laid-is most s (Some l) =
+    few-entries most (outline_of s (Some l)) (length (entries_for Bids l)) (length (entries_for Asks l)) (outline-reads s l) (outline-bids s l) (outline-asks s l)
     ∙ at (ltb most (length (entries_for Bids l)) || ltb most (length (entries_for Asks l)))
   where
-    at : (b : Bool) → cond b (Fails TooManyEntries) (Passes (outline_of s (reads l))) ≡ verdict_of s (cond b (fails TooManyEntries) (passes l))
+    at : (b : Bool) → cond b (Fails TooManyEntries) (Passes (outline_of s (Some l))) ≡ verdict_of s (cond b (fails TooManyEntries) (passes l))
     at true = refl
     at false = refl
-laid-is most s refused = refused-laid most s
+laid-is most s None = refused-laid most s
 
-address_is : (most : ℕ) (s : List ℕ) (e : ℕ) (h : Reading Envelope) → addressed_scan most (scan_of s e h) ≡ verdict_of s (addressed most h)
+address_is : (most : ℕ) (s : List ℕ) (e : ℕ) (h : Option Envelope) → addressed_scan most (scan_of s e h) ≡ verdict_of s (addressed most h)
 unfolding addressed_scan scan_of addressed verdict_of
-address_is most s e (reads h) = at h.ours (laid-is most s h.layout)
+address_is most s e (Some h) = at h.ours (laid-is most s h.layout)
   where
     at : (y : Bool) → laid_outline most (outline_of s h.layout) ≡ verdict_of s (laid_out most h.layout)
         → cond y (laid_outline most (outline_of s h.layout)) (Fails NotOurs)
         ≡ verdict_of s (cond y (laid_out most h.layout) (fails NotOurs))
     at true k = k
     at false k = refl
-address_is most s e refused = refl
+address_is most s e None = refl
 
-told-end : (s : List ℕ) (e : ℕ) (h : Reading Envelope) → (scan_of s e h).end ≡ e
+told-end : (s : List ℕ) (e : ℕ) (h : Option Envelope) → (scan_of s e h).end ≡ e
 unfolding scan_of
-told-end s e (reads h) = refl
-told-end s e refused = refl
+told-end s e (Some h) = refl
+told-end s e None = refl
 
 -- a value that ends at e, past which nothing stands, or something
-over : (most : ℕ) (s : List ℕ) (e : ℕ) (h : Reading Envelope) → (e ≡ 0 → ⊥) → (b : Bool) → decided most (scan_of s e h) b ≡ verdict_of s (cond b (addressed most h) (fails NotJson))
+over : (most : ℕ) (s : List ℕ) (e : ℕ) (h : Option Envelope) → (e ≡ 0 → ⊥) → (b : Bool) → decided most (scan_of s e h) b ≡ verdict_of s (cond b (addressed most h) (fails NotJson))
 unfolding verdict_of
 over most s e h n true = sym (decided-ended most (scan_of s e h) (λ z. n (sym (told-end s e h) ∙ z)) true refl) ∙ address_is most s e h
 over most s e h n false = sym (decided-more most (scan_of s e h) (λ z. n (sym (told-end s e h) ∙ z)) false refl)
 
-module _ (most : ℕ) (hear : List ℕ → Span → Reading Envelope) (s : List ℕ) where
+module _ (most : ℕ) (hear : List ℕ → Span → Option Envelope) (s : List ℕ) where
   abbrev here : Scan
   here = scan_at hear s (blanks s 0)
 
-  module _ (e : ℕ) (v : value 16 s (blanks s 0) ≡ At e) where
+  module _ (e : ℕ) (v : value 16 s (blanks s 0) ≡ Some e) where
     told_at : here ≡ scan_of s e (hear s (record { from = blanks s 0; to = e }))
     unfolding scan_at
     told_at = rw (v, scan_at)
@@ -181,7 +181,7 @@ module _ (most : ℕ) (hear : List ℕ → Span → Reading Envelope) (s : List 
         let d = told-end s e (hear s a) in
         rw (told_at, text_at, top-at, d) (over most s e (hear s a) (λ z. omega arith) (ended s e))
 
-  decided-none : value 16 s (blanks s 0) ≡ Broken → decided most here (ended s here.end) ≡ verdict_of s (cond (text s) (addressed most (hear s (top s))) (fails NotJson))
+  decided-none : value 16 s (blanks s 0) ≡ None → decided most here (ended s here.end) ≡ verdict_of s (cond (text s) (addressed most (hear s (top s))) (fails NotJson))
   unfolding scan_at scan_of text decided verdict_of
   decided-none v = rw (v, scan_at, text, scan_of, decided, verdict_of)
 
@@ -189,15 +189,15 @@ module _ (most : ℕ) (hear : List ℕ → Span → Reading Envelope) (s : List 
   pub decided-is : decided most here (ended s here.end) ≡ verdict_of s (cond (text s) (addressed most (hear s (top s))) (fails NotJson))
   decided-is = go (value 16 s (blanks s 0)) refl
     where
-      go : (x : End) → value 16 s (blanks s 0) ≡ x → decided most here (ended s here.end) ≡ verdict_of s (cond (text s) (addressed most (hear s (top s))) (fails NotJson))
-      go (At e) v = decided-at e v
-      go Broken v = decided-none v
+      go : (x : Option ℕ) → value 16 s (blanks s 0) ≡ x → decided most here (ended s here.end) ≡ verdict_of s (cond (text s) (addressed most (hear s (top s))) (fails NotJson))
+      go (Some e) v = decided-at e v
+      go None v = decided-none v
 
 -- ---- check 8
 module _ (form : Form) (s : List ℕ) (l : Layout) (stand : AllHere form 13 s l.entries) where
   -- where the first bad text begins, or 0
   abbrev at : ℕ
-  at = (outline_of s (reads l)).bad_at
+  at = (outline_of s (Some l)).bad_at
 
   pub no-bad : at ≡ 0 → bad s l ≡ []
   unfolding bad

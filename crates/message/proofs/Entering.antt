@@ -1,5 +1,6 @@
 -- What holds of a message that passes the checks: no text of it is bad, and it has few entries.
 -- Assumes nothing.
+use Rattle.std.specs.Prelude.{None, Option, Some}
 use mathlib.Core.Path.{◌≡◌, refl, sym, ap, ◌∙◌, subst}
 use mathlib.Core.List.{List, [], ◌∷◌}
 use mathlib.Core.Bool.{Bool, true, false, true≢false, ◌||◌, cond}
@@ -8,7 +9,6 @@ use native.Mathlib.Omega.{arith}
 use borrow.Author.Tests.{ltb-false}
 use lib.Dec.{ltb}
 use lib.ListN.{length}
-use Rattle.decimal.specs.Digits.{Reading, reads, refused}
 use Rattle.edit.specs.declared.Side.TheVariants.{Bids, Asks}
 use Rattle.json_values.specs.Json.{Span, text}
 use Rattle.settings.specs.Settings.{Config, good, good_depth}
@@ -25,7 +25,7 @@ use Rattle.answer.specs.declared.Answer.TheVariants.{TooLong, NotJson, NotOurs, 
 pub no-pass : {A : Type 0} (a : Answer) (l : Layout) → fails a ≡ passes l → A
 no-pass a l h = let z : ◌≡◌ {A = ℕ} 0 1 = cc in absurd (omega arith)
 
-pub no-reading : {A B : Type 0} {b : B} → refused ≡ reads b → A
+pub no-reading : {A B : Type 0} {b : B} → None ≡ Some b → A
 no-reading h = let z : ◌≡◌ {A = ℕ} 0 1 = cc in absurd (omega arith)
 
 -- ---- a message that passes checks 2 to 8 passes 2 to 7, and no text of it is bad
@@ -67,19 +67,19 @@ module _ (most : ℕ) (l : Layout) where
       let y : length (entries_for Asks k) ≤ most = ltb-false most (length (entries_for Asks k)) o.1 in
       subst (λ (z : Layout). (length (entries_for Bids z) ≤ most) × (length (entries_for Asks z) ≤ most)) e (x, y)
 
-  few-laid : (r : Reading Layout) → laid_out most r ≡ passes l → Few
+  few-laid : (r : Option Layout) → laid_out most r ≡ passes l → Few
   unfolding laid_out counted too_many
-  few-laid (reads k) g = few-counted k (too_many most k) refl g
-  few-laid refused g = no-pass BadLayout l g
+  few-laid (Some k) g = few-counted k (too_many most k) refl g
+  few-laid None g = no-pass BadLayout l g
 
-  few-addressed : (r : Reading Envelope) → addressed most r ≡ passes l → Few
+  few-addressed : (r : Option Envelope) → addressed most r ≡ passes l → Few
   unfolding addressed
-  few-addressed (reads x) g = at x.ours g
+  few-addressed (Some x) g = at x.ours g
     where
       at : (b : Bool) → cond b (laid_out most x.layout) (fails NotOurs) ≡ passes l → Few
       at true g = few-laid x.layout g
       at false g = no-pass NotOurs l g
-  few-addressed refused g = no-pass NotOurs l g
+  few-addressed None g = no-pass NotOurs l g
 
 pub framed-few : (t : Config) (s : List ℕ) (l : Layout) → framed t s ≡ passes l → (length (entries_for Bids l) ≤ 100) × (length (entries_for Asks l) ≤ 100)
 unfolding framed

@@ -1,5 +1,6 @@
 -- The first bad text of a message, from where the first bad entry begins.
 -- Assumes nothing.
+use Rattle.std.specs.Prelude.{Some}
 use mathlib.Core.Path.{◌≡◌, refl, sym, ap, ◌∙◌}
 use mathlib.Core.List.{List, []}
 use mathlib.Core.Bool.{Bool, true, false, cond}
@@ -7,7 +8,6 @@ use Prim.Native.Nat.{ℕ}
 use native.Mathlib.Omega.{arith}
 use borrow.Author.Tests.{eqb-true, eqb-false, eq-eqb, ne_eqb}
 use lib.Dec.{eqb}
-use Rattle.decimal.specs.Digits.{reads}
 use Rattle.json_values.specs.Json.{Span}
 use Rattle.settings.specs.Settings.{Config, good}
 use Rattle.entries.specs.Rows.{bad_price, bad_texts, first_of}
@@ -49,7 +49,7 @@ no_part : part_of (first_of []) ≡ record { from = 0; to = 0 }
 unfolding part_of first_of
 no_part = refl
 
-text-bad : (form : Form) (s : List ℕ) (l : Layout) → AllHere form 13 s l.entries → (n : ℕ) → n ≡ (outline_of s (reads l)).bad_at
+text-bad : (form : Form) (s : List ℕ) (l : Layout) → AllHere form 13 s l.entries → (n : ℕ) → n ≡ (outline_of s (Some l)).bad_at
     → PartIs s (part_of (first_of (bad_texts (is_snapshot l.kind) s l.entries))) (bad_in s form n)
 unfolding bad_in bad
 text-bad form s l stand n q = go (eqb n 0) refl
@@ -77,13 +77,13 @@ module _ (t : Config) (s : List ℕ) (h : good t ≡ true) (v : Verdict) (is : v
       go (passes l) k = let z : ◌≡◌ {A = ℕ} 0 1 = cc in absurd (omega arith)
 
   module _ (o : Outline) (g : v ≡ Passes o) where
-    passed : (l : Layout) × (framed t s ≡ passes l) × (o ≡ outline_of s (reads l))
+    passed : (l : Layout) × (framed t s ≡ passes l) × (o ≡ outline_of s (Some l))
     unfolding verdict_of
     passed = go (framed t s) (sym is ∙ g)
       where
-        go : (x : Checked) → verdict_of s x ≡ Passes o → (l : Layout) × (x ≡ passes l) × (o ≡ outline_of s (reads l))
+        go : (x : Checked) → verdict_of s x ≡ Passes o → (l : Layout) × (x ≡ passes l) × (o ≡ outline_of s (Some l))
         go (fails b) k = let z : ◌≡◌ {A = ℕ} 0 1 = cc in absurd (omega arith)
-        go (passes l) k = let e : outline_of s (reads l) ≡ o = cc in (l, refl, sym e)
+        go (passes l) k = let e : outline_of s (Some l) ≡ o = cc in (l, refl, sym e)
 
     pub frame-placed : (form : Form) → form ≡ form_of t.dialect → (o.bad_at ≡ 0 → ⊥) → Placed s (entry_place_at form 13 s o.bad_at)
     frame-placed form q n =
@@ -97,7 +97,7 @@ module _ (t : Config) (s : List ℕ) (h : good t ≡ true) (v : Verdict) (is : v
         let p = passed in
         let l = p.0 in
         let stand = (framed-lies t s l p.1).entries in
-        rw (q, p.2, p.1) (text-bad (form_of t.dialect) s l stand (outline_of s (reads l)).bad_at refl)
+        rw (q, p.2, p.1) (text-bad (form_of t.dialect) s l stand (outline_of s (Some l)).bad_at refl)
 
 -- ---- the price or the size of the entry at a position
 module _ (s : List ℕ) (form : Form) (at : ℕ) where

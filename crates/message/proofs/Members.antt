@@ -1,4 +1,5 @@
 -- The members that a message's entries are collected from stand one after another in its text. Assumes nothing.
+use Rattle.std.specs.Prelude.{None, Option, Some}
 use Prim.Native.Nat.{ℕ, ◌+◌, ◌≤◌, ◌<◌}
 use mathlib.Core.Path.{◌≡◌, refl, sym, subst}
 use mathlib.Core.Bool.{Bool, true, false, cond}
@@ -7,8 +8,7 @@ use native.Mathlib.Omega.{arith}
 use lib.Dec.{eqb}
 use borrow.Author.Tests.{eqb-true}
 use Rattle.text.specs.Text.{byte_at}
-use Rattle.decimal.specs.Digits.{Reading, reads, refused}
-use Rattle.json_tokens.specs.Tokens.{At, scalar}
+use Rattle.json_tokens.specs.Tokens.{scalar}
 use Rattle.json_tokens.proofs.Bounds.{bounds, string-in, separator-in}
 use Rattle.json_values.specs.Json.{Span, Pair, Items, items, no_items, items_end, elements, members, value}
 use Rattle.json_values.specs.Claims.{InOrder, end, then, IsElement, IsMember}
@@ -24,7 +24,7 @@ use Rattle.message.proofs.Entering.{no-reading}
 
 pub data Follow (s : List ℕ) (hi : ℕ) : ℕ → List Pair → Type 0 where
   no_more : (lo : ℕ) → lo ≤ hi → Follow s hi lo []
-  follows : (lo : ℕ) (m : Pair) (ms : List Pair) → lo ≤ m.value.from → value 14 s m.value.from ≡ At m.value.to → Follow s hi m.value.to ms → Follow s hi lo (m ∷ ms)
+  follows : (lo : ℕ) (m : Pair) (ms : List Pair) → lo ≤ m.value.from → value 14 s m.value.from ≡ Some m.value.to → Follow s hi m.value.to ms → Follow s hi lo (m ∷ ms)
 
 -- Entries, and the members of those names that they are collected from.
 pub record Collected (form : Form) (s : List ℕ) (es : List Entry) : Type 0 where
@@ -34,7 +34,7 @@ pub record Collected (form : Form) (s : List ℕ) (es : List Entry) : Type 0 whe
   pub lo : ℕ
   pub hi : ℕ
   pub in_order : Follow s hi lo members
-  pub collects : entries_in form 14 s bids asks members ≡ reads es
+  pub collects : entries_in form 14 s bids asks members ≡ Some es
 
 module _ (s : List ℕ) where
   sooner : (hi lo at : ℕ) (ms : List Pair) → at ≤ lo → Follow s hi lo ms → Follow s hi at ms
@@ -55,11 +55,11 @@ module _ (s : List ℕ) where
       let c = e.begins in
       follows lo m l (omega arith) e.a_value (subst (λ (n : ℕ). Follow s hi n l) (sym e.finishes) (members-follow hi to l o))
 
-  pub object-follows : (a : Span) (ms : List Pair) → object_at 15 s a ≡ reads ms → (e : ℕ) × Follow s e (a.from + 1) ms
+  pub object-follows : (a : Span) (ms : List Pair) → object_at 15 s a ≡ Some ms → (e : ℕ) × Follow s e (a.from + 1) ms
   unfolding object_at contents
   object-follows a ms h = go (eqb (byte_at s a.from) 123) (members (value 14 s) s (a.from + 1)) refl h
     where
-      go : (b : Bool) (x : Items Pair) → members (value 14 s) s (a.from + 1) ≡ x → cond b (contents x) refused ≡ reads ms → (e : ℕ) × Follow s e (a.from + 1) ms
+      go : (b : Bool) (x : Items Pair) → members (value 14 s) s (a.from + 1) ≡ x → cond b (contents x) None ≡ Some ms → (e : ℕ) × Follow s e (a.from + 1) ms
       go true (items l e) q g =
           let m : l ≡ ms = cc in
           (e, members-follow e (a.from + 1) ms (subst (InOrder (IsMember 14 s) e (a.from + 1)) m (members-in-order 14 s (a.from + 1) l e q).0))
@@ -67,7 +67,7 @@ module _ (s : List ℕ) where
       go false x q g = no-reading g
 
   -- .. of an object that ends where its value does
-  value-follows : (a : Span) (ms : List Pair) → value 15 s a.from ≡ At a.to → object_at 15 s a ≡ reads ms → Follow s a.to (a.from + 1) ms
+  value-follows : (a : Span) (ms : List Pair) → value 15 s a.from ≡ Some a.to → object_at 15 s a ≡ Some ms → Follow s a.to (a.from + 1) ms
   unfolding object_at contents value items_end
   value-follows a ms v h = go (eqb (byte_at s a.from) 91) refl (eqb (byte_at s a.from) 123) refl (members (value 14 s) s (a.from + 1)) refl v h
     where
@@ -75,8 +75,8 @@ module _ (s : List ℕ) where
       apart n p q = let x = eqb-true n 91 p in let y = eqb-true n 123 q in absurd (omega arith)
 
       go : (b : Bool) → eqb (byte_at s a.from) 91 ≡ b → (c : Bool) → eqb (byte_at s a.from) 123 ≡ c → (x : Items Pair) → members (value 14 s) s (a.from + 1) ≡ x
-          → elim b [ true ↦ items_end (elements (value 14 s) s (a.from + 1)) | false ↦ elim c [ true ↦ items_end x | false ↦ scalar s a.from ] ] ≡ At a.to
-          → cond c (contents x) refused ≡ reads ms → Follow s a.to (a.from + 1) ms
+          → elim b [ true ↦ items_end (elements (value 14 s) s (a.from + 1)) | false ↦ elim c [ true ↦ items_end x | false ↦ scalar s a.from ] ] ≡ Some a.to
+          → cond c (contents x) None ≡ Some ms → Follow s a.to (a.from + 1) ms
       go true p true r x q u g = absurd (apart (byte_at s a.from) p r)
       go false p true r (items l e) q u g =
           let m : l ≡ ms = cc in
@@ -88,17 +88,17 @@ module _ (s : List ℕ) where
 
   -- ---- those of objects in order
 
-  then-reads : {A B : Type 0} (x : Reading A) (f : A → Reading B) (b : B) → and_then x f ≡ reads b → (a : A) × (f a ≡ reads b) × (x ≡ reads a)
+  then-reads : {A B : Type 0} (x : Option A) (f : A → Option B) (b : B) → and_then x f ≡ Some b → (a : A) × (f a ≡ Some b) × (x ≡ Some a)
   unfolding and_then
-  then-reads (reads a) f b h = (a, h, refl)
-  then-reads refused f b h = no-reading h
+  then-reads (Some a) f b h = (a, h, refl)
+  then-reads None f b h = no-reading h
 
-  pub objects-follow : (hi lo : ℕ) (l : List Span) (os : List (List Pair)) → InOrder (IsElement 15 s) hi lo l → all (object_at 15 s) l ≡ reads os → Follow s hi lo (together os)
+  pub objects-follow : (hi lo : ℕ) (l : List Span) (os : List (List Pair)) → InOrder (IsElement 15 s) hi lo l → all (object_at 15 s) l ≡ Some os → Follow s hi lo (together os)
   unfolding all together
   objects-follow hi lo l os (end i h) k = let e : [] ≡ os = cc in subst (λ (x : List (List Pair)). Follow s hi lo (together x)) e (no_more lo (omega arith))
   objects-follow hi lo l os (then i from to a m g h e o) k =
-      let x = then-reads (object_at 15 s a) (λ b. and_then (all (object_at 15 s) m) (λ bs. reads (b ∷ bs))) os k in
-      let y = then-reads (all (object_at 15 s) m) (λ bs. reads (x.0 ∷ bs)) os x.1 in
+      let x = then-reads (object_at 15 s a) (λ b. and_then (all (object_at 15 s) m) (λ bs. Some (b ∷ bs))) os k in
+      let y = then-reads (all (object_at 15 s) m) (λ bs. Some (x.0 ∷ bs)) os x.1 in
       let t = objects-follow hi to m y.0 o y.2 in
       let b = e.begins in
       let f = value-follows a x.0 e.a_value x.2 in
@@ -115,7 +115,7 @@ module _ (s : List ℕ) where
   abbrev Elements : ℕ → ℕ → List Span → Type 0
   Elements = InOrder (IsElement 15 s)
 
-  frame-objects : (hi lo : ℕ) (l : List Span) (f : Frame) → Elements hi lo l → frame_of l ≡ reads f → (at : ℕ) × Elements hi at f.objects
+  frame-objects : (hi lo : ℕ) (l : List Span) (f : Frame) → Elements hi lo l → frame_of l ≡ Some f → (at : ℕ) × Elements hi at f.objects
   unfolding frame_of
   frame-objects hi lo [] f o h = no-reading h
   frame-objects hi lo (n ∷ []) f o h = no-reading h
@@ -129,11 +129,11 @@ module _ (s : List ℕ) where
       (t1, subst (λ (x : Frame). Elements hi t1 x.objects) z (then t1 f2 t2 a (b ∷ []) g2 h2 e2 (then t2 f3 t3 b [] g3 h3 e3 (end t3 (ends-past hi t3 (c ∷ (p ∷ [])) o)))))
   frame-objects hi lo (n ∷ (a ∷ (b ∷ (c ∷ (p ∷ (x ∷ l)))))) f o h = no-reading h
 
-  pub array-objects : (a : Span) (f : Frame) → and_then (array_at 16 s a) frame_of ≡ reads f → (hi : ℕ) × (lo : ℕ) × Elements hi lo f.objects
+  pub array-objects : (a : Span) (f : Frame) → and_then (array_at 16 s a) frame_of ≡ Some f → (hi : ℕ) × (lo : ℕ) × Elements hi lo f.objects
   unfolding array_at contents and_then
   array-objects a f h = go (eqb (byte_at s a.from) 91) (elements (value 15 s) s (a.from + 1)) refl h
     where
-      go : (b : Bool) (x : Items Span) → elements (value 15 s) s (a.from + 1) ≡ x → and_then (cond b (contents x) refused) frame_of ≡ reads f → (hi : ℕ) × (lo : ℕ) × Elements hi lo f.objects
+      go : (b : Bool) (x : Items Span) → elements (value 15 s) s (a.from + 1) ≡ x → and_then (cond b (contents x) None) frame_of ≡ Some f → (hi : ℕ) × (lo : ℕ) × Elements hi lo f.objects
       go true (items l e) q g = let r = frame-objects e (a.from + 1) l f (elements-in-order 15 s (a.from + 1) l e q).0 g in (e, r.0, r.1)
       go true no_items q g = no-reading g
       go false x q g = no-reading g

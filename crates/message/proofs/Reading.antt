@@ -1,5 +1,6 @@
 -- The reader's answers, step by step.
 -- Assumes nothing.
+use Rattle.std.specs.Prelude.{None, Option, Some, ℕ}
 use mathlib.Core.Path.{◌≡◌, refl, sym, ap, ◌∙◌, subst}
 use mathlib.Core.List.{List}
 use mathlib.Core.Bool.{Bool, true, false, true≢false, ◌&&◌, cond}
@@ -8,8 +9,7 @@ use native.Mathlib.Omega.{arith}
 use borrow.Author.Tests.{lt-ltb, le-ltb, leb-true}
 use lib.Dec.{leb, ltb}
 use lib.ListN.{length}
-use Rattle.decimal.specs.Digits.{Reading, reads, refused}
-use Rattle.json_tokens.specs.Tokens.{End, At, Broken, blanks, ended}
+use Rattle.json_tokens.specs.Tokens.{blanks, ended}
 use Rattle.json_tokens.specs.Ends.{end_of}
 use Rattle.json_values.specs.Json.{Span, value, text}
 use Rattle.entries.specs.Places.{top}
@@ -105,7 +105,7 @@ module _ (t : Config) (s : List ℕ) where
         go : (x : Checked) → framed t s ≡ x → verdict_of s x ≡ Passes o → Fails BadDecimal ≡ verdict_of s (also_decimals s x)
         go (fails a) q k = let z : ◌≡◌ {A = ℕ} 0 1 = cc in absurd (omega arith)
         go (passes l) q k =
-            let e : outline_of s (reads l) ≡ o = cc in
+            let e : outline_of s (Some l) ≡ o = cc in
             sym (ap (verdict_of s) (some-decimals (form_of t.dialect) s l (framed-lies t s l q).entries (λ z. b (sym (ap (λ (x : Outline). x.bad_at) e) ∙ z))))
 
     pub open-passes : (o : Outline) → v ≡ Passes o → o.bad_at ≡ 0 → Passes o ≡ verdict_of s (checked t s)
@@ -115,25 +115,25 @@ module _ (t : Config) (s : List ℕ) where
         go : (x : Checked) → framed t s ≡ x → verdict_of s x ≡ Passes o → Passes o ≡ verdict_of s (also_decimals s x)
         go (fails a) q k = let z : ◌≡◌ {A = ℕ} 0 1 = cc in absurd (omega arith)
         go (passes l) q k =
-            let e : outline_of s (reads l) ≡ o = cc in
+            let e : outline_of s (Some l) ≡ o = cc in
             sym k ∙ sym (ap (verdict_of s) (none-decimals (form_of t.dialect) s l (framed-lies t s l q).entries (ap (λ (x : Outline). x.bad_at) e ∙ b)))
 
 -- ---- the buffer
 
-refused-address : (most : ℕ) → fails NotOurs ≡ addressed most refused
+refused-address : (most : ℕ) → fails NotOurs ≡ addressed most None
 unfolding addressed
 refused-address most = refl
 
-kept-laid : (most : ℕ) (s : List ℕ) (x : Reading Layout) (l : Layout) → laid_out most x ≡ passes l → x ≡ reads l
+kept-laid : (most : ℕ) (s : List ℕ) (x : Option Layout) (l : Layout) → laid_out most x ≡ passes l → x ≡ Some l
 unfolding laid_out counted
-kept-laid most s (reads k) l g = at (too_many most k) g
+kept-laid most s (Some k) l g = at (too_many most k) g
   where
-    at : (b : Bool) → cond b (fails TooManyEntries) (passes k) ≡ passes l → reads k ≡ reads l
+    at : (b : Bool) → cond b (fails TooManyEntries) (passes k) ≡ passes l → Some k ≡ Some l
     at true h = no-pass TooManyEntries l h
-    at false h = let e : k ≡ l = cc in ap reads e
-kept-laid most s refused l g = no-pass BadLayout l g
+    at false h = let e : k ≡ l = cc in ap Some e
+kept-laid most s None l g = no-pass BadLayout l g
 
-kept-address : {A : Layout → Type 0} (most : ℕ) (s : List ℕ) (x : Envelope) (l : Layout) → addressed most (reads x) ≡ passes l → (x.ours ≡ true → (y : Layout) → x.layout ≡ reads y → A y) → A l
+kept-address : {A : Layout → Type 0} (most : ℕ) (s : List ℕ) (x : Envelope) (l : Layout) → addressed most (Some x) ≡ passes l → (x.ours ≡ true → (y : Layout) → x.layout ≡ Some y → A y) → A l
 unfolding addressed
 kept-address {A} most s x l g f = at x.ours refl g
   where
@@ -142,31 +142,31 @@ kept-address {A} most s x l g f = at x.ours refl g
     at false q h = no-pass NotOurs l h
 
 -- a message that passes checks 2 to 7 is this book's, and has a layout
-pub framed_kept : (t : Config) (s buffer : List ℕ) (r : Scan) → Scanned (envelope_in t.dialect t) s (blanks s 0) buffer r → (l : Layout) → framed t s ≡ passes l → Kept s (reads l.entries) buffer
+pub framed_kept : (t : Config) (s buffer : List ℕ) (r : Scan) → Scanned (envelope_in t.dialect t) s (blanks s 0) buffer r → (l : Layout) → framed t s ≡ passes l → Kept s (Some l.entries) buffer
 unfolding framed text top
 framed_kept t s buffer r w l h = first (ltb (rules_of t.dialect).longest (length s)) (value 16 s (blanks s 0)) refl h
   where
     most : ℕ
     most = (rules_of t.dialect).entries
 
-    laid_kept : (e : ℕ) → value 16 s (blanks s 0) ≡ At e → (x : Reading Envelope) → envelope_in t.dialect t s (record { from = blanks s 0; to = e }) ≡ x → addressed most x ≡ passes l → Kept s (reads l.entries) buffer
-    laid_kept e v (reads x) q g = kept-address {A = λ y. Kept s (reads y.entries) buffer} most s x l g (λ o y k. w.kept e v x q o y k)
-    laid_kept e v refused q g = no-pass NotOurs l (refused-address most ∙ g)
+    laid_kept : (e : ℕ) → value 16 s (blanks s 0) ≡ Some e → (x : Option Envelope) → envelope_in t.dialect t s (record { from = blanks s 0; to = e }) ≡ x → addressed most x ≡ passes l → Kept s (Some l.entries) buffer
+    laid_kept e v (Some x) q g = kept-address {A = λ y. Kept s (Some y.entries) buffer} most s x l g (λ o y k. w.kept e v x q o y k)
+    laid_kept e v None q g = no-pass NotOurs l (refused-address most ∙ g)
 
-    first : (a : Bool) (x : End) → value 16 s (blanks s 0) ≡ x
-        → cond a (fails TooLong) (cond (elim x [ At e ↦ ended s e | Broken ↦ false ]) (addressed most (envelope_in t.dialect t s (elim x [ At e ↦ record { from = blanks s 0; to = e } | Broken ↦ record { from = 0; to = 0 } ]))) (fails NotJson)) ≡ passes l
-        → Kept s (reads l.entries) buffer
+    first : (a : Bool) (x : Option ℕ) → value 16 s (blanks s 0) ≡ x
+        → cond a (fails TooLong) (cond (elim x [ Some e ↦ ended s e | None ↦ false ]) (addressed most (envelope_in t.dialect t s (elim x [ Some e ↦ record { from = blanks s 0; to = e } | None ↦ record { from = 0; to = 0 } ]))) (fails NotJson)) ≡ passes l
+        → Kept s (Some l.entries) buffer
     first true x v g = no-pass TooLong l g
-    first false Broken v g = no-pass NotJson l g
-    first false (At e) v g = at (ended s e) g
+    first false None v g = no-pass NotJson l g
+    first false (Some e) v g = at (ended s e) g
       where
-        at : (b : Bool) → cond b (addressed most (envelope_in t.dialect t s (record { from = blanks s 0; to = e }))) (fails NotJson) ≡ passes l → Kept s (reads l.entries) buffer
+        at : (b : Bool) → cond b (addressed most (envelope_in t.dialect t s (record { from = blanks s 0; to = e }))) (fails NotJson) ≡ passes l → Kept s (Some l.entries) buffer
         at true k = laid_kept e v (envelope_in t.dialect t s (record { from = blanks s 0; to = e })) refl k
         at false k = no-pass NotJson l k
 
 -- ---- what no dialect reads
 
-pub kept-unknown : (t : Config) (s : List ℕ) (a : Span) (h : Envelope) → {A : Type 0} → envelope_in Unknown t s a ≡ reads h → A
+pub kept-unknown : (t : Config) (s : List ℕ) (a : Span) (h : Envelope) → {A : Type 0} → envelope_in Unknown t s a ≡ Some h → A
 unfolding envelope_in
 kept-unknown t s a h g = no-reading g
 
@@ -174,6 +174,6 @@ pub told-unknown : (t : Config) (s : List ℕ) (at e : ℕ) → e ≡ end_of (va
 unfolding scan_at envelope_in scan_of end_of
 told-unknown t s at e h = go (value 16 s at) h
   where
-    go : (x : End) → e ≡ end_of x → not_framed e ≡ elim x [ At i ↦ scan_of s i refused | Broken ↦ scan_of s 0 refused ]
-    go (At i) g = ap not_framed g
-    go Broken g = ap not_framed g
+    go : (x : Option ℕ) → e ≡ end_of x → not_framed e ≡ elim x [ Some i ↦ scan_of s i None | None ↦ scan_of s 0 None ]
+    go (Some i) g = ap not_framed g
+    go None g = ap not_framed g

@@ -1,5 +1,6 @@
 -- The entries of a message that passes the checks of its text stand in it; its numbers keep their bounds.
 -- Assumes nothing.
+use Rattle.std.specs.Prelude.{None, Option, Some}
 use mathlib.Core.Path.{◌≡◌, refl, sym, ap, ◌∙◌, subst}
 use mathlib.Core.List.{List, [], ◌∷◌}
 use mathlib.Core.Bool.{Bool, true, false, true≢false, ◌&&◌, not, cond}
@@ -7,7 +8,7 @@ use Prim.Native.Nat.{ℕ, ◌+◌, ◌≤◌, ◌<◌, ◌^◌}
 use borrow.Author.Tests.{eqb-true, leb-true}
 use native.Mathlib.Omega.{arith}
 use Rattle.text.specs.Text.{ascii}
-use Rattle.decimal.specs.Digits.{Reading, reads, refused, leading, value_of}
+use Rattle.decimal.specs.Digits.{leading, value_of}
 use Rattle.decimal.specs.Decimal.{is_whole}
 use Rattle.decimal.specs.Whole.{read_whole, at_most, read_checksum}
 use Rattle.decimal.proofs.Digits.{Digits, leading-digits, value-below, tens-mono}
@@ -47,16 +48,16 @@ pub record LieIn (form : Form) (s : List ℕ) (l : Layout) : Type 0 where
   pub low : (n : ℕ) → l.checksum ≡ printed n → n ≤ 4294967295
 
 -- ---- what was read of what was read
-no-reading : {A B : Type 0} {b : B} → refused ≡ reads b → A
+no-reading : {A B : Type 0} {b : B} → None ≡ Some b → A
 no-reading h = let z : ◌≡◌ {A = ℕ} 0 1 = cc in absurd (omega arith)
 
-reads_same : {A : Type 0} {a b : A} → reads a ≡ reads b → a ≡ b
+reads_same : {A : Type 0} {a b : A} → Some a ≡ Some b → a ≡ b
 reads_same h = cc
 
-then-reads : {A B : Type 0} (x : Reading A) (f : A → Reading B) (b : B) → and_then x f ≡ reads b → (a : A) × (f a ≡ reads b) × (x ≡ reads a)
+then-reads : {A B : Type 0} (x : Option A) (f : A → Option B) (b : B) → and_then x f ≡ Some b → (a : A) × (f a ≡ Some b) × (x ≡ Some a)
 unfolding and_then
-then-reads (reads a) f b h = (a, h, refl)
-then-reads refused f b h = no-reading h
+then-reads (Some a) f b h = (a, h, refl)
+then-reads None f b h = no-reading h
 
 -- ---- a whole number has at most 19 digits
 
@@ -71,11 +72,11 @@ and_second false b h = absurd (true≢false (sym h))
 below : {a b c : ℕ} → a < b → b ≤ c → a < c
 below p q = omega arith
 
-whole-small : (s : List ℕ) (n : ℕ) → read_whole s ≡ reads n → n < 10 ^ 19
+whole-small : (s : List ℕ) (n : ℕ) → read_whole s ≡ Some n → n < 10 ^ 19
 unfolding read_whole is_whole
 whole-small s n h = at (is_whole 19 s && eqb (length (leading s)) (length s)) refl h
   where
-    at : (b : Bool) → (is_whole 19 s && eqb (length (leading s)) (length s)) ≡ b → elim b [ true ↦ reads (value_of s) | false ↦ refused ] ≡ reads n → n < 10 ^ 19
+    at : (b : Bool) → (is_whole 19 s && eqb (length (leading s)) (length s)) ≡ b → elim b [ true ↦ Some (value_of s) | false ↦ None ] ≡ Some n → n < 10 ^ 19
     at false q g = no-reading g
     at true q g =
         let w = and_first (is_whole 19 s) (eqb (length (leading s)) (length s)) q in
@@ -93,38 +94,38 @@ no-print h = let z : ◌≡◌ {A = ℕ} 0 1 = cc in absurd (omega arith)
 printed-same : {i k : ℕ} → printed i ≡ printed k → i ≡ k
 printed-same h = cc
 
-checksum-low : (s : List ℕ) (n : ℕ) → read_checksum s ≡ reads n → n ≤ 4294967295
+checksum-low : (s : List ℕ) (n : ℕ) → read_checksum s ≡ Some n → n ≤ 4294967295
 unfolding read_checksum at_most
 checksum-low s n h = go (read_whole s) h
   where
-    at : (k : ℕ) (b : Bool) → leb k 4294967295 ≡ b → elim b [ true ↦ reads k | false ↦ refused ] ≡ reads n → n ≤ 4294967295
+    at : (k : ℕ) (b : Bool) → leb k 4294967295 ≡ b → elim b [ true ↦ Some k | false ↦ None ] ≡ Some n → n ≤ 4294967295
     at k true q g = subst (λ (x : ℕ). x ≤ 4294967295) (reads_same g) (leb-true k 4294967295 q)
     at k false q g = no-reading g
 
-    go : (x : Reading ℕ) → at_most 4294967295 x ≡ reads n → n ≤ 4294967295
-    go (reads k) g = at k (leb k 4294967295) refl g
-    go refused g = no-reading g
+    go : (x : Option ℕ) → at_most 4294967295 x ≡ Some n → n ≤ 4294967295
+    go (Some k) g = at k (leb k 4294967295) refl g
+    go None g = no-reading g
 
-quoted-low : (s : List ℕ) (a : Span) (n : ℕ) → quoted_checksum_at s a ≡ reads n → n ≤ 4294967295
+quoted-low : (s : List ℕ) (a : Span) (n : ℕ) → quoted_checksum_at s a ≡ Some n → n ≤ 4294967295
 unfolding quoted_checksum_at
 quoted-low s a n h = go (is_string s a) h
   where
-    go : (b : Bool) → cond b (read_checksum (inner s a)) refused ≡ reads n → n ≤ 4294967295
+    go : (b : Bool) → cond b (read_checksum (inner s a)) None ≡ Some n → n ≤ 4294967295
     go true g = checksum-low (inner s a) n g
     go false g = no-reading g
 
 -- ---- the entries of members, and a layout of them
 module _ (form : Form) (s : List ℕ) where
-  member-here : (bids asks : List ℕ) (m : Pair) (es : List Entry) → member_entries form 14 s bids asks m ≡ reads es → AllHere form 13 s es
+  member-here : (bids asks : List ℕ) (m : Pair) (es : List Entry) → member_entries form 14 s bids asks m ≡ Some es → AllHere form 13 s es
   unfolding member_entries
   member-here bids asks m es h = at (means s m.name bids) (means s m.name asks) h
     where
-      at : (b a : Bool) → cond b (sided_at Bids form 14 s m.value) (cond a (sided_at Asks form 14 s m.value) (reads [])) ≡ reads es → AllHere form 13 s es
+      at : (b a : Bool) → cond b (sided_at Bids form 14 s m.value) (cond a (sided_at Asks form 14 s m.value) (Some [])) ≡ Some es → AllHere form 13 s es
       at true a g = sided-here Bids form 13 s m.value es g
       at false true g = sided-here Asks form 13 s m.value es g
       at false false g = here-none es g
 
-  members-here : (bids asks : List ℕ) (ms : List Pair) (es : List Entry) → entries_in form 14 s bids asks ms ≡ reads es → AllHere form 13 s es
+  members-here : (bids asks : List ℕ) (ms : List Pair) (es : List Entry) → entries_in form 14 s bids asks ms ≡ Some es → AllHere form 13 s es
   unfolding entries_in
   members-here bids asks [] es h = here-none es h
   members-here bids asks (m ∷ ms) es h =
@@ -133,21 +134,21 @@ module _ (form : Form) (s : List ℕ) where
   collected-here : (es : List Entry) → Collected form s es → AllHere form 13 s es
   collected-here es c = members-here c.bids c.asks c.members es c.collects
 
-  laid-lies : (kind : Kind) (p : Printed) (n : ℕ) (x : Reading (List Entry)) → ((es : List Entry) → x ≡ reads es → Collected form s es)
-      → n < 10 ^ 19 → ((k : ℕ) → p ≡ printed k → k ≤ 4294967295) → (l : Layout) → laid kind p n x ≡ reads l → LieIn form s l
+  laid-lies : (kind : Kind) (p : Printed) (n : ℕ) (x : Option (List Entry)) → ((es : List Entry) → x ≡ Some es → Collected form s es)
+      → n < 10 ^ 19 → ((k : ℕ) → p ≡ printed k → k ≤ 4294967295) → (l : Layout) → laid kind p n x ≡ Some l → LieIn form s l
   unfolding laid and_then
-  laid-lies kind p n (reads es) f small low l h =
+  laid-lies kind p n (Some es) f small low l h =
       let e : l ≡ record { kind = kind; entries = es; checksum = p; number = n; previous = 0 } = sym (reads_same h) in
       rw e (record { entries = collected-here es (f es refl); collected = f es refl; small = small; low = low })
-  laid-lies kind p n refused f small low l h = no-reading h
+  laid-lies kind p n None f small low l h = no-reading h
 
 -- ---- K
 module _ (s : List ℕ) where
-  k-objects-lie : (o : List (List Pair)) (hi lo : ℕ) → Follow s hi lo (together o) → (l : Layout) → objects_layout s o ≡ reads l → LieIn forms.Triple s l
+  k-objects-lie : (o : List (List Pair)) (hi lo : ℕ) → Follow s hi lo (together o) → (l : Layout) → objects_layout s o ≡ Some l → LieIn forms.Triple s l
   unfolding objects_layout entries_k
   k-objects-lie o hi lo f l h = at (is_snapshot s o) (is_update s o) h
     where
-      here : (bids asks : List ℕ) (es : List Entry) → entries_k s bids asks o ≡ reads es → Collected forms.Triple s es
+      here : (bids asks : List ℕ) (es : List Entry) → entries_k s bids asks o ≡ Some es → Collected forms.Triple s es
       here bids asks es g = record { bids = bids; asks = asks; members = together o; lo = lo; hi = hi; in_order = f; collects = g }
 
       at : (x y : Bool)
@@ -155,8 +156,8 @@ module _ (s : List ℕ) where
           (cond y
           (and_then (only (values_of s (ascii "c") (together o))) (λ c.
           and_then (quoted_checksum_at s c) (λ sum. laid Update (printed sum) 0 (entries_k s (ascii "b") (ascii "a") o))))
-          refused)
-          ≡ reads l → LieIn forms.Triple s l
+          None)
+          ≡ Some l → LieIn forms.Triple s l
       at true y g = laid-lies forms.Triple s Snapshot unprinted 0 _ (here (ascii "bs") (ascii "as")) (lit< tt) (λ k e. no-print e) l g
       at false true g =
           let c = then-reads (only (values_of s (ascii "c") (together o))) _ l g in
@@ -164,7 +165,7 @@ module _ (s : List ℕ) where
           laid-lies forms.Triple s Update (printed d.0) 0 _ (here (ascii "b") (ascii "a")) (lit< tt) (λ k e. subst (λ (x : ℕ). x ≤ 4294967295) (printed-same e) (quoted-low s c.0 d.0 d.2)) l d.1
       at false false g = no-reading g
 
-  k-lies : (f : Frame) (hi lo : ℕ) → InOrder (IsElement 15 s) hi lo f.objects → (l : Layout) → layout_k s f ≡ reads l → LieIn forms.Triple s l
+  k-lies : (f : Frame) (hi lo : ℕ) → InOrder (IsElement 15 s) hi lo f.objects → (l : Layout) → layout_k s f ≡ Some l → LieIn forms.Triple s l
   unfolding layout_k
   k-lies f hi lo e l h =
       let n = then-reads (whole_at s f.first) _ l h in
@@ -172,7 +173,7 @@ module _ (s : List ℕ) where
       k-objects-lie o.0 hi lo (objects-follow s hi lo f.objects o.0 e o.2) l o.1
 
   -- ---- M
-  m-lies : (ms : List Pair) (l : Layout) → layout_m s ms ≡ reads l → LieIn forms.Pair s l
+  m-lies : (ms : List Pair) (l : Layout) → layout_m s ms ≡ Some l → LieIn forms.Pair s l
   unfolding layout_m whole_at checksum_at
   m-lies ms l h =
       let a = then-reads (only (values_of s (ascii "channel") ms)) _ l h in
@@ -191,13 +192,13 @@ module _ (s : List ℕ) where
       laid-lies forms.Pair s t.0 (printed n.0) w.0 _ (λ es g. record { bids = ascii "bids"; asks = ascii "asks"; members = o.0; lo = d.0.from + 1; hi = e.0; in_order = e.1; collects = g }) (whole-small (part s g.0) w.0 w.2) (λ i e. subst (λ (x : ℕ). x ≤ 4294967295) (printed-same e) (checksum-low (part s k.0) n.0 n.2)) l w.1
 
   -- .. also where an update names the sequence number before its own
-  linked-lies : (linked : Bool) (ms : List Pair) (l : Layout) → layout_in linked s ms ≡ reads l → LieIn forms.Pair s l
+  linked-lies : (linked : Bool) (ms : List Pair) (l : Layout) → layout_in linked s ms ≡ Some l → LieIn forms.Pair s l
   unfolding layout_in linked_to
   linked-lies false ms l h = m-lies ms l h
   linked-lies true ms l h = let p = then-reads (layout_m s ms) _ l h in at p.0 (is_snapshot_m p.0.kind) (m-lies ms p.0 p.2) p.1
     where
       at : (k : Layout) (b : Bool) → LieIn forms.Pair s k
-          → cond b (reads k) (and_then (and_then (only (values_of s (ascii "prev_gsn") ms)) (whole_at s)) (λ n. reads (record { kind = k.kind; entries = k.entries; checksum = k.checksum; number = k.number; previous = n }))) ≡ reads l
+          → cond b (Some k) (and_then (and_then (only (values_of s (ascii "prev_gsn") ms)) (whole_at s)) (λ n. Some (record { kind = k.kind; entries = k.entries; checksum = k.checksum; number = k.number; previous = n }))) ≡ Some l
           → LieIn forms.Pair s l
       at k true w g = rw (sym (reads_same g)) w
       at k false w g =
@@ -209,26 +210,26 @@ no-pass : {A : Type 0} (a : Answer) (l : Layout) → fails a ≡ passes l → A
 no-pass a l h = let z : ◌≡◌ {A = ℕ} 0 1 = cc in absurd (omega arith)
 
 module _ (form : Form) (s : List ℕ) where
-  counted-lies : (most : ℕ) (r : Reading Layout) → ((x : Layout) → r ≡ reads x → LieIn form s x) → (l : Layout) → laid_out most r ≡ passes l → LieIn form s l
+  counted-lies : (most : ℕ) (r : Option Layout) → ((x : Layout) → r ≡ Some x → LieIn form s x) → (l : Layout) → laid_out most r ≡ passes l → LieIn form s l
   unfolding laid_out counted
-  counted-lies most (reads x) f l h = at (too_many most x) h
+  counted-lies most (Some x) f l h = at (too_many most x) h
     where
       at : (b : Bool) → cond b (fails TooManyEntries) (passes x) ≡ passes l → LieIn form s l
       at true g = no-pass TooManyEntries l g
       at false g = let e : l ≡ x = cc in rw e (f x refl)
-  counted-lies most refused f l h = no-pass BadLayout l h
+  counted-lies most None f l h = no-pass BadLayout l h
 
-  addressed-lies : (most : ℕ) (r : Reading Envelope) → ((x : Envelope) → r ≡ reads x → (y : Layout) → x.layout ≡ reads y → LieIn form s y)
+  addressed-lies : (most : ℕ) (r : Option Envelope) → ((x : Envelope) → r ≡ Some x → (y : Layout) → x.layout ≡ Some y → LieIn form s y)
       → (l : Layout) → addressed most r ≡ passes l → LieIn form s l
   unfolding addressed
-  addressed-lies most (reads x) f l h = at x.ours h
+  addressed-lies most (Some x) f l h = at x.ours h
     where
       at : (b : Bool) → cond b (laid_out most x.layout) (fails NotOurs) ≡ passes l → LieIn form s l
       at true g = counted-lies most x.layout (f x refl) l g
       at false g = no-pass NotOurs l g
-  addressed-lies most refused f l h = no-pass NotOurs l h
+  addressed-lies most None f l h = no-pass NotOurs l h
 
-heard-lies : (d : Dialect) (t : Config) (s : List ℕ) (a : Span) (x : Envelope) → envelope_in d t s a ≡ reads x → (y : Layout) → x.layout ≡ reads y → LieIn (form_of d) s y
+heard-lies : (d : Dialect) (t : Config) (s : List ℕ) (a : Span) (x : Envelope) → envelope_in d t s a ≡ Some x → (y : Layout) → x.layout ≡ Some y → LieIn (form_of d) s y
 unfolding envelope_in form_of envelope_k envelope_m
 heard-lies K t s a x h y g =
     let f = then-reads (and_then (array_at 16 s a) frame_of) _ x h in

@@ -1,7 +1,6 @@
 -- What a message says, from the settings and the text alone: a refusal among 2 to 8, or its kind and what it carries. The checks are those of document
 -- 01's table, in its order, each over the whole message before the next one begins. Assumes nothing: these are definitions.
-use Rattle.std.specs.Prelude.{ℕ, Bool, ◌||◌, cond, List, [], ◌∷◌, map, ltb, length}
-use Rattle.decimal.specs.Digits.{Reading, reads, refused}
+use Rattle.std.specs.Prelude.{ℕ, Bool, ◌||◌, cond, List, [], ◌∷◌, map, ltb, length, None, Option, Some}
 use Rattle.edit.specs.Edit.{PriceLevel, Edit, Numbers, edit_of, for_side}
 use Rattle.edit.specs.declared.Side.{Side}
 use Rattle.edit.specs.declared.Side.TheVariants.{Bids, Asks}
@@ -37,19 +36,19 @@ counted most l = cond (too_many most l) (fails TooManyEntries) (passes l)
 
 -- ---- checks 5 and 6
 
-unfoldable pub laid_out : ℕ → Reading Layout → Checked
-laid_out most (reads l) = counted most l
-laid_out most refused = fails BadLayout
+unfoldable pub laid_out : ℕ → Option Layout → Checked
+laid_out most (Some l) = counted most l
+laid_out most None = fails BadLayout
 
 -- What is no message of the dialect's outer form is not this book's.
-unfoldable pub addressed : ℕ → Reading Envelope → Checked
-addressed most (reads h) = cond h.ours (laid_out most h.layout) (fails NotOurs)
-addressed most refused = fails NotOurs
+unfoldable pub addressed : ℕ → Option Envelope → Checked
+addressed most (Some h) = cond h.ours (laid_out most h.layout) (fails NotOurs)
+addressed most None = fails NotOurs
 
-unfoldable pub envelope_in : Dialect → Config → List ℕ → Span → Reading Envelope
+unfoldable pub envelope_in : Dialect → Config → List ℕ → Span → Option Envelope
 envelope_in K t = envelope_k t.depth t.name
 envelope_in (M e) t = envelope_m (is_linked e) t.name
-envelope_in Unknown t = λ s a. refused
+envelope_in Unknown t = λ s a. None
 
 -- ---- checks 2 and 3
 

@@ -1,6 +1,5 @@
 -- What the reader of a message answers. Assumes nothing: these are definitions.
-use Rattle.std.specs.Prelude.{◌≡◌, cond, List, ℕ}
-use Rattle.decimal.specs.Digits.{reads}
+use Rattle.std.specs.Prelude.{◌≡◌, cond, List, ℕ, Some}
 use Rattle.settings.specs.Settings.{Config, good}
 use Rattle.entries.specs.Tally.{Kept}
 use Rattle.layout.specs.Layout.{Layout}
@@ -16,9 +15,9 @@ judged t s = cond (good t) (checked t s) (fails Shut)
 
 unfoldable pub verdict_of : List ℕ → Checked → Verdict
 verdict_of s (fails a) = Fails a
-verdict_of s (passes l) = Passes (outline_of s (reads l))
+verdict_of s (passes l) = Passes (outline_of s (Some l))
 
 -- What its reader promises: the verdict, and that the buffer has the entries of a message that passes.
 pub record Judged (s : List ℕ) (c : Checked) (buffer : List ℕ) (r : Verdict) : Type 0 where
   pub told : r ≡ verdict_of s c
-  pub kept : (l : Layout) → c ≡ passes l → Kept s (reads l.entries) buffer
+  pub kept : (l : Layout) → c ≡ passes l → Kept s (Some l.entries) buffer

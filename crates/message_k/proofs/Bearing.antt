@@ -1,4 +1,5 @@
 -- The loop over the elements of a message: the entries that the buffer has, by the objects among them. Assumes nothing.
+use Rattle.std.specs.Prelude.{None, Option, Some}
 use Prim.Native.Nat.{ℕ, ◌+◌, ◌≤◌, ◌<◌}
 use mathlib.Core.Path.{◌≡◌, sym, ap, ◌∙◌, subst}
 use mathlib.Core.Bool.{Bool, true, false, true≢false, cond}
@@ -8,8 +9,6 @@ use borrow.Author.Tests.{lt-leb}
 use lib.Dec.{leb}
 use lib.ListN.{length}
 use Rattle.text.specs.Text.{byte_at}
-use Rattle.decimal.specs.Digits.{Reading, reads, refused}
-use Rattle.json_tokens.specs.Tokens.{At}
 use Rattle.json_values.specs.Json.{Span, Pair, Items, items, elements, value}
 use Rattle.json_values.specs.Fold.{fold_from, folded_in}
 use Rattle.json_values.proofs.Fold.{Loop, Left, made, over_elements}
@@ -24,17 +23,17 @@ use Rattle.message_k.specs.declared.Parts.{Parts}
 use Rattle.message_k.proofs.OnePart.{with_outer_of}
 
 -- the elements themselves
-abbrev pub over_spans : List ℕ → Loop Span (List Span) (Reading (List Span))
-over_spans s = over_elements 15 s (λ l a. l ++ (a ∷ [])) (λ e l. reads l) refused
+abbrev pub over_spans : List ℕ → Loop Span (List Span) (Option (List Span))
+over_spans s = over_elements 15 s (λ l a. l ++ (a ∷ [])) (λ e l. Some l) None
 
 abbrev One : List ℕ → Span → Members → List ℕ → Type 0
-One s o t buffer = (ms : List Pair) → object_at 15 s o ≡ reads ms → Tells s (held_in s (reads []) ms) t.tally × Kept s (held_in s (reads []) ms) buffer
+One s o t buffer = (ms : List Pair) → object_at 15 s o ≡ Some ms → Tells s (held_in s (Some []) ms) t.tally × Kept s (held_in s (Some []) ms) buffer
 
 abbrev Two : List ℕ → Span → Span → List ℕ → Type 0
-Two s o q buffer = (ms ns : List Pair) → object_at 15 s o ≡ reads ms → object_at 15 s q ≡ reads ns → Kept s (held_in s (held_in s (reads []) ms) ns) buffer
+Two s o q buffer = (ms ns : List Pair) → object_at 15 s o ≡ Some ms → object_at 15 s q ≡ Some ns → Kept s (held_in s (held_in s (Some []) ms) ns) buffer
 
 abbrev Alone : List ℕ → Span → Span → List ℕ → Type 0
-Alone s o q buffer = (byte_at s q.from ≡ 123 → ⊥) → (ms : List Pair) → object_at 15 s o ≡ reads ms → Kept s (held_in s (reads []) ms) buffer
+Alone s o q buffer = (byte_at s q.from ≡ 123 → ⊥) → (ms : List Pair) → object_at 15 s o ≡ Some ms → Kept s (held_in s (Some []) ms) buffer
 
 -- what the buffer has after elements
 pub data Bears (s : List ℕ) (t : Parts) (i : ℕ) (buffer : List ℕ) : List Span → Type 0 where
@@ -87,7 +86,7 @@ module _ (s : List ℕ) (t : Parts) (at : ℕ) (before after : List ℕ) (t' : P
         other = λ y z. b;
       }
 
-module _ {s : List ℕ} {t t' : Parts} {at past : ℕ} {before after : List ℕ} (m : Moved s t at before after t' past) (v : value 15 s at ≡ At past) (some : at < past)
+module _ {s : List ℕ} {t t' : Parts} {at past : ℕ} {before after : List ℕ} (m : Moved s t at before after t' past) (v : value 15 s at ≡ Some past) (some : at < past)
     (u : Outer) (h : u ≡ with_outer s t.outer (record { from = at; to = past })) (j : ℕ) (on : past ≤ j) where
   abbrev a : Span
   a = record { from = at; to = past }
@@ -115,17 +114,17 @@ module _ {s : List ℕ} {t t' : Parts} {at past : ℕ} {before after : List ℕ}
       let e = m.ends z in
       let few = o.few (λ y. omega arith) in
       two-elements n a (counts ∙ ap up_to_six z ∙ up 1 (omega arith)) (omega arith)
-      (λ ms g. o.kept past v ms g (reads []) (tells_none s) (kept-none s before r))
+      (λ ms g. o.kept past v ms g (Some []) (tells_none s) (kept-none s before r))
   bears-next r (two-elements n o z few one) =
       let w = m.two z in
       more-elements n o a [] (let c = counts ∙ ap up_to_six z ∙ up 2 (omega arith) in omega arith)
-      (λ b ms g. subst (λ (x : List ℕ). Kept s (held_in s (reads []) ms) x) (sym (w.same b)) (one ms g).1)
-      (λ ms ns g k. let p = one ms g in (w.kept past v ns k (held_in s (reads []) ms) p.0 p.1).1)
+      (λ b ms g. subst (λ (x : List ℕ). Kept s (held_in s (Some []) ms) x) (sym (w.same b)) (one ms g).1)
+      (λ ms ns g k. let p = one ms g in (w.kept past v ns k (held_in s (Some []) ms) p.0 p.1).1)
   bears-next r (more-elements n o q l z alone two) =
       let e = m.other (λ y. omega arith) (λ y. omega arith) in
       more-elements n o q (l ++ (a ∷ [])) (let c = counts in let k = up_more t.outer.count z in omega arith)
-      (λ b ms g. subst (λ (x : List ℕ). Kept s (held_in s (reads []) ms) x) (sym e) (alone b ms g))
-      (λ ms ns g k. subst (λ (x : List ℕ). Kept s (held_in s (held_in s (reads []) ms) ns) x) (sym e) (two ms ns g k))
+      (λ b ms g. subst (λ (x : List ℕ). Kept s (held_in s (Some []) ms) x) (sym e) (alone b ms g))
+      (λ ms ns g k. subst (λ (x : List ℕ). Kept s (held_in s (held_in s (Some []) ms) ns) x) (sym e) (two ms ns g k))
 
 -- the first object was told in what lies before i
 pub bears-few : {s : List ℕ} {t : Parts} {i : ℕ} {buffer : List ℕ} {done : List Span} → t.outer.count ≡ 2 → Bears s t i buffer done → met t.one.tally ≤ i
@@ -161,7 +160,7 @@ module _ {s : List ℕ} {t : Parts} {i : ℕ} {buffer : List ℕ} where
 abbrev pub over_parts : List ℕ → Loop Span Parts Parts
 over_parts s = over_elements 15 s (with_part s) ended_at (no_parts 0)
 
-abbrev pub all_spans : List ℕ → Items Span → Reading (List Span)
+abbrev pub all_spans : List ℕ → Items Span → Option (List Span)
 all_spans s x = made (over_spans s) [] x
 
 pub record Running (s : List ℕ) (at : ℕ) (t : Parts) (i : ℕ) (buffer : List ℕ) : Type 0 where
@@ -177,18 +176,18 @@ unfolding fold_from
 snoc-all done [] = sym (append-nil done)
 snoc-all done (a ∷ l) = snoc-all (done ++ (a ∷ [])) l ∙ append_assoc done (a ∷ []) l
 
-no_reads : {A B : Type 0} {b : B} → ◌≡◌ {A = Reading B} refused (reads b) → A
-no_reads {A} {B} h = absurd (true≢false (sym (ap (λ (y : Reading B). elim y [ reads k ↦ true | refused ↦ false ]) h)))
+no_reads : {A B : Type 0} {b : B} → ◌≡◌ {A = Option B} None (Some b) → A
+no_reads {A} {B} h = absurd (true≢false (sym (ap (λ (y : Option B). elim y [ Some k ↦ true | None ↦ false ]) h)))
 
-same_reads : {B : Type 0} {a b : B} → ◌≡◌ {A = Reading B} (reads a) (reads b) → a ≡ b
-same_reads {B} {a} h = ap (λ (y : Reading B). elim y [ reads k ↦ k | refused ↦ a ]) h
+same_reads : {B : Type 0} {a b : B} → ◌≡◌ {A = Option B} (Some a) (Some b) → a ≡ b
+same_reads {B} {a} h = ap (λ (y : Option B). elim y [ Some k ↦ k | None ↦ a ]) h
 
 module _ (s : List ℕ) (x : Items Span) (buffer : List ℕ) (room : length buffer ≡ 600) (r : Parts) (told : r ≡ parts_in s x) where
-  spans-are : (l : List Span) (e : ℕ) → x ≡ items l e → all_spans s x ≡ reads l
+  spans-are : (l : List Span) (e : ℕ) → x ≡ items l e → all_spans s x ≡ Some l
   unfolding folded_in
-  spans-are l e h = ap (all_spans s) h ∙ ap reads (snoc-all [] l)
+  spans-are l e h = ap (all_spans s) h ∙ ap Some (snoc-all [] l)
 
-  pub parts-broken : refused ≡ all_spans s x → PartsRead s x buffer r
+  pub parts-broken : None ≡ all_spans s x → PartsRead s x buffer r
   parts-broken h =
       record {
         told = told;
@@ -197,7 +196,7 @@ module _ (s : List ℕ) (x : Items Span) (buffer : List ℕ) (room : length buff
         five = λ n o k c p e q ms ns g w. no_reads (h ∙ spans-are (n ∷ (o ∷ (k ∷ (c ∷ (p ∷ []))))) e q);
       }
 
-  pub parts-read : (done : List Span) → reads done ≡ all_spans s x → {t : Parts} {i : ℕ} → Bears s t i buffer done → PartsRead s x buffer r
+  pub parts-read : (done : List Span) → Some done ≡ all_spans s x → {t : Parts} {i : ℕ} → Bears s t i buffer done → PartsRead s x buffer r
   parts-read done h bears =
       record {
         told = told;

@@ -1,4 +1,5 @@
 -- The loop over the members of an object: what was told, and the entries that the buffer has. Assumes nothing.
+use Rattle.std.specs.Prelude.{None, Option, Some}
 use Prim.Native.Nat.{ℕ, ◌+◌, ◌≤◌}
 use mathlib.Core.Path.{◌≡◌, refl, sym, ap, ◌∙◌, subst}
 use mathlib.Core.Bool.{true, false, true≢false}
@@ -7,8 +8,7 @@ use native.Mathlib.Omega.{arith}
 use borrow.Author.Tests.{eq-eqb, ne_eqb}
 use lib.ListN.{length}
 use Rattle.text.specs.Text.{byte_at}
-use Rattle.decimal.specs.Digits.{Reading, reads, refused}
-use Rattle.json_tokens.specs.Tokens.{At, separator, closing}
+use Rattle.json_tokens.specs.Tokens.{separator, closing}
 use Rattle.json_tokens.specs.Ends.{end_of}
 use Rattle.json_tokens.proofs.Bounds.{bounds}
 use Rattle.json_values.specs.Json.{Pair, Items, items, no_items, member, members, value}
@@ -26,34 +26,34 @@ use Rattle.message_k.proofs.Objects.{object-end}
 abbrev pub over_told : List ℕ → Loop Pair Members Members
 over_told s = over_members 14 s (with_member s) closed_at (no_members 0)
 
-abbrev pub over_held : List ℕ → Loop Pair (Reading (List Entry)) (Reading (List Entry))
-over_held s = over_members 14 s (with_held s) (λ e x. x) refused
+abbrev pub over_held : List ℕ → Loop Pair (Option (List Entry)) (Option (List Entry))
+over_held s = over_members 14 s (with_held s) (λ e x. x) None
 
-no_reads : {A B : Type 0} {b : B} → ◌≡◌ {A = Reading B} refused (reads b) → A
-no_reads {A} {B} h = absurd (true≢false (sym (ap (λ (y : Reading B). elim y [ reads k ↦ true | refused ↦ false ]) h)))
+no_reads : {A B : Type 0} {b : B} → ◌≡◌ {A = Option B} None (Some b) → A
+no_reads {A} {B} h = absurd (true≢false (sym (ap (λ (y : Option B). elim y [ Some k ↦ true | None ↦ false ]) h)))
 
-same_reads : {B : Type 0} {a b : B} → ◌≡◌ {A = Reading B} (reads a) (reads b) → a ≡ b
-same_reads {B} {a} h = ap (λ (y : Reading B). elim y [ reads k ↦ k | refused ↦ a ]) h
+same_reads : {B : Type 0} {a b : B} → ◌≡◌ {A = Option B} (Some a) (Some b) → a ≡ b
+same_reads {B} {a} h = ap (λ (y : Option B). elim y [ Some k ↦ k | None ↦ a ]) h
 
 -- what all members of the object at `at` hold, after x
-abbrev pub held_all : List ℕ → Reading (List Entry) → ℕ → Reading (List Entry)
+abbrev pub held_all : List ℕ → Option (List Entry) → ℕ → Option (List Entry)
 held_all s x at = made (over_held s) x (members (value 14 s) s (at + 1))
 
 module _ (s : List ℕ) (at : ℕ) where
-  pub held-total : byte_at s at ≡ 123 → (e : ℕ) (ms : List Pair) → object_at 15 s (record { from = at; to = e }) ≡ reads ms → (x : Reading (List Entry)) → held_all s x at ≡ held_in s x ms
+  pub held-total : byte_at s at ≡ 123 → (e : ℕ) (ms : List Pair) → object_at 15 s (record { from = at; to = e }) ≡ Some ms → (x : Option (List Entry)) → held_all s x at ≡ held_in s x ms
   unfolding object_at folded_in contents
   held-total h e ms g x = go (members (value 14 s) s (at + 1)) (rw (eq-eqb (byte_at s at) 123 h) at g)
     where
-      go : (y : Items Pair) → contents y ≡ reads ms → folded_in (with_held s) (λ e x. x) refused x y ≡ held_in s x ms
+      go : (y : Items Pair) → contents y ≡ Some ms → folded_in (with_held s) (λ e x. x) None x y ≡ held_in s x ms
       go (items l k) q = ap (fold_from (with_held s) x) (same_reads q)
       go no_items q = no_reads q
 
-  pub no-object-read : (byte_at s at ≡ 123 → ⊥) → (e : ℕ) (ms : List Pair) → {A : Type 0} → object_at 15 s (record { from = at; to = e }) ≡ reads ms → A
+  pub no-object-read : (byte_at s at ≡ 123 → ⊥) → (e : ℕ) (ms : List Pair) → {A : Type 0} → object_at 15 s (record { from = at; to = e }) ≡ Some ms → A
   unfolding object_at
   no-object-read h e ms g = no_reads (rw (ne_eqb (byte_at s at) 123 h) at g)
 
 -- r was told of a value that is not JSON
-pub not-json : (s : List ℕ) (t : Members) (at : ℕ) → no_members 0 ≡ members_at s t at → (e : ℕ) → {A : Type 0} → value 15 s at ≡ At e → A
+pub not-json : (s : List ℕ) (t : Members) (at : ℕ) → no_members 0 ≡ members_at s t at → (e : ℕ) → {A : Type 0} → value 15 s at ≡ Some e → A
 unfolding end_of
 not-json s t at h e v =
     let b = bounds e (value_in 15 s at) v in
@@ -61,8 +61,8 @@ not-json s t at h e v =
     absurd (omega arith)
 
 -- x was read so far, of `all` in the end
-pub record Holding (s : List ℕ) (u : Tally) (i : ℕ) (buffer : List ℕ) (all : Reading (List Entry)) : Type 0 where
-  pub x : Reading (List Entry)
+pub record Holding (s : List ℕ) (u : Tally) (i : ℕ) (buffer : List ℕ) (all : Option (List Entry)) : Type 0 where
+  pub x : Option (List Entry)
   pub left : Left (over_held s) x i all
   pub tells : Tells s x u
   pub kept : Kept s x buffer
@@ -72,36 +72,36 @@ pub record Going (s : List ℕ) (at : ℕ) (t₀ : Members) (first : List ℕ) (
   pub told : Left (over_told s) t i (members_at s t₀ at)
   pub few : met t.tally ≤ i
   pub room : length buffer ≡ 600
-  pub holding : (x₀ : Reading (List Entry)) → Tells s x₀ t₀.tally → Kept s x₀ first → Holding s t.tally i buffer (held_all s x₀ at)
+  pub holding : (x₀ : Option (List Entry)) → Tells s x₀ t₀.tally → Kept s x₀ first → Holding s t.tally i buffer (held_all s x₀ at)
 
 pub going-as : {s : List ℕ} {at : ℕ} {t₀ : Members} {first : List ℕ} {t r : Members} {i : ℕ} {buffer : List ℕ} → r ≡ t → Going s at t₀ first t i buffer → Going s at t₀ first r i buffer
 going-as {s} {at} {t₀} {first} {t} {r} {i} {buffer} e g = subst (λ (x : Members). Going s at t₀ first x i buffer) (sym e) g
 
 -- the value of a member of the object was read
 module _ {s : List ℕ} {t : Members} {i k j : ℕ} {before after : List ℕ} {r : Members}
-    (h : MemberRead s t (record { from = i; to = k }) j before after r) (v : value 14 s j ≡ At r.end) where
+    (h : MemberRead s t (record { from = i; to = k }) j before after r) (v : value 14 s j ≡ Some r.end) where
   abbrev here : Pair
   here = record { name = record { from = i; to = k }; value = record { from = j; to = r.end } }
 
-  module _ {all : Reading (List Entry)} (g : Holding s t.tally i before all) (stands : Stands (member (value 14 s) s) s i here r.end) (l : ℕ) where
+  module _ {all : Option (List Entry)} (g : Holding s t.tally i before all) (stands : Stands (member (value 14 s) s) s i here r.end) (l : ℕ) where
     next : Tells s (with_held s g.x here) r.tally × Kept s (with_held s g.x here) after
     next = h.added.kept r.end v g.x g.tells g.kept
 
   -- a comma follows
-  pub holding-on : {all : Reading (List Entry)} → Holding s t.tally i before all → Stands (member (value 14 s) s) s i here r.end
+  pub holding-on : {all : Option (List Entry)} → Holding s t.tally i before all → Stands (member (value 14 s) s) s i here r.end
       → (l : ℕ) → l ≡ end_of (separator 44 s r.end) → (l ≡ 0 → ⊥) → Holding s r.tally l after all
   holding-on g stands l c n =
       let q = next g stands l in
       record { x = with_held s g.x here; left = fold_on (over_held s) g.x g.left stands l c n refl; tells = q.0; kept = q.1 }
 
   -- the object ends
-  pub holding-last : {all : Reading (List Entry)} → Holding s t.tally i before all → Stands (member (value 14 s) s) s i here r.end
+  pub holding-last : {all : Option (List Entry)} → Holding s t.tally i before all → Stands (member (value 14 s) s) s i here r.end
       → (l : ℕ) → l ≡ end_of (separator 44 s r.end) → l ≡ 0 → (u : ℕ) → u ≡ end_of (closing 125 s r.end) → (u ≡ 0 → ⊥)
       → Tells s all r.tally × Kept s all after
   holding-last {all} g stands l c z u y n =
       let q = next g stands l in
       let e : with_held s g.x here ≡ all = fold-last (over_held s) g.x g.left stands l c z u y n refl in
-      (subst (λ (x : Reading (List Entry)). Tells s x r.tally) e q.0, subst (λ (x : Reading (List Entry)). Kept s x after) e q.1)
+      (subst (λ (x : Option (List Entry)). Tells s x r.tally) e q.0, subst (λ (x : Option (List Entry)). Kept s x after) e q.1)
 
 -- ---- what was read of the value at `at`
 module _ (s : List ℕ) (t : Members) (at : ℕ) (before : List ℕ) (r : Members) where
@@ -127,7 +127,7 @@ module _ (s : List ℕ) (t : Members) (at : ℕ) (before : List ℕ) (r : Member
         }
 
     pub object-read : r ≡ members_at s t at → met r.tally ≤ r.end
-        → ((x : Reading (List Entry)) → Tells s x t.tally → Kept s x before → Tells s (held_all s x at) r.tally × Kept s (held_all s x at) after) → ObjectRead s t at before after r
+        → ((x : Option (List Entry)) → Tells s x t.tally → Kept s x before → Tells s (held_all s x at) r.tally × Kept s (held_all s x at) after) → ObjectRead s t at before after r
     object-read told few kept =
         record {
           told = told;
@@ -137,5 +137,5 @@ module _ (s : List ℕ) (t : Members) (at : ℕ) (before : List ℕ) (r : Member
           kept = λ k v ms g x w y.
               let p = kept x w y in
               let q = held-total s at h k ms g x in
-              (subst (λ (z : Reading (List Entry)). Tells s z r.tally) q p.0, subst (λ (z : Reading (List Entry)). Kept s z after) q p.1);
+              (subst (λ (z : Option (List Entry)). Tells s z r.tally) q p.0, subst (λ (z : Option (List Entry)). Kept s z after) q p.1);
         }

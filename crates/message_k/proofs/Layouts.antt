@@ -1,5 +1,6 @@
 -- Check 6 by what is told of the objects is check 6 of the objects.
 -- Assumes nothing.
+use Rattle.std.specs.Prelude.{None, Option, Some}
 use mathlib.Core.Path.{◌≡◌, refl, sym, ap, ◌∙◌, subst}
 use mathlib.Core.List.{List, [], ◌∷◌, ◌++◌, append-nil}
 use mathlib.Core.Bool.{Bool, true, false, true≢false, ◌&&◌, ◌||◌, cond, and-eq-true_iff}
@@ -9,7 +10,6 @@ use lib.Dec.{leb, ltb, eqb}
 use lib.ListN.{length, length-append}
 use borrow.Author.Tests.{eqb-true, leb-true}
 use Rattle.text.specs.Text.{ascii}
-use Rattle.decimal.specs.Digits.{Reading, reads, refused}
 use Rattle.edit.specs.declared.Side.TheVariants.{Bids, Asks}
 use Rattle.json_values.specs.Json.{Span, Pair}
 use Rattle.json_values.specs.Names.{means}
@@ -30,8 +30,8 @@ use Rattle.message_k.specs.declared.Members.{Members}
 use Rattle.message_k.proofs.Counts.{few-zero, few-one, few-most, few-some, few-rises, some_or, none-and, once_last, and-on}
 use Rattle.message_k.proofs.Tells.{sums_of, Tells, values-append, snapshot-asks-count, snapshot-bids-count, asks-count, bids-count, checksum-count}
 
-no-layout : {A : Type 0} {l : Layout} → ◌≡◌ {A = Reading Layout} refused (reads l) → A
-no-layout h = absurd (true≢false (sym (ap (λ (y : Reading Layout). elim y [ reads k ↦ true | refused ↦ false ]) h)))
+no-layout : {A : Type 0} {l : Layout} → ◌≡◌ {A = Option Layout} None (Some l) → A
+no-layout h = absurd (true≢false (sym (ap (λ (y : Option Layout). elim y [ Some k ↦ true | None ↦ false ]) h)))
 
 pub both_true : (a b : Bool) → (a && b) ≡ true → (a ≡ true) × (b ≡ true)
 both_true a b h = (and-eq-true_iff a b).0 h
@@ -56,18 +56,18 @@ module _ (s other-bids other-asks bids asks : List ℕ)
       go true g = absurd (omega arith)
       go false g = (refl, g)
 
-  one-held : (x : Reading (List Entry)) (m : Pair) → means s m.name other-bids ≡ false → means s m.name other-asks ≡ false
+  one-held : (x : Option (List Entry)) (m : Pair) → means s m.name other-bids ≡ false → means s m.name other-asks ≡ false
       → with_held s x m ≡ and_also x (member_entries Triple 14 s bids asks m)
   unfolding with_held member_entries
   one-held x m h g = rw (is-bids m.name h, is-asks m.name g) (go (means s m.name bids) (means s m.name asks))
     where
       go : (b a : Bool) → cond b (and_also x (sided_at Bids Triple 14 s m.value)) (cond a (and_also x (sided_at Asks Triple 14 s m.value)) x)
-          ≡ and_also x (cond b (sided_at Bids Triple 14 s m.value) (cond a (sided_at Asks Triple 14 s m.value) (reads [])))
+          ≡ and_also x (cond b (sided_at Bids Triple 14 s m.value) (cond a (sided_at Asks Triple 14 s m.value) (Some [])))
       go true a = refl
       go false true = refl
       go false false = sym (also-none x)
 
-  pub held-are : (x : Reading (List Entry)) (ms : List Pair) → times s other-bids ms ≡ 0 → times s other-asks ms ≡ 0
+  pub held-are : (x : Option (List Entry)) (ms : List Pair) → times s other-bids ms ≡ 0 → times s other-asks ms ≡ 0
       → held_in s x ms ≡ and_also x (entries_in Triple 14 s bids asks ms)
   unfolding fold_from entries_in
   held-are x [] h g = sym (also-none x)
@@ -75,19 +75,19 @@ module _ (s other-bids other-asks bids asks : List ℕ)
       let p = absent other-bids m ms h in
       let q = absent other-asks m ms g in
       held-are (with_held s x m) ms p.1 q.1
-      ∙ ap (λ (y : Reading (List Entry)). and_also y (entries_in Triple 14 s bids asks ms)) (one-held x m p.0 q.0)
+      ∙ ap (λ (y : Option (List Entry)). and_also y (entries_in Triple 14 s bids asks ms)) (one-held x m p.0 q.0)
       ∙ also-assoc x (member_entries Triple 14 s bids asks m) (entries_in Triple 14 s bids asks ms)
 
 module _ (s : List ℕ) (ms : List Pair) where
-  pub snapshot-held : times s (ascii "b") ms ≡ 0 → times s (ascii "a") ms ≡ 0 → held_in s (reads []) ms ≡ entries_in Triple 14 s (ascii "bs") (ascii "as") ms
+  pub snapshot-held : times s (ascii "b") ms ≡ 0 → times s (ascii "a") ms ≡ 0 → held_in s (Some []) ms ≡ entries_in Triple 14 s (ascii "bs") (ascii "as") ms
   unfolding is_bids is_asks
   snapshot-held h g =
-      held-are s (ascii "b") (ascii "a") (ascii "bs") (ascii "as") (λ a k. rw k) (λ a k. rw k) (reads []) ms h g ∙ none-also (entries_in Triple 14 s (ascii "bs") (ascii "as") ms)
+      held-are s (ascii "b") (ascii "a") (ascii "bs") (ascii "as") (λ a k. rw k) (λ a k. rw k) (Some []) ms h g ∙ none-also (entries_in Triple 14 s (ascii "bs") (ascii "as") ms)
 
-  pub update-held : times s (ascii "bs") ms ≡ 0 → times s (ascii "as") ms ≡ 0 → held_in s (reads []) ms ≡ entries_in Triple 14 s (ascii "b") (ascii "a") ms
+  pub update-held : times s (ascii "bs") ms ≡ 0 → times s (ascii "as") ms ≡ 0 → held_in s (Some []) ms ≡ entries_in Triple 14 s (ascii "b") (ascii "a") ms
   unfolding is_bids is_asks
   update-held h g =
-      held-are s (ascii "bs") (ascii "as") (ascii "b") (ascii "a") (λ a k. rw k (or-false (means s a (ascii "b")))) (λ a k. rw k (or-false (means s a (ascii "a")))) (reads []) ms h g
+      held-are s (ascii "bs") (ascii "as") (ascii "b") (ascii "a") (λ a k. rw k (or-false (means s a (ascii "b")))) (λ a k. rw k (or-false (means s a (ascii "a")))) (Some []) ms h g
       ∙ none-also (entries_in Triple 14 s (ascii "b") (ascii "a") ms)
 
 -- ---- the layout
@@ -116,8 +116,8 @@ module _ (s : List ℕ) (objects : List (List Pair)) where
       (omega arith, omega arith, eqb-true _ 1 c.0)
 
   -- the entries of its layout are all that the members hold
-  abbrev all_held : Reading (List Entry)
-  all_held = held_in s (reads []) (together objects)
+  abbrev all_held : Option (List Entry)
+  all_held = held_in s (Some []) (together objects)
 
   snapshot-entries : is_snapshot s objects ≡ true → all_held ≡ entries_k s (ascii "bs") (ascii "as") objects
   unfolding entries_k
@@ -127,23 +127,23 @@ module _ (s : List ℕ) (objects : List (List Pair)) where
   unfolding entries_k
   update-entries g = let n = update-none g in update-held s (together objects) n.0 n.1
 
-  pub layout-held : (l : Layout) → objects_layout s objects ≡ reads l → all_held ≡ reads l.entries
+  pub layout-held : (l : Layout) → objects_layout s objects ≡ Some l → all_held ≡ Some l.entries
   unfolding objects_layout and_then
   layout-held l h = go (is_snapshot s objects) refl (is_update s objects) refl h
     where
-      as-update : (x : Reading Span) → and_then x (λ c. and_then (quoted_checksum_at s c) (λ sum. laid Update (printed sum) 0 (entries_k s (ascii "b") (ascii "a") objects))) ≡ reads l
-          → entries_k s (ascii "b") (ascii "a") objects ≡ reads l.entries
-      as-update refused g = no-layout g
-      as-update (reads c) g = at (quoted_checksum_at s c) g
+      as-update : (x : Option Span) → and_then x (λ c. and_then (quoted_checksum_at s c) (λ sum. laid Update (printed sum) 0 (entries_k s (ascii "b") (ascii "a") objects))) ≡ Some l
+          → entries_k s (ascii "b") (ascii "a") objects ≡ Some l.entries
+      as-update None g = no-layout g
+      as-update (Some c) g = at (quoted_checksum_at s c) g
         where
-          at : (y : Reading ℕ) → and_then y (λ sum. laid Update (printed sum) 0 (entries_k s (ascii "b") (ascii "a") objects)) ≡ reads l → entries_k s (ascii "b") (ascii "a") objects ≡ reads l.entries
-          at (reads sum) k = laid-entries Update (printed sum) 0 (entries_k s (ascii "b") (ascii "a") objects) l k
-          at refused k = no-layout k
+          at : (y : Option ℕ) → and_then y (λ sum. laid Update (printed sum) 0 (entries_k s (ascii "b") (ascii "a") objects)) ≡ Some l → entries_k s (ascii "b") (ascii "a") objects ≡ Some l.entries
+          at (Some sum) k = laid-entries Update (printed sum) 0 (entries_k s (ascii "b") (ascii "a") objects) l k
+          at None k = no-layout k
 
       go : (x : Bool) → is_snapshot s objects ≡ x → (y : Bool) → is_update s objects ≡ y
           → cond x (laid Snapshot unprinted 0 (entries_k s (ascii "bs") (ascii "as") objects))
-          (cond y (and_then (only (values_of s (ascii "c") (together objects))) (λ c. and_then (quoted_checksum_at s c) (λ sum. laid Update (printed sum) 0 (entries_k s (ascii "b") (ascii "a") objects)))) refused)
-          ≡ reads l → all_held ≡ reads l.entries
+          (cond y (and_then (only (values_of s (ascii "c") (together objects))) (λ c. and_then (quoted_checksum_at s c) (λ sum. laid Update (printed sum) 0 (entries_k s (ascii "b") (ascii "a") objects)))) None)
+          ≡ Some l → all_held ≡ Some l.entries
       go true p y q g = snapshot-entries p ∙ laid-entries Snapshot unprinted 0 (entries_k s (ascii "bs") (ascii "as") objects) l g
       go false p true q g = update-entries q ∙ as-update (only (values_of s (ascii "c") (together objects))) g
       go false p false q g = no-layout g
@@ -154,17 +154,17 @@ module _ (s : List ℕ) (objects : List (List Pair)) where
     snapshot-laid g update =
         rw g
         (outline-of s Snapshot unprinted 0 (entries_k s (ascii "bs") (ascii "as") objects) t.tally
-        (subst (λ (x : Reading (List Entry)). tallies·.Tells s x t.tally) (snapshot-entries g) h.entries))
+        (subst (λ (x : Option (List Entry)). tallies·.Tells s x t.tally) (snapshot-entries g) h.entries))
 
     -- the one `c`
-    sum_laid : is_update s objects ≡ true → (x : Reading ℕ)
+    sum_laid : is_update s objects ≡ true → (x : Option ℕ)
         → cond (is_read x) (outline_from Update t.tally true (or_zero x) 0) no_outline
         ≡ outline_of s (and_then x (λ sum. laid Update (printed sum) 0 (entries_k s (ascii "b") (ascii "a") objects)))
     unfolding is_read or_zero and_then is_printed sum_of outline_of
-    sum_laid g (reads n) =
+    sum_laid g (Some n) =
         outline-of s Update (printed n) 0 (entries_k s (ascii "b") (ascii "a") objects) t.tally
-        (subst (λ (x : Reading (List Entry)). tallies·.Tells s x t.tally) (update-entries g) h.entries)
-    sum_laid g refused = refl
+        (subst (λ (x : Option (List Entry)). tallies·.Tells s x t.tally) (update-entries g) h.entries)
+    sum_laid g None = refl
 
     one-sum : is_update s objects ≡ true → (l : List Span) → length l ≡ 1 → t.checksum ≡ sums_of s l
         → outline_by false true t

@@ -1,5 +1,6 @@
 -- What is told of the elements is what the message is.
 -- Assumes nothing.
+use Rattle.std.specs.Prelude.{None, Option, Some, ℕ}
 use mathlib.Core.Path.{◌≡◌, refl, sym, ap, ◌∙◌, subst}
 use mathlib.Core.List.{List, [], ◌∷◌, ◌++◌, append-nil}
 use mathlib.Core.Bool.{true, false, true≢false, cond}
@@ -8,9 +9,8 @@ use native.Mathlib.Omega.{arith}
 use lib.Dec.{eqb}
 use borrow.Author.Tests.{eq-eqb, ne_eqb}
 use Rattle.text.specs.Text.{ascii}
-use Rattle.decimal.specs.Digits.{Reading, reads, refused, written}
+use Rattle.decimal.specs.Digits.{written}
 use Rattle.text.specs.Text.{byte_at}
-use Rattle.json_tokens.specs.Tokens.{End, At, Broken}
 use Rattle.json_tokens.specs.Ends.{end_of}
 use Rattle.json_values.specs.Json.{Span, Pair, Items, items, no_items, items_end, elements, value}
 use Rattle.json_values.proofs.Laws.{value-array}
@@ -37,25 +37,25 @@ module _ (s : List ℕ) where
   told_of : (e : ℕ) (ms : List Pair) → Tells s (closed_at e (fold_from (with_member s) (no_members 0) ms)) ms
   told_of e ms = tells-on s (no_members 0) [] ms e (tells_none s 0)
 
-  one-laid : (w : Reading ℕ) (e : ℕ) (x : Reading (List Pair))
-      → one_object (is_read w) (members_of s (no_members 0) e x) ≡ outline_of s (and_then w (λ n. and_then (and_then x (λ b. reads (b ∷ []))) (objects_layout s)))
+  one-laid : (w : Option ℕ) (e : ℕ) (x : Option (List Pair))
+      → one_object (is_read w) (members_of s (no_members 0) e x) ≡ outline_of s (and_then w (λ n. and_then (and_then x (λ b. Some (b ∷ []))) (objects_layout s)))
   unfolding and_then is_read members_of outline_of
-  one-laid refused e x = sym (one-no-whole false (members_of s (no_members 0) e x) refl)
-  one-laid (reads n) e refused = sym (one-no-object true (no_members e) refl refl)
-  one-laid (reads n) e (reads ms) =
+  one-laid None e x = sym (one-no-whole false (members_of s (no_members 0) e x) refl)
+  one-laid (Some n) e None = sym (one-no-object true (no_members e) refl refl)
+  one-laid (Some n) e (Some ms) =
       let t = closed_at e (fold_from (with_member s) (no_members 0) ms) in
       let h = told_of e ms in
       sym (one-is true t refl refl)
       ∙ objects-laid s (ms ∷ []) t (tells-alone s ms t h) _ _ (one-snapshot s ms t h) (one-update s ms t h)
 
-  two-laid : (w : Reading ℕ) (e k : ℕ) (x y : Reading (List Pair))
+  two-laid : (w : Option ℕ) (e k : ℕ) (x y : Option (List Pair))
       → two_objects (is_read w) (members_of s (no_members 0) e x) (members_of s (members_of s (no_members 0) e x) k y)
-      ≡ outline_of s (and_then w (λ n. and_then (and_then x (λ b. and_then (and_then y (λ c. reads (c ∷ []))) (λ bs. reads (b ∷ bs)))) (objects_layout s)))
+      ≡ outline_of s (and_then w (λ n. and_then (and_then x (λ b. and_then (and_then y (λ c. Some (c ∷ []))) (λ bs. Some (b ∷ bs)))) (objects_layout s)))
   unfolding and_then is_read members_of outline_of
-  two-laid refused e k x y = sym (two-not false (members_of s (no_members 0) e x) (members_of s (members_of s (no_members 0) e x) k y) refl)
-  two-laid (reads n) e k refused y = sym (two-not true (no_members e) (members_of s (no_members e) k y) refl)
-  two-laid (reads n) e k (reads ms) refused = sym (two-not true (closed_at e (fold_from (with_member s) (no_members 0) ms)) (no_members k) refl)
-  two-laid (reads n) e k (reads ms) (reads ns) =
+  two-laid None e k x y = sym (two-not false (members_of s (no_members 0) e x) (members_of s (members_of s (no_members 0) e x) k y) refl)
+  two-laid (Some n) e k None y = sym (two-not true (no_members e) (members_of s (no_members e) k y) refl)
+  two-laid (Some n) e k (Some ms) None = sym (two-not true (closed_at e (fold_from (with_member s) (no_members 0) ms)) (no_members k) refl)
+  two-laid (Some n) e k (Some ms) (Some ns) =
       let t = closed_at e (fold_from (with_member s) (no_members 0) ms) in
       let u = closed_at k (fold_from (with_member s) t ns) in
       let h = told_of e ms in
@@ -94,8 +94,8 @@ module _ (depth : ℕ) (name s : List ℕ) where
   six-told : (p : Parts) → p.outer.count ≡ 6 → (l : List Span) (e : ℕ) → told_by (ended_at e (fold_from (with_part s) p l)) ≡ not_framed e
   six-told p h l e = let n = six p h l in sym (told-other (ended_at e (fold_from (with_part s) p l)) (λ z. omega arith) (λ z. omega arith))
 
-  abbrev hear : Frame → Reading Envelope
-  hear f = reads (record { ours = ours_k depth name s f; layout = layout_k s f })
+  abbrev hear : Frame → Option Envelope
+  hear f = Some (record { ours = ours_k depth name s f; layout = layout_k s f })
 
   told-list : (l : List Span) (e : ℕ) → told_by (ended_at e (fold_from (with_part s) (no_parts 0) l)) ≡ scan_of s e (and_then (frame_of l) hear)
   unfolding told_by fold_from with_part with_outer up_to_six frame_of and_then scan_of ours_k ours_by layout_k all
@@ -116,72 +116,72 @@ module _ (depth : ℕ) (name s : List ℕ) where
         none : (e : ℕ) → scan_of s e (envelope_k depth name s (record { from = at; to = e })) ≡ not_framed e
         none e = rw (ne_eqb (byte_at s at) 91 h)
 
-        go : (x : End) → not_framed (end_of x) ≡ elim x [ At e ↦ scan_of s e (envelope_k depth name s (record { from = at; to = e })) | Broken ↦ scan_of s 0 refused ]
-        go (At e) = sym (none e)
-        go Broken = refl
+        go : (x : Option ℕ) → not_framed (end_of x) ≡ elim x [ Some e ↦ scan_of s e (envelope_k depth name s (record { from = at; to = e })) | None ↦ scan_of s 0 None ]
+        go (Some e) = sym (none e)
+        go None = refl
 
     pub told_array : byte_at s at ≡ 91 → told_by (parts_in s (elements (value 15 s) s (at + 1))) ≡ scan_at (envelope_k depth name) s at
     unfolding scan_at scan_of items_end envelope_k array_at contents and_then parts_in folded_in told_by
     told_array h =
-        sym (ap (λ (y : End). elim y [ At e ↦ scan_of s e (envelope_k depth name s (record { from = at; to = e })) | Broken ↦ scan_of s 0 refused ]) (value-array s at 15 h)
+        sym (ap (λ (y : Option ℕ). elim y [ Some e ↦ scan_of s e (envelope_k depth name s (record { from = at; to = e })) | None ↦ scan_of s 0 None ]) (value-array s at 15 h)
         ∙ go (elements (value 15 s) s (at + 1)) refl)
       where
         held : (e : ℕ) → envelope_k depth name s (record { from = at; to = e }) ≡ and_then (and_then (contents (elements (value 15 s) s (at + 1))) frame_of) hear
         held e = rw (eq-eqb (byte_at s at) 91 h)
 
         go : (x : Items Span) → elements (value 15 s) s (at + 1) ≡ x
-            → elim (items_end x) [ At e ↦ scan_of s e (envelope_k depth name s (record { from = at; to = e })) | Broken ↦ scan_of s 0 refused ] ≡ told_by (parts_in s x)
+            → elim (items_end x) [ Some e ↦ scan_of s e (envelope_k depth name s (record { from = at; to = e })) | None ↦ scan_of s 0 None ] ≡ told_by (parts_in s x)
         go (items l e) q = ap (scan_of s e) (held e ∙ ap (λ y. and_then (and_then (contents y) frame_of) hear) q) ∙ sym (told-list l e)
         go no_items q = refl
 
 -- ---- the entries that the buffer has
-no_reads : {A B : Type 0} {b : B} → ◌≡◌ {A = Reading B} refused (reads b) → A
-no_reads {A} {B} h = absurd (true≢false (sym (ap (λ (y : Reading B). elim y [ reads k ↦ true | refused ↦ false ]) h)))
+no_reads : {A B : Type 0} {b : B} → ◌≡◌ {A = Option B} None (Some b) → A
+no_reads {A} {B} h = absurd (true≢false (sym (ap (λ (y : Option B). elim y [ Some k ↦ true | None ↦ false ]) h)))
 
-same_reads : {B : Type 0} {a b : B} → ◌≡◌ {A = Reading B} (reads a) (reads b) → a ≡ b
-same_reads {B} {a} h = ap (λ (y : Reading B). elim y [ reads k ↦ k | refused ↦ a ]) h
+same_reads : {B : Type 0} {a b : B} → ◌≡◌ {A = Option B} (Some a) (Some b) → a ≡ b
+same_reads {B} {a} h = ap (λ (y : Option B). elim y [ Some k ↦ k | None ↦ a ]) h
 
 -- a string that means a name is no object
 no-object : (s : List ℕ) (a : Span) (name : List ℕ) → means s a name ≡ true → byte_at s a.from ≡ 123 → ⊥
 no-object s a name h b = true≢false (sym h ∙ means-no-quote s a.from a.to name (λ z. let k : ◌≡◌ {A = ℕ} 123 34 = sym b ∙ z in omega arith))
 
 module _ (s : List ℕ) (buffer : List ℕ) (l : Layout) where
-  keeps-one : (ms : List Pair) → objects_layout s (ms ∷ []) ≡ reads l → Kept s (held_in s (reads []) ms) buffer → Kept s (reads l.entries) buffer
+  keeps-one : (ms : List Pair) → objects_layout s (ms ∷ []) ≡ Some l → Kept s (held_in s (Some []) ms) buffer → Kept s (Some l.entries) buffer
   unfolding together
-  keeps-one ms h k = subst (λ (x : Reading (List Entry)). Kept s x buffer) (ap (held_in s (reads [])) (sym (append-nil ms)) ∙ layout-held s (ms ∷ []) l h) k
+  keeps-one ms h k = subst (λ (x : Option (List Entry)). Kept s x buffer) (ap (held_in s (Some [])) (sym (append-nil ms)) ∙ layout-held s (ms ∷ []) l h) k
 
-  keeps-two : (ms ns : List Pair) → objects_layout s (ms ∷ (ns ∷ [])) ≡ reads l → Kept s (held_in s (held_in s (reads []) ms) ns) buffer → Kept s (reads l.entries) buffer
+  keeps-two : (ms ns : List Pair) → objects_layout s (ms ∷ (ns ∷ [])) ≡ Some l → Kept s (held_in s (held_in s (Some []) ms) ns) buffer → Kept s (Some l.entries) buffer
   unfolding together
   keeps-two ms ns h k =
-      subst (λ (x : Reading (List Entry)). Kept s x buffer)
-      (sym (fold-append (with_held s) (reads []) ms ns) ∙ ap (λ (x : List Pair). held_in s (reads []) (ms ++ x)) (sym (append-nil ns)) ∙ layout-held s (ms ∷ (ns ∷ [])) l h) k
+      subst (λ (x : Option (List Entry)). Kept s x buffer)
+      (sym (fold-append (with_held s) (Some []) ms ns) ∙ ap (λ (x : List Pair). held_in s (Some []) (ms ++ x)) (sym (append-nil ns)) ∙ layout-held s (ms ∷ (ns ∷ [])) l h) k
 
-  layout-one : (w : Reading ℕ) (o : Span) → and_then w (λ n. and_then (all (object_at 15 s) (o ∷ [])) (objects_layout s)) ≡ reads l
-      → ((ms : List Pair) → object_at 15 s o ≡ reads ms → Kept s (held_in s (reads []) ms) buffer) → Kept s (reads l.entries) buffer
+  layout-one : (w : Option ℕ) (o : Span) → and_then w (λ n. and_then (all (object_at 15 s) (o ∷ [])) (objects_layout s)) ≡ Some l
+      → ((ms : List Pair) → object_at 15 s o ≡ Some ms → Kept s (held_in s (Some []) ms) buffer) → Kept s (Some l.entries) buffer
   unfolding and_then all
-  layout-one refused o h k = no_reads h
-  layout-one (reads n) o h k = go (object_at 15 s o) refl h
+  layout-one None o h k = no_reads h
+  layout-one (Some n) o h k = go (object_at 15 s o) refl h
     where
-      go : (x : Reading (List Pair)) → object_at 15 s o ≡ x → and_then (and_then x (λ b. reads (b ∷ []))) (objects_layout s) ≡ reads l → Kept s (reads l.entries) buffer
-      go (reads ms) p g = keeps-one ms g (k ms p)
-      go refused p g = no_reads g
+      go : (x : Option (List Pair)) → object_at 15 s o ≡ x → and_then (and_then x (λ b. Some (b ∷ []))) (objects_layout s) ≡ Some l → Kept s (Some l.entries) buffer
+      go (Some ms) p g = keeps-one ms g (k ms p)
+      go None p g = no_reads g
 
-  layout-two : (w : Reading ℕ) (o q : Span) → and_then w (λ n. and_then (all (object_at 15 s) (o ∷ (q ∷ []))) (objects_layout s)) ≡ reads l
-      → ((ms ns : List Pair) → object_at 15 s o ≡ reads ms → object_at 15 s q ≡ reads ns → Kept s (held_in s (held_in s (reads []) ms) ns) buffer) → Kept s (reads l.entries) buffer
+  layout-two : (w : Option ℕ) (o q : Span) → and_then w (λ n. and_then (all (object_at 15 s) (o ∷ (q ∷ []))) (objects_layout s)) ≡ Some l
+      → ((ms ns : List Pair) → object_at 15 s o ≡ Some ms → object_at 15 s q ≡ Some ns → Kept s (held_in s (held_in s (Some []) ms) ns) buffer) → Kept s (Some l.entries) buffer
   unfolding and_then all
-  layout-two refused o q h k = no_reads h
-  layout-two (reads n) o q h k = go (object_at 15 s o) refl (object_at 15 s q) refl h
+  layout-two None o q h k = no_reads h
+  layout-two (Some n) o q h k = go (object_at 15 s o) refl (object_at 15 s q) refl h
     where
-      go : (x : Reading (List Pair)) → object_at 15 s o ≡ x → (y : Reading (List Pair)) → object_at 15 s q ≡ y
-          → and_then (and_then x (λ b. and_then (and_then y (λ c. reads (c ∷ []))) (λ bs. reads (b ∷ bs)))) (objects_layout s) ≡ reads l → Kept s (reads l.entries) buffer
-      go (reads ms) p (reads ns) r g = keeps-two ms ns g (k ms ns p r)
-      go (reads ms) p refused r g = no_reads g
-      go refused p y r g = no_reads g
+      go : (x : Option (List Pair)) → object_at 15 s o ≡ x → (y : Option (List Pair)) → object_at 15 s q ≡ y
+          → and_then (and_then x (λ b. and_then (and_then y (λ c. Some (c ∷ []))) (λ bs. Some (b ∷ bs)))) (objects_layout s) ≡ Some l → Kept s (Some l.entries) buffer
+      go (Some ms) p (Some ns) r g = keeps-two ms ns g (k ms ns p r)
+      go (Some ms) p None r g = no_reads g
+      go None p y r g = no_reads g
 
 module _ (depth : ℕ) (name s : List ℕ) (at : ℕ) (buffer : List ℕ) where
   abbrev Keeps : Type 0
-  Keeps = (e : ℕ) → value 16 s at ≡ At e → (h : Envelope) → envelope_k depth name s (record { from = at; to = e }) ≡ reads h → h.ours ≡ true
-      → (l : Layout) → h.layout ≡ reads l → Kept s (reads l.entries) buffer
+  Keeps = (e : ℕ) → value 16 s at ≡ Some e → (h : Envelope) → envelope_k depth name s (record { from = at; to = e }) ≡ Some h → h.ours ≡ true
+      → (l : Layout) → h.layout ≡ Some l → Kept s (Some l.entries) buffer
 
   pub keeps-other : (byte_at s at ≡ 91 → ⊥) → Keeps
   unfolding envelope_k array_at and_then
@@ -197,8 +197,8 @@ module _ (depth : ℕ) (name s : List ℕ) (at : ℕ) (buffer : List ℕ) where
   unfolding ours_k
   is-channel f h = no-object s f.channel (ascii "book-" ++ written depth) (both_true _ _ h).0
 
-  of-list : (l : List Span) (k : ℕ) (r : Parts) → PartsRead s (items l k) buffer r → (h : Envelope) → and_then (frame_of l) (hear depth name s) ≡ reads h → h.ours ≡ true
-      → (y : Layout) → h.layout ≡ reads y → Kept s (reads y.entries) buffer
+  of-list : (l : List Span) (k : ℕ) (r : Parts) → PartsRead s (items l k) buffer r → (h : Envelope) → and_then (frame_of l) (hear depth name s) ≡ Some h → h.ours ≡ true
+      → (y : Layout) → h.layout ≡ Some y → Kept s (Some y.entries) buffer
   unfolding frame_of and_then layout_k
   of-list [] k r p h g o y z = no_reads g
   of-list (n ∷ []) k r p h g o y z = no_reads g
@@ -218,6 +218,6 @@ module _ (depth : ℕ) (name s : List ℕ) (at : ℕ) (buffer : List ℕ) where
   unfolding envelope_k array_at and_then contents
   keeps-array b r p e v h g o y z = go (elements (value 15 s) s (at + 1)) p (rw (eq-eqb (byte_at s at) 91 b) at g)
     where
-      go : (x : Items Span) → PartsRead s x buffer r → and_then (and_then (contents x) frame_of) (hear depth name s) ≡ reads h → Kept s (reads y.entries) buffer
+      go : (x : Items Span) → PartsRead s x buffer r → and_then (and_then (contents x) frame_of) (hear depth name s) ≡ Some h → Kept s (Some y.entries) buffer
       go (items l k) w q = of-list l k r w h q o y z
       go no_items w q = no_reads q

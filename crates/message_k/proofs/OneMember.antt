@@ -1,5 +1,6 @@
 -- One more member, by its name.
 -- Assumes nothing.
+use Rattle.std.specs.Prelude.{None, Option, Some, ℕ}
 use mathlib.Core.Path.{◌≡◌, refl, sym, ap, ◌∙◌, subst}
 use mathlib.Core.List.{List, [], ◌∷◌}
 use mathlib.Core.Bool.{Bool, true, false, ◌||◌, cond}
@@ -7,10 +8,8 @@ use Prim.Native.Nat.{ℕ, ◌≤◌, ◌<◌}
 use lib.ListN.{length, get_or}
 use native.Mathlib.Omega.{arith}
 use Rattle.text.specs.Text.{ascii}
-use Rattle.decimal.specs.Digits.{Reading}
 use Rattle.edit.specs.declared.Side.{Side}
 use Rattle.edit.specs.declared.Side.TheVariants.{Bids, Asks}
-use Rattle.json_tokens.specs.Tokens.{End, At, Broken}
 use Rattle.json_tokens.specs.Ends.{end_of}
 use Rattle.json_tokens.proofs.Laws.{end-at}
 use Rattle.json_tokens.proofs.Bounds.{bounds}
@@ -35,7 +34,7 @@ names = ascii "as" ∷ ascii "bs" ∷ ascii "a" ∷ ascii "b" ∷ ascii "c" ∷ 
 
 -- ---- the entries of a side at `from`
 module _ (s : List ℕ) (t : Members) (from : ℕ) (side : Side) (before after : List ℕ) (g : Entries) (h : Met 0 s 14 Triple side t.tally from before after g) where
-  told-end : (e : ℕ) → value 14 s from ≡ At e → (g.end ≡ e) × (g.tally ≡ array_tally 0 s 14 Triple side t.tally (record { from = from; to = e }))
+  told-end : (e : ℕ) → value 14 s from ≡ Some e → (g.end ≡ e) × (g.tally ≡ array_tally 0 s 14 Triple side t.tally (record { from = from; to = e }))
   unfolding told_at
   told-end e v =
       let q : told_at 0 s 14 Triple side t.tally from ≡ record { end = e; tally = array_tally 0 s 14 Triple side t.tally (record { from = from; to = e }) } = rw (v, told_at) in
@@ -45,9 +44,9 @@ module _ (s : List ℕ) (t : Members) (from : ℕ) (side : Side) (before after :
   unfolding told_at end_of
   told-ends = ap (λ (x : Entries). x.end) h.told ∙ go (value 14 s from)
     where
-      go : (x : End) → (elim x as (λ y. Entries) [ At e ↦ record { end = e; tally = array_tally 0 s 14 Triple side t.tally (record { from = from; to = e }) } | Broken ↦ told_not 0 ]).end ≡ end_of x
-      go (At e) = refl
-      go Broken = refl
+      go : (x : Option ℕ) → (elim x as (λ y. Entries) [ Some e ↦ record { end = e; tally = array_tally 0 s 14 Triple side t.tally (record { from = from; to = e }) } | None ↦ told_not 0 ]).end ≡ end_of x
+      go (Some e) = refl
+      go None = refl
 
   pub entries-read : EntriesRead s t from side before after (with_tally g.end g.tally t)
   entries-read =
@@ -96,7 +95,7 @@ module _ (s : List ℕ) (t : Members) (name : Span) (from : ℕ) where
       let hz : means s name (ascii "c") ≡ z = cc in
       sym (rw (hp, hq, hx, hy, hz))
 
-  held_by : (e : ℕ) (r : Reading (List Entry)) (p q x y z : Bool) → meant s name names ≡ p ∷ q ∷ x ∷ y ∷ z ∷ []
+  held_by : (e : ℕ) (r : Option (List Entry)) (p q x y z : Bool) → meant s name names ≡ p ∷ q ∷ x ∷ y ∷ z ∷ []
       → cond (y || q) (and_also r (sided_at Bids Triple 14 s (record { from = from; to = e }))) (cond (x || p) (and_also r (sided_at Asks Triple 14 s (record { from = from; to = e }))) r)
       ≡ with_held s r (pair_to e)
   unfolding with_held is_bids is_asks
@@ -115,7 +114,7 @@ module _ (s : List ℕ) (t : Members) (name : Span) (from : ℕ) where
     -- ---- members that hold entries: u has the name counted
     held : (side : Side) (u : Members) → EntriesRead s u from side before after r → u.tally ≡ t.tally
         → ((e : ℕ) → with_tally e (sides_tally side e) u ≡ with_member s t (pair_to e))
-        → ((e : ℕ) (x : Reading (List Entry)) → and_also x (sided_at side Triple 14 s (record { from = from; to = e })) ≡ with_held s x (pair_to e))
+        → ((e : ℕ) (x : Option (List Entry)) → and_also x (sided_at side Triple 14 s (record { from = from; to = e })) ≡ with_held s x (pair_to e))
         → MemberRead s t name from before after r
     held side u g same whole next =
         record {
@@ -126,7 +125,7 @@ module _ (s : List ℕ) (t : Members) (name : Span) (from : ℕ) where
             room = g.added.room;
             kept = λ e v x w k.
                 let a = g.added.kept e v x (subst (Tells s x) (sym same) w) k in
-                (subst (λ (y : Reading (List Entry)). Tells s y r.tally) (next e x) a.0, subst (λ (y : Reading (List Entry)). Kept s y after) (next e x) a.1);
+                (subst (λ (y : Option (List Entry)). Tells s y r.tally) (next e x) a.0, subst (λ (y : Option (List Entry)). Kept s y after) (next e x) a.1);
           };
         }
 
@@ -159,8 +158,8 @@ module _ (s : List ℕ) (t : Members) (name : Span) (from : ℕ) where
 
   -- ---- members that hold none
   module _ (few : met t.tally ≤ from) (buffer : List ℕ) (room : length buffer ≡ 600) (r : Members) where
-    unheld : r.end ≡ end_of (value 14 s from) → ((e : ℕ) → value 14 s from ≡ At e → r ≡ with_member s t (pair_to e))
-        → ((e : ℕ) → value 14 s from ≡ At e → r.tally ≡ t.tally) → ((e : ℕ) (x : Reading (List Entry)) → x ≡ with_held s x (pair_to e))
+    unheld : r.end ≡ end_of (value 14 s from) → ((e : ℕ) → value 14 s from ≡ Some e → r ≡ with_member s t (pair_to e))
+        → ((e : ℕ) → value 14 s from ≡ Some e → r.tally ≡ t.tally) → ((e : ℕ) (x : Option (List Entry)) → x ≡ with_held s x (pair_to e))
         → MemberRead s t name from buffer buffer r
     unheld ends collected same next =
         record {
@@ -174,7 +173,7 @@ module _ (s : List ℕ) (t : Members) (name : Span) (from : ℕ) where
           added = record {
             room = room;
             kept = λ e v x w k.
-                (subst (λ (y : Reading (List Entry)). Tells s y r.tally) (next e x) (subst (Tells s x) (sym (same e v)) w), subst (λ (y : Reading (List Entry)). Kept s y buffer) (next e x) k);
+                (subst (λ (y : Option (List Entry)). Tells s y r.tally) (next e x) (subst (Tells s x) (sym (same e v)) w), subst (λ (y : Option (List Entry)). Kept s y buffer) (next e x) k);
           };
         }
 

@@ -1,12 +1,12 @@
 -- One more element, by its place.
 -- Assumes nothing.
+use Rattle.std.specs.Prelude.{Some}
 use mathlib.Core.Path.{◌≡◌, sym, ap, ◌∙◌}
 use mathlib.Core.List.{List}
 use mathlib.Core.Bool.{Bool, true, false, cond}
 use Prim.Native.Nat.{ℕ}
 use lib.Dec.{eqb}
 use borrow.Author.Tests.{eq-eqb, ne_eqb}
-use Rattle.json_tokens.specs.Tokens.{At}
 use Rattle.json_tokens.specs.Ends.{end_of}
 use Rattle.json_tokens.proofs.Laws.{end-at}
 use Rattle.json_values.specs.Json.{value}
@@ -44,7 +44,7 @@ module _ (s : List ℕ) (t : Parts) (at : ℕ) where
   -- the element at `at` ends at `past`, and t' has its object, if it may be one
   pub record Step (t' : Parts) (past : ℕ) : Type 0 where
     pub ends : past ≡ end_of (value 15 s at)
-    pub collected : (e : ℕ) → value 15 s at ≡ At e → (u : Outer) → u ≡ with_outer s t.outer (record { from = at; to = e })
+    pub collected : (e : ℕ) → value 15 s at ≡ Some e → (u : Outer) → u ≡ with_outer s t.outer (record { from = at; to = e })
         → with_outer_of t' u ≡ with_part s t (record { from = at; to = e })
 
   by_count : (e : ℕ) (x y : Bool) → eqb t.outer.count 1 ≡ x → eqb t.outer.count 2 ≡ y → (u : Outer) → u ≡ with_outer s t.outer (record { from = at; to = e })
@@ -83,7 +83,7 @@ module _ (s : List ℕ) (t : Parts) (at : ℕ) where
         }
 
     module _ (w : Step t' past) (n : past ≡ 0 → ⊥) where
-      pub step_value : value 15 s at ≡ At past
+      pub step_value : value 15 s at ≡ Some past
       step_value = end-at (value 15 s at) past w.ends n
 
       pub step_part : (u : Outer) → u ≡ with_outer s t.outer (record { from = at; to = past }) → with_outer_of t' u ≡ with_part s t (record { from = at; to = past })

@@ -1,11 +1,11 @@
 -- What is told of objects is what their members of our names are.
 -- Assumes nothing.
+use Rattle.std.specs.Prelude.{Option, Some}
 use mathlib.Core.Path.{◌≡◌, refl, sym, ap, ◌∙◌, subst}
 use mathlib.Core.List.{List, [], ◌∷◌, ◌++◌}
 use mathlib.Core.Bool.{Bool, true, false, cond}
 use Prim.Native.Nat.{ℕ}
 use Rattle.text.specs.Text.{ascii}
-use Rattle.decimal.specs.Digits.{Reading, reads}
 use Rattle.edit.specs.declared.Side.TheVariants.{Bids, Asks}
 use Rattle.json_values.specs.Json.{Span, Pair}
 use Rattle.json_values.specs.Names.{means}
@@ -39,7 +39,7 @@ pub record Tells (s : List ℕ) (t : Members) (ms : List Pair) : Type 0 where
   pub bids : t.bids ≡ times_of (values_of s (ascii "b") ms)
   pub checksum : t.checksum ≡ sums_of s (values_of s (ascii "c") ms)
   -- the entries that all of them hold
-  pub entries : tallies·.Tells s (held_in s (reads []) ms) t.tally
+  pub entries : tallies·.Tells s (held_in s (Some []) ms) t.tally
 
 -- ---- more members
 
@@ -83,7 +83,7 @@ module _ (s : List ℕ) where
         ∙ ap (fold_from add none) (sym (values-append s name ms ns))
 
   -- one member more
-  pub held_tells : (x : Reading (List Entry)) (t : Tally) (m : Pair) → tallies·.Tells s x t → tallies·.Tells s (with_held s x m) (tally_with s t m)
+  pub held_tells : (x : Option (List Entry)) (t : Tally) (m : Pair) → tallies·.Tells s x t → tallies·.Tells s (with_held s x m) (tally_with s t m)
   unfolding with_held tally_with
   held_tells x t m h = go (is_bids s m.name) (is_asks s m.name)
     where
@@ -94,7 +94,7 @@ module _ (s : List ℕ) where
       go false true = tells_more s x t Asks Triple 14 m.value h
       go false false = h
 
-  held_all : (x : Reading (List Entry)) (t : Members) (ms : List Pair) → tallies·.Tells s x t.tally → tallies·.Tells s (held_in s x ms) (fold_from (with_member s) t ms).tally
+  held_all : (x : Option (List Entry)) (t : Members) (ms : List Pair) → tallies·.Tells s x t.tally → tallies·.Tells s (held_in s x ms) (fold_from (with_member s) t ms).tally
   unfolding fold_from with_member
   held_all x t [] h = h
   held_all x t (m ∷ ms) h = held_all (with_held s x m) (with_member s t m) ms (held_tells x t.tally m h)
@@ -126,8 +126,8 @@ module _ (s : List ℕ) where
             follows (ascii "c") (λ x. x.checksum) (more_summed s) no_sum
             (λ x m. sum-hit x.checksum m) (λ x m. sum-miss x.checksum m) t ms ns h.checksum;
         entries =
-            subst (λ (x : Reading (List Entry)). tallies·.Tells s x (fold_from (with_member s) t ns).tally) (sym (fold-append (with_held s) (reads []) ms ns))
-            (held_all (held_in s (reads []) ms) t ns h.entries);
+            subst (λ (x : Option (List Entry)). tallies·.Tells s x (fold_from (with_member s) t ns).tally) (sym (fold-append (with_held s) (Some []) ms ns))
+            (held_all (held_in s (Some []) ms) t ns h.entries);
       }
 
   -- ---- how often

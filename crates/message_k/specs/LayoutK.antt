@@ -1,7 +1,7 @@
 -- Dialect K, as document 01 has it under "Messages". Assumes nothing: these are definitions.
-use Rattle.std.specs.Prelude.{ℕ, ◌+◌, Bool, true, ◌&&◌, cond, List, [], ◌∷◌, ◌++◌, leb, eqb, length}
+use Rattle.std.specs.Prelude.{ℕ, ◌+◌, Bool, true, ◌&&◌, cond, List, [], ◌∷◌, ◌++◌, leb, eqb, length, None, Option, Some}
 use Rattle.text.specs.Text.{ascii}
-use Rattle.decimal.specs.Digits.{Reading, reads, refused, written}
+use Rattle.decimal.specs.Digits.{written}
 use Rattle.json_values.specs.Json.{Span, Pair, max_depth}
 use Rattle.json_values.specs.Names.{means}
 use Rattle.entries.specs.Places.{and_then, all, array_at, object_at, values_of, only, whole_at, quoted_checksum_at}
@@ -18,14 +18,14 @@ pub record Frame : Type 0 where
   pub channel : Span
   pub pair : Span
 
-unfoldable pub frame_of : List Span → Reading Frame
-frame_of [] = refused
-frame_of (n ∷ []) = refused
-frame_of (n ∷ (o ∷ [])) = refused
-frame_of (n ∷ (o ∷ (c ∷ []))) = refused
-frame_of (n ∷ (o ∷ (c ∷ (p ∷ [])))) = reads (record { first = n; objects = o ∷ []; channel = c; pair = p })
-frame_of (n ∷ (o ∷ (q ∷ (c ∷ (p ∷ []))))) = reads (record { first = n; objects = o ∷ (q ∷ []); channel = c; pair = p })
-frame_of (n ∷ (o ∷ (q ∷ (c ∷ (p ∷ (x ∷ l)))))) = refused
+unfoldable pub frame_of : List Span → Option Frame
+frame_of [] = None
+frame_of (n ∷ []) = None
+frame_of (n ∷ (o ∷ [])) = None
+frame_of (n ∷ (o ∷ (c ∷ []))) = None
+frame_of (n ∷ (o ∷ (c ∷ (p ∷ [])))) = Some (record { first = n; objects = o ∷ []; channel = c; pair = p })
+frame_of (n ∷ (o ∷ (q ∷ (c ∷ (p ∷ []))))) = Some (record { first = n; objects = o ∷ (q ∷ []); channel = c; pair = p })
+frame_of (n ∷ (o ∷ (q ∷ (c ∷ (p ∷ (x ∷ l)))))) = None
 
 -- Check 5: it is this book's when channel is `book-` and the depth in decimal, and pair is the name.
 unfoldable pub ours_k : ℕ → List ℕ → List ℕ → Frame → Bool
@@ -70,24 +70,24 @@ is_update s objects =
     && eqb (times s (ascii "as") (together objects) + times s (ascii "bs") (together objects)) 0))))
 
 -- The entries of a message, by the names of the members that hold the bids' and the asks'.
-unfoldable pub entries_k : List ℕ → List ℕ → List ℕ → List (List Pair) → Reading (List Entry)
+unfoldable pub entries_k : List ℕ → List ℕ → List ℕ → List (List Pair) → Option (List Entry)
 entries_k s bids asks objects = entries_in Triple side_depth s bids asks (together objects)
 
-unfoldable pub objects_layout : List ℕ → List (List Pair) → Reading Layout
+unfoldable pub objects_layout : List ℕ → List (List Pair) → Option Layout
 objects_layout s objects =
     cond (is_snapshot s objects)
     (laid Snapshot unprinted 0 (entries_k s (ascii "bs") (ascii "as") objects))
     (cond (is_update s objects)
     (and_then (only (values_of s (ascii "c") (together objects))) (λ c.
     and_then (quoted_checksum_at s c) (λ sum. laid Update (printed sum) 0 (entries_k s (ascii "b") (ascii "a") objects))))
-    refused)
+    None)
 
-unfoldable pub layout_k : List ℕ → Frame → Reading Layout
+unfoldable pub layout_k : List ℕ → Frame → Option Layout
 layout_k s f = and_then (whole_at s f.first) (λ n. and_then (all (object_at item_depth s) f.objects) (objects_layout s))
 
 -- ---- the message, to a book of that depth and name
 
-unfoldable pub envelope_k : ℕ → List ℕ → List ℕ → Span → Reading Envelope
+unfoldable pub envelope_k : ℕ → List ℕ → List ℕ → Span → Option Envelope
 envelope_k depth name s a =
     and_then (and_then (array_at max_depth s a) frame_of) (λ f.
-    reads (record { ours = ours_k depth name s f; layout = layout_k s f }))
+    Some (record { ours = ours_k depth name s f; layout = layout_k s f }))

@@ -1,12 +1,10 @@
 -- What is told of the objects of a message of dialect K, in numbers. Assumes nothing: these are definitions.
-use Rattle.std.specs.Prelude.{ℕ, ◌≤◌, ◌≡◌, Bool, true, false, ◌&&◌, ◌||◌, cond, List, leb, ltb, eqb, length}
+use Rattle.std.specs.Prelude.{ℕ, ◌≤◌, ◌≡◌, Bool, true, false, ◌&&◌, ◌||◌, cond, List, leb, ltb, eqb, length, None, Option, Some}
 use Rattle.text.specs.Text.{ascii, byte_at}
-use Rattle.decimal.specs.Digits.{Reading, reads, refused}
 use Rattle.edit.specs.Buffer.{buffer_words}
 use Rattle.edit.specs.declared.Side.{Side}
 use Rattle.edit.specs.declared.Side.TheVariants.{Bids, Asks}
 use Rattle.json_tokens.specs.Bytes.{open_object}
-use Rattle.json_tokens.specs.Tokens.{At, Broken}
 use Rattle.json_tokens.specs.Ends.{end_of}
 use Rattle.json_values.specs.Json.{Span, Pair, value}
 use Rattle.json_values.specs.Names.{means}
@@ -24,13 +22,13 @@ use Rattle.layout.specs.declared.Outline.{Outline}
 use Rattle.message_k.specs.declared.Sum.{Sum}
 use Rattle.message_k.specs.declared.Members.{Members}
 
-unfoldable pub is_read : {A : Type 0} → Reading A → Bool
-is_read (reads a) = true
-is_read refused = false
+unfoldable pub is_read : {A : Type 0} → Option A → Bool
+is_read (Some a) = true
+is_read None = false
 
-unfoldable pub or_zero : Reading ℕ → ℕ
-or_zero (reads n) = n
-or_zero refused = 0
+unfoldable pub or_zero : Option ℕ → ℕ
+or_zero (Some n) = n
+or_zero None = 0
 
 -- ---- one more member
 
@@ -42,12 +40,12 @@ unfoldable pub is_asks : List ℕ → Span → Bool
 is_asks s name = means s name (ascii "a") || means s name (ascii "as")
 
 -- The entries that a member holds, after those that were read before.
-unfoldable pub with_held : List ℕ → Reading (List Entry) → Pair → Reading (List Entry)
+unfoldable pub with_held : List ℕ → Option (List Entry) → Pair → Option (List Entry)
 with_held s x m =
     cond (is_bids s m.name) (and_also x (sided_at Bids Triple side_depth s m.value))
     (cond (is_asks s m.name) (and_also x (sided_at Asks Triple side_depth s m.value)) x)
 
-abbrev pub held_in : List ℕ → Reading (List Entry) → List Pair → Reading (List Entry)
+abbrev pub held_in : List ℕ → Option (List Entry) → List Pair → Option (List Entry)
 held_in s x ms = fold_from (with_held s) x ms
 
 unfoldable pub tally_with : List ℕ → Tally → Pair → Tally
@@ -83,14 +81,14 @@ with_member s t m =
 
 -- The buffer after `before`, in which the entries of a value at `from` went behind those that t tells of: what was read of all of them is told, and the
 -- buffer has it, where `next` says what reading the value adds.
-pub record Added (s : List ℕ) (from : ℕ) (t u : Tally) (next : ℕ → Reading (List Entry) → Reading (List Entry)) (before after : List ℕ) : Type 0 where
+pub record Added (s : List ℕ) (from : ℕ) (t u : Tally) (next : ℕ → Option (List Entry) → Option (List Entry)) (before after : List ℕ) : Type 0 where
   pub room : length after ≡ buffer_words
-  pub kept : (e : ℕ) → value side_depth s from ≡ At e → (x : Reading (List Entry)) → Tells s x t → Kept s x before → Tells s (next e x) u × Kept s (next e x) after
+  pub kept : (e : ℕ) → value side_depth s from ≡ Some e → (x : Option (List Entry)) → Tells s x t → Kept s x before → Tells s (next e x) u × Kept s (next e x) after
 
 -- r tells of the member whose name is `name` and whose value begins at `from`, with t told before.
 pub record MemberRead (s : List ℕ) (t : Members) (name : Span) (from : ℕ) (before after : List ℕ) (r : Members) : Type 0 where
   pub ends : r.end ≡ end_of (value side_depth s from)
-  pub collected : (e : ℕ) → value side_depth s from ≡ At e → r ≡ with_member s t (record { name = name; value = record { from = from; to = e } })
+  pub collected : (e : ℕ) → value side_depth s from ≡ Some e → r ≡ with_member s t (record { name = name; value = record { from = from; to = e } })
   pub few : (r.end ≡ 0 → ⊥) → met r.tally ≤ r.end
   pub added : Added s from t.tally r.tally (λ e x. with_held s x (record { name = name; value = record { from = from; to = e } })) before after
 
@@ -110,7 +108,7 @@ with_tally e u t =
 -- r tells of the entries of a side that begin at `from`, with t told before.
 pub record EntriesRead (s : List ℕ) (t : Members) (from : ℕ) (side : Side) (before after : List ℕ) (r : Members) : Type 0 where
   pub ends : r.end ≡ end_of (value side_depth s from)
-  pub collected : (e : ℕ) → value side_depth s from ≡ At e → r ≡ with_tally e (array_tally 0 s side_depth Triple side t.tally (record { from = from; to = e })) t
+  pub collected : (e : ℕ) → value side_depth s from ≡ Some e → r ≡ with_tally e (array_tally 0 s side_depth Triple side t.tally (record { from = from; to = e })) t
   pub few : (r.end ≡ 0 → ⊥) → met r.tally ≤ r.end
   pub added : Added s from t.tally r.tally (λ e x. and_also x (sided_at side Triple side_depth s (record { from = from; to = e }))) before after
 
@@ -130,7 +128,7 @@ with_sum e sum t =
 -- r tells of one more member `c` whose value begins at `from`, with t told before.
 pub record SumRead (s : List ℕ) (t : Members) (from : ℕ) (r : Members) : Type 0 where
   pub ends : r.end ≡ end_of (value side_depth s from)
-  pub collected : (e : ℕ) → value side_depth s from ≡ At e → r ≡ with_sum e (more_summed s t.checksum (record { from = from; to = e })) t
+  pub collected : (e : ℕ) → value side_depth s from ≡ Some e → r ≡ with_sum e (more_summed s t.checksum (record { from = from; to = e })) t
 
 -- ---- an object
 
@@ -154,12 +152,12 @@ closed_at e t =
     }
 
 -- The members that were read of a value, with t told of the objects before.
-unfoldable pub members_of : List ℕ → Members → ℕ → Reading (List Pair) → Members
-members_of s t e (reads ms) = closed_at e (fold_from (with_member s) t ms)
-members_of s t e refused = no_members e
+unfoldable pub members_of : List ℕ → Members → ℕ → Option (List Pair) → Members
+members_of s t e (Some ms) = closed_at e (fold_from (with_member s) t ms)
+members_of s t e None = no_members e
 
 unfoldable pub members_at : List ℕ → Members → ℕ → Members
-members_at s t at = elim (value item_depth s at) [ At e ↦ members_of s t e (object_at item_depth s (record { from = at; to = e })) | Broken ↦ no_members 0 ]
+members_at s t at = elim (value item_depth s at) [ Some e ↦ members_of s t e (object_at item_depth s (record { from = at; to = e })) | None ↦ no_members 0 ]
 
 -- r tells of the object at `at`, with t told before; a value that is no object leaves the buffer as it is.
 pub record ObjectRead (s : List ℕ) (t : Members) (at : ℕ) (before after : List ℕ) (r : Members) : Type 0 where
@@ -167,8 +165,8 @@ pub record ObjectRead (s : List ℕ) (t : Members) (at : ℕ) (before after : Li
   pub few : (r.end ≡ 0 → ⊥) → met r.tally ≤ r.end
   pub room : length after ≡ buffer_words
   pub same : (byte_at s at ≡ open_object → ⊥) → after ≡ before
-  pub kept : (e : ℕ) → value item_depth s at ≡ At e → (ms : List Pair) → object_at item_depth s (record { from = at; to = e }) ≡ reads ms
-      → (x : Reading (List Entry)) → Tells s x t.tally → Kept s x before → Tells s (held_in s x ms) r.tally × Kept s (held_in s x ms) after
+  pub kept : (e : ℕ) → value item_depth s at ≡ Some e → (ms : List Pair) → object_at item_depth s (record { from = at; to = e }) ≡ Some ms
+      → (x : Option (List Entry)) → Tells s x t.tally → Kept s x before → Tells s (held_in s x ms) r.tally × Kept s (held_in s x ms) after
 
 -- ---- check 6, of what is told of all objects together
 

@@ -1,7 +1,7 @@
 -- What is told of the elements of a message of dialect K. Assumes nothing: these are definitions.
-use Rattle.std.specs.Prelude.{ℕ, ◌+◌, Bool, true, false, ◌&&◌, cond, ◌≡◌, List, [], ◌∷◌, ◌++◌, leb, eqb, length}
+use Rattle.std.specs.Prelude.{ℕ, ◌+◌, Bool, true, false, ◌&&◌, cond, ◌≡◌, List, [], ◌∷◌, ◌++◌, leb, eqb, length, Some}
 use Rattle.text.specs.Text.{ascii, byte_at}
-use Rattle.decimal.specs.Digits.{written, reads}
+use Rattle.decimal.specs.Digits.{written}
 use Rattle.edit.specs.Buffer.{buffer_words}
 use Rattle.json_tokens.specs.Bytes.{open_object}
 use Rattle.json_values.specs.Json.{Span, Pair, Items, items}
@@ -63,9 +63,9 @@ pub record PartsRead (s : List ℕ) (x : Items Span) (buffer : List ℕ) (r : Pa
   pub told : r ≡ parts_in s x
   pub room : length buffer ≡ buffer_words
   pub four : (n o c p : Span) (e : ℕ) → x ≡ items (n ∷ o ∷ c ∷ p ∷ []) e → (byte_at s c.from ≡ open_object → ⊥)
-      → (ms : List Pair) → object_at item_depth s o ≡ reads ms → Kept s (held_in s (reads []) ms) buffer
+      → (ms : List Pair) → object_at item_depth s o ≡ Some ms → Kept s (held_in s (Some []) ms) buffer
   pub five : (n o q c p : Span) (e : ℕ) → x ≡ items (n ∷ o ∷ q ∷ c ∷ p ∷ []) e
-      → (ms ns : List Pair) → object_at item_depth s o ≡ reads ms → object_at item_depth s q ≡ reads ns → Kept s (held_in s (held_in s (reads []) ms) ns) buffer
+      → (ms ns : List Pair) → object_at item_depth s o ≡ Some ms → object_at item_depth s q ≡ Some ns → Kept s (held_in s (held_in s (Some []) ms) ns) buffer
 
 -- ---- check 5, of the last two elements
 

@@ -7,10 +7,9 @@
 //     if told.end == 0 { .. }
 #![tactic(auto)]
 
-ghost use Rattle.std.specs.Prelude.{◌≡◌, ◌++◌, ◌≤◌, ◌<◌, length};
+ghost use Rattle.std.specs.Prelude.{◌≡◌, ◌++◌, ◌≤◌, ◌<◌, length, Some};
 ghost use Rattle.text.specs.Text.{ascii};
 ghost use Rattle.decimal.specs.Digits.{written};
-ghost use Rattle.json_tokens.specs.Tokens.{At};
 ghost use Rattle.json_values.specs.Json.{elements, value};
 ghost use Rattle.json_values.specs.Names.{means};
 ghost use Rattle.entries.specs.Places.{whole_at};
@@ -158,7 +157,7 @@ fn k_parts(s: &[u8], at: usize, buffer: &mut [u64; BUFFER_WORDS]) -> Parts
 
 // One more element, from `from` to `to`.
 fn pass(s: &[u8], outer: Outer, from: usize, to: usize) -> Outer
-    requires { value item_depth s.now from ≡ At to }
+    requires { value item_depth s.now from ≡ Some to }
     ensures { result ≡ with_outer s.now outer (record { from = from; to = to }) }
 {
     let count = up_to_six(outer.count);
@@ -215,7 +214,7 @@ fn no_parts(end: usize) -> Parts
 
 // Whether the value from `from` to `to` is a whole number.
 fn is_whole(s: &[u8], from: usize, to: usize) -> bool
-    requires { value item_depth s.now from ≡ At to }
+    requires { value item_depth s.now from ≡ Some to }
     ensures { result ≡ is_read (whole_at s.now (record { from = from; to = to })) }
 {
     match parse_whole(&s[from..to]) {
@@ -353,7 +352,7 @@ fn with_checksum(s: &[u8], members: Members, from: usize) -> Members
 
 // One more member `c`, whose value lies from `from` to `to`.
 fn summed(s: &[u8], sum: Sum, from: usize, to: usize) -> Sum
-    requires { value side_depth s.now from ≡ At to }
+    requires { value side_depth s.now from ≡ Some to }
     ensures { result ≡ more_summed s.now sum (record { from = from; to = to }) }
 {
     let before = sum.mark;

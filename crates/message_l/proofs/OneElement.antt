@@ -1,4 +1,5 @@
 -- The value of a member `data`: whether it is an array of one, and where that begins. Assumes nothing.
+use Rattle.std.specs.Prelude.{None, Option, Some, ℕ}
 use Prim.Native.Nat.{ℕ, ◌+◌, ◌<◌}
 use mathlib.Core.Path.{◌≡◌, refl, sym, ap, ◌∙◌}
 use mathlib.Core.Bool.{Bool}
@@ -8,8 +9,7 @@ use borrow.Author.Tests.{eq-eqb, ne_eqb}
 use lib.Dec.{eqb}
 use lib.ListN.{length}
 use Rattle.text.specs.Text.{byte_at}
-use Rattle.decimal.specs.Digits.{Reading, reads, refused}
-use Rattle.json_tokens.specs.Tokens.{End, At, Broken, blanks, closing, separator}
+use Rattle.json_tokens.specs.Tokens.{blanks, closing, separator}
 use Rattle.json_tokens.specs.Ends.{end_of}
 use Rattle.json_tokens.proofs.Laws.{end-at}
 use Rattle.json_tokens.proofs.Bounds.{bounds, end-broken, blanks-in, closing-in, separator-in}
@@ -27,11 +27,11 @@ module _ (s : List ℕ) (at : ℕ) where
   abbrev one : ℕ → Next Span
   one = element (value 14 s)
 
-  abbrev answer : Items Span → Reading Span
+  abbrev answer : Items Span → Option Span
   answer x = and_then (contents x) only
 
   -- no array
-  pub one-other : (byte_at s at ≡ 91 → ⊥) → one_in s (data_span s at) ≡ refused
+  pub one-other : (byte_at s at ≡ 91 → ⊥) → one_in s (data_span s at) ≡ None
   unfolding one_in array_at and_then
   one-other h = rw (ne_eqb (byte_at s at) 91 h)
 
@@ -41,13 +41,13 @@ module _ (s : List ℕ) (at : ℕ) where
     one-is = sym (rw (eq-eqb (byte_at s at) 91 opens))
 
     module _ (none : ℕ) (h : none ≡ end_of (closing 93 s (at + 1))) where
-      pub one-empty : 0 < none → one_in s (data_span s at) ≡ refused
+      pub one-empty : 0 < none → one_in s (data_span s at) ≡ None
       unfolding elements contents and_then only
       one-empty n =
           sym one-is ∙ sym (walk-empty one 93 s answer (at + 1) none (end-at (closing 93 s (at + 1)) none h (λ z. omega arith)))
 
       module _ (z : none ≡ 0) (i : ℕ) (b : i ≡ blanks s (at + 1)) where
-        shut : closing 93 s (at + 1) ≡ Broken
+        shut : closing 93 s (at + 1) ≡ None
         shut = end-broken none (omega arith) (closing-in s 93 (at + 1) (omega arith)) h z
 
         started : {R : Type 0} (f : Items Span → R) → Walk one 93 s f i (one i) (f (elements (value 14 s) s (at + 1)))
@@ -55,7 +55,7 @@ module _ (s : List ℕ) (at : ℕ) where
         started f = rw b (walk_start one 93 s f (at + 1) (blanks-in s (at + 1)).0 shut)
 
         module _ (e : ℕ) (v : e ≡ end_of (value 14 s i)) where
-          pub one-wrong : e ≡ 0 → one_in s (data_span s at) ≡ refused
+          pub one-wrong : e ≡ 0 → one_in s (data_span s at) ≡ None
           unfolding contents and_then
           one-wrong y = sym one-is ∙ sym (walk-wrong one 93 s answer (started answer) (element-wrong (value 14 s) i (end-broken e (omega arith) (value_in 14 s i) v y)))
 
@@ -63,11 +63,11 @@ module _ (s : List ℕ) (at : ℕ) where
             abbrev here : Span
             here = record { from = i; to = e }
 
-            ended : value 14 s i ≡ At e
+            ended : value 14 s i ≡ Some e
             ended = end-at (value 14 s i) e v y
 
             -- another element follows
-            pub one-many : (l ≡ 0 → ⊥) → one_in s (data_span s at) ≡ refused
+            pub one-many : (l ≡ 0 → ⊥) → one_in s (data_span s at) ≡ None
             unfolding contents and_then only element onward prepended
             one-many n =
                 let p = bounds e (value_in 14 s i) ended in
@@ -76,26 +76,26 @@ module _ (s : List ℕ) (at : ℕ) where
                 let w = walk-on one 93 s answer (started answer) here e (element-is (value 14 s) i e ended) (omega arith) p.1 l (omega arith) q (λ (x : Items Span). answer (prepended here x)) (λ x. refl) in
                 sym one-is ∙ sym w.makes ∙ go _ (value 14 s l)
               where
-                more : (x : Items Span) (a : Span) → answer (prepended here (prepended a x)) ≡ refused
+                more : (x : Items Span) (a : Span) → answer (prepended here (prepended a x)) ≡ None
                 more (items r u) a = refl
                 more no_items a = refl
 
-                go : (rest : ℕ → Items Span) (x : End) → answer (prepended here (onward rest (elim x [ At u ↦ item (record { from = l; to = u }) u | Broken ↦ wrong ]))) ≡ refused
-                go rest (At u) = more (rest u) (record { from = l; to = u })
-                go rest Broken = refl
+                go : (rest : ℕ → Items Span) (x : Option ℕ) → answer (prepended here (onward rest (elim x [ Some u ↦ item (record { from = l; to = u }) u | None ↦ wrong ]))) ≡ None
+                go rest (Some u) = more (rest u) (record { from = l; to = u })
+                go rest None = refl
 
             module _ (n : l ≡ 0) (u : ℕ) (d : u ≡ end_of (closing 93 s e)) where
-              no-comma : separator 44 s e ≡ Broken
+              no-comma : separator 44 s e ≡ None
               no-comma = end-broken l (omega arith) (separator-in s 44 e (omega arith)) c n
 
-              pub one-broken : u ≡ 0 → one_in s (data_span s at) ≡ refused
+              pub one-broken : u ≡ 0 → one_in s (data_span s at) ≡ None
               unfolding contents and_then
               one-broken g =
                   let p = bounds e (value_in 14 s i) ended in
                   sym one-is ∙ sym (walk-broken one 93 s answer (started answer) here e (element-is (value 14 s) i e ended) (omega arith) p.1 no-comma (end-broken u (omega arith) (closing-in s 93 e (omega arith)) d g))
 
               module _ (g : u ≡ 0 → ⊥) where
-                pub one-here : one_in s (data_span s at) ≡ reads here
+                pub one-here : one_in s (data_span s at) ≡ Some here
                 unfolding contents and_then only
                 one-here =
                     let p = bounds e (value_in 14 s i) ended in
@@ -110,12 +110,12 @@ module _ (s : List ℕ) (at : ℕ) where
 -- ---- the answers
 
 module _ (name s : List ℕ) (at : ℕ) (after : List ℕ) (room : length after ≡ 1536) where
-  pub data-none : (r : Data) (e : ℕ) → r ≡ not_one e → e ≡ end_of (value 15 s at) → one_in s (data_span s at) ≡ refused → DataRead name s at after r
+  pub data-none : (r : Data) (e : ℕ) → r ≡ not_one e → e ≡ end_of (value 15 s at) → one_in s (data_span s at) ≡ None → DataRead name s at after r
   unfolding data_at data_from
   data-none r e is h none =
       record { told = is ∙ ap not_one h ∙ sym (ap (data_from name s (end_of (value 15 s at))) none); room = room; holds = λ a q. no_row (sym none ∙ q) }
 
-  pub data-one : (i : ℕ) (l : Listing) → ObjectRead name s i after l → (e : ℕ) → one_in s (data_span s at) ≡ reads (record { from = i; to = e }) → (u : ℕ) → u ≡ end_of (value 15 s at)
+  pub data-one : (i : ℕ) (l : Listing) → ObjectRead name s i after l → (e : ℕ) → one_in s (data_span s at) ≡ Some (record { from = i; to = e }) → (u : ℕ) → u ≡ end_of (value 15 s at)
       → (b : Bool) → b ≡ eqb (byte_at s i) 123 → DataRead name s at after (record { end = u; one = b; listing = l })
   unfolding data_at data_from object_at
   data-one i l h e is u p b q =

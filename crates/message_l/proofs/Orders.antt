@@ -1,14 +1,13 @@
 -- What is told of orders, array by array: the tally and the buffer go on telling what was read. Assumes nothing.
+use Rattle.std.specs.Prelude.{None, Option, Some}
 use Prim.Native.Nat.{ℕ, zero, suc, ◌+◌}
 use mathlib.Core.Path.{◌≡◌, refl, sym, ap, ◌∙◌, subst}
 use mathlib.Core.Bool.{Bool, true, false, cond}
 use mathlib.Core.List.{List, [], ◌∷◌, ◌++◌, map}
 use native.Mathlib.Omega.{arith}
 use lib.ListN.{length, take, length-append}
-use Rattle.decimal.specs.Digits.{Reading, reads, refused}
 use Rattle.edit.specs.declared.Side.{Side}
 use Rattle.edit.specs.declared.Side.TheVariants.{Bids, Asks}
-use Rattle.json_tokens.specs.Tokens.{At}
 use Rattle.json_values.specs.Json.{Span, value}
 use Rattle.json_values.specs.Fold.{fold_from}
 use Rattle.entries.specs.Places.{and_then, and_also}
@@ -71,10 +70,10 @@ module _ (s : List ℕ) where
       one-unformed : t.well_formed ≡ false → one_more s side t r ≡ t
       one-unformed g = rw g refl
 
-  tallied-unformed : (side : Side) (t : OrderTally) (x : Reading (List OrderRow)) → t.well_formed ≡ false → (tallied s side t x).well_formed ≡ false
+  tallied-unformed : (side : Side) (t : OrderTally) (x : Option (List OrderRow)) → t.well_formed ≡ false → (tallied s side t x).well_formed ≡ false
   unfolding tallied
-  tallied-unformed side t (reads rows) h = fold-unformed side t rows h
-  tallied-unformed side t refused h = refl
+  tallied-unformed side t (Some rows) h = fold-unformed side t rows h
+  tallied-unformed side t None h = refl
 
 -- a front that is cut twice
 cut_twice : {A : Type 0} (n : ℕ) (a b : List A) → take n (take n a ++ b) ≡ take n (a ++ b)
@@ -84,32 +83,32 @@ cut_twice (suc n) (x ∷ a) b = ap (λ t. x ∷ t) (cut_twice n a b)
 
 -- ---- no order yet
 
-pub holds-none : (s buffer : List ℕ) → Holds s (reads []) none_yet buffer
+pub holds-none : (s buffer : List ℕ) → Holds s (Some []) none_yet buffer
 unfolding fold_from
 holds-none s buffer = record { all = λ os h. ap (tally_of s) (sym (same_row h)); none = λ h. not-read h; front = λ os h. rw (same_row h) refl }
 
 -- ---- an array of orders more
 
 -- the rows of orders of one side
-record Sided (side : Side) (x : Reading (List OrderRow)) (os : List SidedOrder) : Type 0 where
+record Sided (side : Side) (x : Option (List OrderRow)) (os : List SidedOrder) : Type 0 where
   rows : List OrderRow
-  read : x ≡ reads rows
+  read : x ≡ Some rows
   are : os ≡ map (sided_order side) rows
 
-sided : (side : Side) (x : Reading (List OrderRow)) (os : List SidedOrder) → and_then x (λ rows. reads (map (sided_order side) rows)) ≡ reads os → Sided side x os
+sided : (side : Side) (x : Option (List OrderRow)) (os : List SidedOrder) → and_then x (λ rows. Some (map (sided_order side) rows)) ≡ Some os → Sided side x os
 unfolding and_then
-sided side (reads rows) os h = record { rows = rows; read = refl; are = same_row h }
-sided side refused os h = no_row h
+sided side (Some rows) os h = record { rows = rows; read = refl; are = same_row h }
+sided side None os h = no_row h
 
-module _ (s : List ℕ) (x : Reading (List SidedOrder)) (t : OrderTally) (side : Side) (at : ℕ) (before after : List ℕ) (r : Orders) (held : Holds s x t before)
-    (now : Met s 13 side t at before after r) (e : ℕ) (v : value 13 s at ≡ At e) where
+module _ (s : List ℕ) (x : Option (List SidedOrder)) (t : OrderTally) (side : Side) (at : ℕ) (before after : List ℕ) (r : Orders) (held : Holds s x t before)
+    (now : Met s 13 side t at before after r) (e : ℕ) (v : value 13 s at ≡ Some e) where
   abbrev here : Span
   here = record { from = at; to = e }
 
-  abbrev rows-read : Reading (List OrderRow)
+  abbrev rows-read : Option (List OrderRow)
   rows-read = orders_at 13 s here
 
-  abbrev y : Reading (List SidedOrder)
+  abbrev y : Option (List SidedOrder)
   y = sided_orders_at side s here
 
   pub tally-is : r.tally ≡ tallied s side t rows-read
@@ -119,7 +118,7 @@ module _ (s : List ℕ) (x : Reading (List SidedOrder)) (t : OrderTally) (side :
       is : told_at s 13 side t at ≡ record { end = e; tally = tallied s side t rows-read }
       is = rw (v, told_at)
 
-  every : (os : List SidedOrder) → and_also x y ≡ reads os → r.tally ≡ tally_of s os
+  every : (os : List SidedOrder) → and_also x y ≡ Some os → r.tally ≡ tally_of s os
   unfolding sided_orders_at tallied
   every os h =
       let b = also-reads x y os h in
@@ -132,17 +131,17 @@ module _ (s : List ℕ) (x : Reading (List SidedOrder)) (t : OrderTally) (side :
       ∙ sym (fold-append (one_sided s) none_yet b.front b.back)
       ∙ ap (tally_of s) (sym b.both)
 
-  none : and_also x y ≡ refused → r.tally.well_formed ≡ false
+  none : and_also x y ≡ None → r.tally.well_formed ≡ false
   unfolding and_also and_then sided_orders_at tallied
   none h = ap (λ (u : OrderTally). u.well_formed) tally-is ∙ go x refl rows-read h
     where
-      go : (z : Reading (List SidedOrder)) → x ≡ z → (w : Reading (List OrderRow)) → and_also z (and_then w (λ rows. reads (map (sided_order side) rows))) ≡ refused
+      go : (z : Option (List SidedOrder)) → x ≡ z → (w : Option (List OrderRow)) → and_also z (and_then w (λ rows. Some (map (sided_order side) rows))) ≡ None
           → (tallied s side t w).well_formed ≡ false
-      go (reads l) q (reads rows) g = not-read g
-      go (reads l) q refused g = refl
-      go refused q w g = tallied-unformed s side t w (held.none q)
+      go (Some l) q (Some rows) g = not-read g
+      go (Some l) q None g = refl
+      go None q w g = tallied-unformed s side t w (held.none q)
 
-  front : (os : List SidedOrder) → and_also x y ≡ reads os → take (length os) (entries_in after) ≡ take max_buffered (map (entry_of s) os)
+  front : (os : List SidedOrder) → and_also x y ≡ Some os → take (length os) (entries_in after) ≡ take max_buffered (map (entry_of s) os)
   unfolding sided_orders_at
   front os h =
       let b = also-reads x y os h in

@@ -1,4 +1,5 @@
 -- One member more of the object in `data`, as the code finds it. Assumes nothing.
+use Rattle.std.specs.Prelude.{None, Option, Some, ℕ}
 use Prim.Native.Nat.{ℕ, suc, ◌+◌, ◌≤◌}
 use mathlib.Core.Path.{◌≡◌, refl, sym, ap, ◌∙◌, subst}
 use mathlib.Core.Bool.{Bool, true, false, ◌&&◌, ◌||◌, cond}
@@ -8,10 +9,8 @@ use borrow.Author.Tests.{eqb-true}
 use lib.Dec.{eqb}
 use lib.ListN.{length}
 use Rattle.text.specs.Text.{ascii, byte_at}
-use Rattle.decimal.specs.Digits.{Reading, reads, refused}
 use Rattle.edit.specs.declared.Side.{Side}
 use Rattle.edit.specs.declared.Side.TheVariants.{Bids, Asks}
-use Rattle.json_tokens.specs.Tokens.{End, At, Broken}
 use Rattle.json_tokens.specs.Ends.{end_of}
 use Rattle.json_tokens.proofs.Laws.{end-at}
 use Rattle.json_tokens.proofs.Bounds.{bounds}
@@ -37,11 +36,11 @@ use Rattle.message_l.proofs.Orders.{holds_more}
 
 -- ---- a side
 
-array-broken : (d : ℕ) (s : List ℕ) (a : Span) → value (suc d) s a.from ≡ Broken → array_at (suc d) s a ≡ refused
+array-broken : (d : ℕ) (s : List ℕ) (a : Span) → value (suc d) s a.from ≡ None → array_at (suc d) s a ≡ None
 unfolding array_at
 array-broken d s a h = go (eqb (byte_at s a.from) 91) refl
   where
-    go : (b : Bool) → eqb (byte_at s a.from) 91 ≡ b → cond b (contents (elements (value d s) s (a.from + 1))) refused ≡ refused
+    go : (b : Bool) → eqb (byte_at s a.from) 91 ≡ b → cond b (contents (elements (value d s) s (a.from + 1))) None ≡ None
     go true q = contents-broken (elements (value d s) s (a.from + 1)) (sym (value-array s a.from d (eqb-true _ _ q)) ∙ h)
     go false q = refl
 
@@ -53,14 +52,14 @@ module _ (s : List ℕ) (at : ℕ) (side : Side) (t : OrderTally) where
   unfolding told_at end_of orders_at and_then tallied
   told_is = go (value 13 s at) refl
     where
-      none : value 13 s at ≡ Broken → tallied s side t (orders_at 13 s (record { from = at; to = 0 })) ≡ tallied s side t refused
-      none q = ap (λ (x : Reading (List Span)). tallied s side t (and_then x (all (order_row 12 s)))) (array-broken 12 s (record { from = at; to = 0 }) q)
+      none : value 13 s at ≡ None → tallied s side t (orders_at 13 s (record { from = at; to = 0 })) ≡ tallied s side t None
+      none q = ap (λ (x : Option (List Span)). tallied s side t (and_then x (all (order_row 12 s)))) (array-broken 12 s (record { from = at; to = 0 }) q)
 
-      go : (x : End) → value 13 s at ≡ x
-          → ◌≡◌ {A = Orders} (elim x [ At e ↦ record { end = e; tally = tallied s side t (orders_at 13 s (record { from = at; to = e })) } | Broken ↦ told_not 0 ])
+      go : (x : Option ℕ) → value 13 s at ≡ x
+          → ◌≡◌ {A = Orders} (elim x [ Some e ↦ record { end = e; tally = tallied s side t (orders_at 13 s (record { from = at; to = e })) } | None ↦ told_not 0 ])
           (record { end = end_of x; tally = tallied s side t (orders_at 13 s (record { from = at; to = end_of x })) })
-      go (At e) q = refl
-      go Broken q = sym (ap (λ (u : OrderTally). record { end = 0; tally = u }) (none q))
+      go (Some e) q = refl
+      go None q = sym (ap (λ (u : OrderTally). record { end = 0; tally = u }) (none q))
 
   module _ (before after : List ℕ) (r : Orders) (h : Met s 13 side t at before after r) where
     pub orders-end : r.end ≡ end_of (value 13 s at)
@@ -77,19 +76,19 @@ module _ (s : List ℕ) (at : ℕ) (side : Side) (t : OrderTally) where
           few = λ n. let k = h.few (λ z. n (sym e ∙ z)) in omega arith;
           room = h.room;
           kept = λ n x w.
-              subst (λ (y : Reading (List SidedOrder)). Holds s (and_also x y) r.tally after) same
+              subst (λ (y : Option (List SidedOrder)). Holds s (and_also x y) r.tally after) same
               (holds_more s x t side at before after r w h (end_of (value 13 s at)) (end-at (value 13 s at) (end_of (value 13 s at)) refl n));
         }
 
 -- nothing is added by a value that is passed over
 pub passed-added : (s : List ℕ) (at : ℕ) (name : Span) (t : OrderTally) (buffer : List ℕ) → count t ≤ at → length buffer ≡ 1536
-    → reads [] ≡ member_orders s (record { name = name; value = record { from = at; to = end_of (value 13 s at) } })
+    → Some [] ≡ member_orders s (record { name = name; value = record { from = at; to = end_of (value 13 s at) } })
     → Added s (record { name = name; value = record { from = at; to = end_of (value 13 s at) } }) t t buffer buffer
 passed-added s at name t buffer few room same =
     record {
       few = λ n. let b = bounds (end_of (value 13 s at)) (value_in 13 s at) (end-at (value 13 s at) (end_of (value 13 s at)) refl n) in omega arith;
       room = room;
-      kept = λ n x w. subst (λ (y : Reading (List SidedOrder)). Holds s y t buffer) (sym (also-none x) ∙ ap (and_also x) same) w;
+      kept = λ n x w. subst (λ (y : Option (List SidedOrder)). Holds s y t buffer) (sym (also-none x) ∙ ap (and_also x) same) w;
     }
 
 -- ---- by the name of the member m, whose value ends at e
@@ -105,7 +104,7 @@ module _ (s : List ℕ) (m : Pair) where
   unfolding member_orders
   orders-asks n y = sym (rw (n, y))
 
-  pub orders-other : means s m.name (ascii "bids") ≡ false → means s m.name (ascii "asks") ≡ false → reads [] ≡ member_orders s m
+  pub orders-other : means s m.name (ascii "bids") ≡ false → means s m.name (ascii "asks") ≡ false → Some [] ≡ member_orders s m
   unfolding member_orders
   orders-other n o = sym (rw (n, o))
 

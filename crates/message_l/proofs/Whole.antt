@@ -1,11 +1,11 @@
 -- The object in `data`, once its members were met: what is told of it, and what the buffer has. Assumes nothing.
+use Rattle.std.specs.Prelude.{None, Option, Some}
 use Prim.Native.Nat.{ℕ, ◌+◌, ◌≤◌, ◌<◌}
 use mathlib.Core.Path.{◌≡◌, refl, sym, ap, ◌∙◌, subst}
 use mathlib.Core.List.{List, [], ◌∷◌}
 use native.Mathlib.Omega.{arith}
 use lib.ListN.{length}
 use Rattle.text.specs.Text.{byte_at}
-use Rattle.decimal.specs.Digits.{Reading, reads, refused}
 use Rattle.json_tokens.specs.Tokens.{blanks, closing, separator}
 use Rattle.json_tokens.specs.Ends.{end_of}
 use Rattle.json_values.specs.Json.{Span, Pair, Items, items, no_items, items_end, member, members, value}
@@ -33,7 +33,7 @@ abbrev pub listing_loop : List ℕ → List ℕ → Loop Pair Listing Listing
 listing_loop name s = over_members 13 s (more_listing name s) listing_end (no_listing 0)
 
 module _ (name s : List ℕ) (at : ℕ) where
-  listing-folds : (e : ℕ) (ms : List Pair) → listing_from name s e (reads ms) ≡ listing_end e (fold_from (more_listing name s) (no_listing 0) ms)
+  listing-folds : (e : ℕ) (ms : List Pair) → listing_from name s e (Some ms) ≡ listing_end e (fold_from (more_listing name s) (no_listing 0) ms)
   unfolding listing_from
   listing-folds e ms = refl
 
@@ -54,37 +54,37 @@ pub listing-end-at : (name s : List ℕ) (at : ℕ) → (listing_at name s at).s
 unfolding listing_at listing_from
 listing-end-at name s at = go (object_at 14 s (record { from = at; to = end_of (value 14 s at) }))
   where
-    go : (x : Reading (List Pair)) → (listing_from name s (end_of (value 14 s at)) x).sides.end ≡ end_of (value 14 s at)
-    go (reads ms) = refl
-    go refused = refl
+    go : (x : Option (List Pair)) → (listing_from name s (end_of (value 14 s at)) x).sides.end ≡ end_of (value 14 s at)
+    go (Some ms) = refl
+    go None = refl
 
 -- ---- what the members hold, one after the other
 
-abbrev pub with_orders : List ℕ → Reading (List SidedOrder) → Pair → Reading (List SidedOrder)
+abbrev pub with_orders : List ℕ → Option (List SidedOrder) → Pair → Option (List SidedOrder)
 with_orders s x m = and_also x (member_orders s m)
 
-abbrev pub orders_loop : List ℕ → Loop Pair (Reading (List SidedOrder)) (Reading (List SidedOrder))
-orders_loop s = over_members 13 s (with_orders s) (λ e x. x) refused
+abbrev pub orders_loop : List ℕ → Loop Pair (Option (List SidedOrder)) (Option (List SidedOrder))
+orders_loop s = over_members 13 s (with_orders s) (λ e x. x) None
 
-abbrev pub all_orders : List ℕ → ℕ → Reading (List SidedOrder)
-all_orders s at = made (orders_loop s) (reads []) (members (value 13 s) s (at + 1))
+abbrev pub all_orders : List ℕ → ℕ → Option (List SidedOrder)
+all_orders s at = made (orders_loop s) (Some []) (members (value 13 s) s (at + 1))
 
-orders-from : (s : List ℕ) (x : Reading (List SidedOrder)) (ms : List Pair) → fold_from (with_orders s) x ms ≡ and_also x (orders_in s ms)
+orders-from : (s : List ℕ) (x : Option (List SidedOrder)) (ms : List Pair) → fold_from (with_orders s) x ms ≡ and_also x (orders_in s ms)
 unfolding fold_from orders_in
 orders-from s x [] = sym (also-none x)
 orders-from s x (m ∷ ms) = orders-from s (with_orders s x m) ms ∙ also-assoc x (member_orders s m) (orders_in s ms)
 
-orders-all : (s : List ℕ) (a : Span) (ms : List Pair) → byte_at s a.from ≡ 123 → object_at 14 s a ≡ reads ms → all_orders s a.from ≡ orders_in s ms
+orders-all : (s : List ℕ) (a : Span) (ms : List Pair) → byte_at s a.from ≡ 123 → object_at 14 s a ≡ Some ms → all_orders s a.from ≡ orders_in s ms
 unfolding folded_in contents
 orders-all s a ms o g = go (members (value 13 s) s (a.from + 1)) (sym (object-yes 13 s a o) ∙ g)
   where
-    go : (y : Items Pair) → contents y ≡ reads ms → folded_in (with_orders s) (λ e x. x) refused (reads []) y ≡ orders_in s ms
-    go (items l k) q = ap (fold_from (with_orders s) (reads [])) (sym (same_row q)) ∙ orders-from s (reads []) ms ∙ none-also (orders_in s ms)
+    go : (y : Items Pair) → contents y ≡ Some ms → folded_in (with_orders s) (λ e x. x) None (Some []) y ≡ orders_in s ms
+    go (items l k) q = ap (fold_from (with_orders s) (Some [])) (sym (same_row q)) ∙ orders-from s (Some []) ms ∙ none-also (orders_in s ms)
     go no_items q = no_row q
 
 -- x was read so far, of all orders in the end
 pub record Holding (s : List ℕ) (at : ℕ) (t : OrderTally) (i : ℕ) (buffer : List ℕ) : Type 0 where
-  pub x : Reading (List SidedOrder)
+  pub x : Option (List SidedOrder)
   pub left : Left (orders_loop s) x i (all_orders s at)
   pub holds : Holds s x t buffer
 
@@ -105,7 +105,7 @@ module _ (s : List ℕ) (at : ℕ) {t u : OrderTally} {i e : ℕ} {m : Pair} {be
   -- the object ends
   pub holding-last : l ≡ 0 → (k : ℕ) → k ≡ end_of (closing 125 s e) → (k ≡ 0 → ⊥) → Holds s (all_orders s at) u after
   holding-last z k y o =
-      subst (λ (x : Reading (List SidedOrder)). Holds s x u after) (fold-last (orders_loop s) g.x g.left stands l c z k y o refl) (h.kept n g.x g.holds)
+      subst (λ (x : Option (List SidedOrder)). Holds s x u after) (fold-last (orders_loop s) g.x g.left stands l c z k y o refl) (h.kept n g.x g.holds)
 
 -- ---- the answers
 
@@ -124,13 +124,13 @@ module _ (name s : List ℕ) (at : ℕ) (after : List ℕ) (r : Listing) (room :
       none : end_of (value 14 s at) ≡ 0
       none = sym (ap (λ (l : Listing). l.sides.end) told ∙ listing-end-at name s at) ∙ z
 
-      ends : (x : Items Pair) → value 14 s at ≡ items_end x → (ms : List Pair) → contents x ≡ reads ms → {A : Type 0} → A
+      ends : (x : Items Pair) → value 14 s at ≡ items_end x → (ms : List Pair) → contents x ≡ Some ms → {A : Type 0} → A
       ends (items l e) v ms g = let b = bounds e (value_in 14 s at) v in let k : e ≡ 0 = sym (ap end_of v) ∙ none in absurd (omega arith)
       ends no_items v ms g = no_row g
 
-      not-json : (ms : List Pair) → object_at 14 s here ≡ reads ms → Holds s (orders_in s ms) r.sides.tally after
+      not-json : (ms : List Pair) → object_at 14 s here ≡ Some ms → Holds s (orders_in s ms) r.sides.tally after
       not-json ms g = ends (members (value 13 s) s (at + 1)) (value-object s at 13 o) ms (sym (object-yes 13 s here o) ∙ g)
 
   pub object-read : byte_at s at ≡ 123 → Holds s (all_orders s at) r.sides.tally after → ObjectRead name s at after r
   object-read o h =
-      record { told = told; room = room; holds = λ ms g. subst (λ (x : Reading (List SidedOrder)). Holds s x r.sides.tally after) (orders-all s here ms o g) h }
+      record { told = told; room = room; holds = λ ms g. subst (λ (x : Option (List SidedOrder)). Holds s x r.sides.tally after) (orders-all s here ms o g) h }

@@ -1,7 +1,6 @@
 -- What one walk over `data` collects of the one object in it, member by member. Assumes nothing: these are definitions.
-use Rattle.std.specs.Prelude.{ℕ, ◌≤◌, ◌≡◌, false, ◌&&◌, ◌||◌, cond, List, map, eqb, length, take}
+use Rattle.std.specs.Prelude.{ℕ, ◌≤◌, ◌≡◌, false, ◌&&◌, ◌||◌, cond, List, map, eqb, length, take, None, Option, Some}
 use Rattle.text.specs.Text.{ascii, byte_at}
-use Rattle.decimal.specs.Digits.{Reading, reads, refused}
 use Rattle.edit.specs.declared.Side.TheVariants.{Bids, Asks}
 use Rattle.json_tokens.specs.Bytes.{open_object}
 use Rattle.json_tokens.specs.Ends.{end_of}
@@ -40,16 +39,16 @@ more_sides s d m =
     }
 
 -- t tells what was read of the orders so far, and the buffer has what they say, up to its end.
-pub record Holds (s : List ℕ) (x : Reading (List SidedOrder)) (t : OrderTally) (buffer : List ℕ) : Type 0 where
-  pub all : (os : List SidedOrder) → x ≡ reads os → t ≡ tally_of s os
-  pub none : x ≡ refused → t.well_formed ≡ false
-  pub front : (os : List SidedOrder) → x ≡ reads os → take (length os) (entries_in buffer) ≡ take max_buffered (map (entry_of s) os)
+pub record Holds (s : List ℕ) (x : Option (List SidedOrder)) (t : OrderTally) (buffer : List ℕ) : Type 0 where
+  pub all : (os : List SidedOrder) → x ≡ Some os → t ≡ tally_of s os
+  pub none : x ≡ None → t.well_formed ≡ false
+  pub front : (os : List SidedOrder) → x ≡ Some os → take (length os) (entries_in buffer) ≡ take max_buffered (map (entry_of s) os)
 
 -- A reader of the member m promises that its value, if it is JSON, is told, and that the buffer has the orders that it holds.
 pub record Added (s : List ℕ) (m : Pair) (t u : OrderTally) (before after : List ℕ) : Type 0 where
   pub few : (m.value.to ≡ 0 → ⊥) → count u ≤ m.value.to
   pub room : length after ≡ buffer_words
-  pub kept : (m.value.to ≡ 0 → ⊥) → (x : Reading (List SidedOrder)) → Holds s x t before → Holds s (and_also x (member_orders s m)) u after
+  pub kept : (m.value.to ≡ 0 → ⊥) → (x : Option (List SidedOrder)) → Holds s x t before → Holds s (and_also x (member_orders s m)) u after
 
 pub record MoreSides (s : List ℕ) (d : Sides) (m : Pair) (before after : List ℕ) (r : Sides) : Type 0 where
   pub told : r ≡ more_sides s d m
@@ -84,9 +83,9 @@ pub record MoreListing (name s : List ℕ) (l : Listing) (m : Pair) (before afte
   pub told : r ≡ more_listing name s l m
   pub added : Added s m l.sides.tally r.sides.tally before after
 
-unfoldable pub listing_from : List ℕ → List ℕ → ℕ → Reading (List Pair) → Listing
-listing_from name s end (reads ms) = listing_end end (fold_from (more_listing name s) (no_listing 0) ms)
-listing_from name s end refused = no_listing end
+unfoldable pub listing_from : List ℕ → List ℕ → ℕ → Option (List Pair) → Listing
+listing_from name s end (Some ms) = listing_end end (fold_from (more_listing name s) (no_listing 0) ms)
+listing_from name s end None = no_listing end
 
 -- The value at a position as the object in `data`.
 unfoldable pub listing_at : List ℕ → List ℕ → ℕ → Listing
@@ -97,22 +96,22 @@ listing_at name s at =
 pub record ObjectRead (name s : List ℕ) (at : ℕ) (after : List ℕ) (r : Listing) : Type 0 where
   pub told : r ≡ listing_at name s at
   pub room : length after ≡ buffer_words
-  pub holds : (ms : List Pair) → object_at object_depth s (record { from = at; to = end_of (value object_depth s at) }) ≡ reads ms
+  pub holds : (ms : List Pair) → object_at object_depth s (record { from = at; to = end_of (value object_depth s at) }) ≡ Some ms
       → Holds s (orders_in s ms) r.sides.tally after
 
 -- ---- the value of a member `data`
 
 -- The one element of the array that a value is.
-unfoldable pub one_in : List ℕ → Span → Reading Span
+unfoldable pub one_in : List ℕ → Span → Option Span
 one_in s a = and_then (array_at item_depth s a) only
 
 -- A value that ends at `end` and is no array of one.
 abbrev pub not_one : ℕ → Data
 not_one end = record { end = end; one = false; listing = no_listing 0 }
 
-unfoldable pub data_from : List ℕ → List ℕ → ℕ → Reading Span → Data
-data_from name s end (reads a) = record { end = end; one = eqb (byte_at s a.from) open_object; listing = listing_at name s a.from }
-data_from name s end refused = not_one end
+unfoldable pub data_from : List ℕ → List ℕ → ℕ → Option Span → Data
+data_from name s end (Some a) = record { end = end; one = eqb (byte_at s a.from) open_object; listing = listing_at name s a.from }
+data_from name s end None = not_one end
 
 abbrev pub data_span : List ℕ → ℕ → Span
 data_span s at = record { from = at; to = end_of (value item_depth s at) }
@@ -124,5 +123,5 @@ data_at name s at = data_from name s (end_of (value item_depth s at)) (one_in s 
 pub record DataRead (name s : List ℕ) (at : ℕ) (after : List ℕ) (r : Data) : Type 0 where
   pub told : r ≡ data_at name s at
   pub room : length after ≡ buffer_words
-  pub holds : (a : Span) → one_in s (data_span s at) ≡ reads a → (ms : List Pair) → object_at object_depth s a ≡ reads ms
+  pub holds : (a : Span) → one_in s (data_span s at) ≡ Some a → (ms : List Pair) → object_at object_depth s a ≡ Some ms
       → Holds s (orders_in s ms) r.listing.sides.tally after

@@ -1,8 +1,7 @@
 -- The orders of a message of dialect L, as request c has them: those of `bids` and of `asks` in the object that is `data`'s one element.
 -- Assumes nothing: these are definitions.
-use Rattle.std.specs.Prelude.{ℕ, ◌-◌, cond, List, [], ◌∷◌, map}
+use Rattle.std.specs.Prelude.{ℕ, ◌-◌, cond, List, [], ◌∷◌, map, Option, Some}
 use Rattle.text.specs.Text.{ascii}
-use Rattle.decimal.specs.Digits.{Reading, reads}
 use Rattle.edit.specs.declared.Side.{Side}
 use Rattle.edit.specs.declared.Side.TheVariants.{Bids, Asks}
 use Rattle.json_values.specs.Json.{Span, Pair}
@@ -31,18 +30,18 @@ pub record SidedOrder : Type 0 where
 abbrev pub sided_order : Side → OrderRow → SidedOrder
 sided_order side r = record { side = side; row = r }
 
-unfoldable pub sided_orders_at : Side → List ℕ → Span → Reading (List SidedOrder)
-sided_orders_at side s a = and_then (orders_at orders_depth s a) (λ rows. reads (map (sided_order side) rows))
+unfoldable pub sided_orders_at : Side → List ℕ → Span → Option (List SidedOrder)
+sided_orders_at side s a = and_then (orders_at orders_depth s a) (λ rows. Some (map (sided_order side) rows))
 
 -- The orders that a member holds, by its name.
-unfoldable pub member_orders : List ℕ → Pair → Reading (List SidedOrder)
+unfoldable pub member_orders : List ℕ → Pair → Option (List SidedOrder)
 member_orders s m =
     cond (means s m.name (ascii "bids")) (sided_orders_at Bids s m.value)
-    (cond (means s m.name (ascii "asks")) (sided_orders_at Asks s m.value) (reads []))
+    (cond (means s m.name (ascii "asks")) (sided_orders_at Asks s m.value) (Some []))
 
 -- Those that the members of an object hold, in their order.
-unfoldable pub orders_in : List ℕ → List Pair → Reading (List SidedOrder)
-orders_in s [] = reads []
+unfoldable pub orders_in : List ℕ → List Pair → Option (List SidedOrder)
+orders_in s [] = Some []
 orders_in s (m ∷ ms) = and_also (member_orders s m) (orders_in s ms)
 
 -- What an order says.

@@ -1,12 +1,12 @@
 -- The layout out of what was met, one test at a time.
 -- Assumes nothing.
+use Rattle.std.specs.Prelude.{None, Option, Some}
 use mathlib.Core.Path.{◌≡◌, sym, ◌∙◌}
 use mathlib.Core.List.{List}
 use mathlib.Core.Bool.{Bool, true, false, ◌&&◌}
 use Prim.Native.Nat.{ℕ}
 use borrow.Author.Tests.{eq-eqb, ne_eqb}
 use Rattle.text.specs.Text.{ascii}
-use Rattle.decimal.specs.Digits.{Reading, reads, refused}
 use Rattle.json_values.specs.Json.{Span}
 use Rattle.json_values.specs.Names.{means}
 use Rattle.entries.specs.Places.{and_then, whole_at, checksum_at}
@@ -27,34 +27,34 @@ use Rattle.message_m.specs.declared.Members.{Members}
 
 -- ---- where something is read, or not
 module _ {A : Type 0} (f : A → Outline) where
-  pub where-reads : {x : Reading A} {a : A} → x ≡ reads a → f a ≡ outline_where x f
+  pub where-reads : {x : Option A} {a : A} → x ≡ Some a → f a ≡ outline_where x f
   unfolding outline_where
   where-reads h = sym (rw h)
 
-  pub where-refused : {x : Reading A} → x ≡ refused → no_outline ≡ outline_where x f
+  pub where-refused : {x : Option A} → x ≡ None → no_outline ≡ outline_where x f
   unfolding outline_where
   where-refused h = sym (rw h)
 
 -- ---- from the checksum on
 module _ (s : List ℕ) (kind : Kind) (t : Tally) (k g : MemberSpan) where
-  abbrev sum : Reading ℕ
+  abbrev sum : Option ℕ
   sum = and_then (once_at k) (checksum_at s)
 
-  abbrev number : Reading ℕ
+  abbrev number : Option ℕ
   number = and_then (once_at g) (whole_at s)
 
   abbrev with-sum : ℕ → Outline
   with-sum u = outline_where number (λ n. outline_from kind t true u n)
 
-  pub numbers-no-sum : sum ≡ refused → no_outline ≡ numbers_in s kind t k g
+  pub numbers-no-sum : sum ≡ None → no_outline ≡ numbers_in s kind t k g
   unfolding numbers_in
   numbers-no-sum h = where-refused with-sum h
 
-  pub numbers-no-number : (u : ℕ) → sum ≡ reads u → number ≡ refused → no_outline ≡ numbers_in s kind t k g
+  pub numbers-no-number : (u : ℕ) → sum ≡ Some u → number ≡ None → no_outline ≡ numbers_in s kind t k g
   unfolding numbers_in
   numbers-no-number u h r = where-refused (λ n. outline_from kind t true u n) r ∙ where-reads with-sum h
 
-  pub numbers-are : (u n : ℕ) → sum ≡ reads u → number ≡ reads n → outline_from kind t true u n ≡ numbers_in s kind t k g
+  pub numbers-are : (u n : ℕ) → sum ≡ Some u → number ≡ Some n → outline_from kind t true u n ≡ numbers_in s kind t k g
   unfolding numbers_in
   numbers-are u n h r = where-reads (λ n. outline_from kind t true u n) r ∙ where-reads with-sum h
 
@@ -122,20 +122,20 @@ module _ (s : List ℕ) (met : Members) where
         pub outline-snapshot : means s (place_of met.kind) (ascii "snapshot") ≡ true → body_in s Snapshot met ≡ outline_in s met
         unfolding kind_at
         outline-snapshot h =
-            let k : kind_at s (place_of met.kind) ≡ reads Snapshot = rw h in
+            let k : kind_at s (place_of met.kind) ≡ Some Snapshot = rw h in
             where-reads of-type (then-yes met.kind (kind_at s) t ∙ k) ∙ past-product
 
         module _ (n : means s (place_of met.kind) (ascii "snapshot") ≡ false) where
           pub outline-update : means s (place_of met.kind) (ascii "update") ≡ true → body_in s Update met ≡ outline_in s met
           unfolding kind_at
           outline-update h =
-              let k : kind_at s (place_of met.kind) ≡ reads Update = rw (n, h) in
+              let k : kind_at s (place_of met.kind) ≡ Some Update = rw (n, h) in
               where-reads of-type (then-yes met.kind (kind_at s) t ∙ k) ∙ past-product
 
           pub outline-neither : means s (place_of met.kind) (ascii "update") ≡ false → no_outline ≡ outline_in s met
           unfolding kind_at
           outline-neither h =
-              let k : kind_at s (place_of met.kind) ≡ refused = rw (n, h) in
+              let k : kind_at s (place_of met.kind) ≡ None = rw (n, h) in
               where-refused of-type (then-yes met.kind (kind_at s) t ∙ k) ∙ past-product
 
 -- part by part
@@ -161,10 +161,10 @@ module _ (s : List ℕ) (before : MemberSpan) (o : Outline) where
     linked-snapshot f k = sym (rw (h, f, k, linked_outline))
 
     module _ (f : o.well_formed ≡ true) (k : is_snapshot o.kind ≡ false) where
-      pub linked-reads : (n : ℕ) → and_then (once_at before) (whole_at s) ≡ reads n → following n o ≡ linked_outline linked s before o
+      pub linked-reads : (n : ℕ) → and_then (once_at before) (whole_at s) ≡ Some n → following n o ≡ linked_outline linked s before o
       unfolding linked_outline
       linked-reads n e = where-reads (λ n. following n o) e ∙ sym (rw (h, f, k, linked_outline))
 
-      pub linked-refused : and_then (once_at before) (whole_at s) ≡ refused → no_outline ≡ linked_outline linked s before o
+      pub linked-refused : and_then (once_at before) (whole_at s) ≡ None → no_outline ≡ linked_outline linked s before o
       unfolding linked_outline
       linked-refused e = where-refused (λ n. following n o) e ∙ sym (rw (h, f, k, linked_outline))

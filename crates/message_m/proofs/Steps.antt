@@ -1,5 +1,6 @@
 -- One member more, as the code finds it.
 -- Assumes nothing.
+use Rattle.std.specs.Prelude.{None, Option, Some, ℕ}
 use mathlib.Core.Path.{◌≡◌, refl, sym, ap, ◌∙◌, subst}
 use mathlib.Core.List.{List, [], ◌∷◌}
 use mathlib.Core.Bool.{Bool, true, false, ◌&&◌, ◌||◌, cond}
@@ -9,10 +10,8 @@ use borrow.Author.Tests.{eq-eqb, ne_eqb, eqb-true}
 use lib.Dec.{eqb}
 use lib.ListN.{length}
 use Rattle.text.specs.Text.{ascii, byte_at}
-use Rattle.decimal.specs.Digits.{Reading, reads, refused}
 use Rattle.edit.specs.declared.Side.{Side}
 use Rattle.edit.specs.declared.Side.TheVariants.{Bids, Asks}
-use Rattle.json_tokens.specs.Tokens.{End, At, Broken}
 use Rattle.json_tokens.specs.Ends.{end_of}
 use Rattle.json_tokens.proofs.Laws.{end-at}
 use Rattle.json_tokens.proofs.Bounds.{bounds}
@@ -106,11 +105,11 @@ and_no x k n h = sym (rw (ne_eqb k n h))
 
 -- ---- a side of `data`
 
-array-broken : (d : ℕ) (s : List ℕ) (a : Span) → value (suc d) s a.from ≡ Broken → array_at (suc d) s a ≡ refused
+array-broken : (d : ℕ) (s : List ℕ) (a : Span) → value (suc d) s a.from ≡ None → array_at (suc d) s a ≡ None
 unfolding array_at
 array-broken d s a h = go (eqb (byte_at s a.from) 91) refl
   where
-    go : (b : Bool) → eqb (byte_at s a.from) 91 ≡ b → cond b (contents (elements (value d s) s (a.from + 1))) refused ≡ refused
+    go : (b : Bool) → eqb (byte_at s a.from) 91 ≡ b → cond b (contents (elements (value d s) s (a.from + 1))) None ≡ None
     go true q = contents-broken (elements (value d s) s (a.from + 1)) (sym (value-array s a.from d (eqb-true _ _ q)) ∙ h)
     go false q = refl
 
@@ -123,14 +122,14 @@ module _ (s : List ℕ) (at : ℕ) (side : Side) (t : Tally) where
   unfolding told_at end_of array_tally spans_tally
   told_is = go (value 14 s at) refl
     where
-      none : value 14 s at ≡ Broken → array_at 14 s (record { from = at; to = 0 }) ≡ refused
+      none : value 14 s at ≡ None → array_at 14 s (record { from = at; to = 0 }) ≡ None
       none q = array-broken 13 s (record { from = at; to = 0 }) q
 
-      go : (x : End) → value 14 s at ≡ x
-          → ◌≡◌ {A = Entries} (elim x [ At e ↦ record { end = e; tally = array_tally 0 s 14 forms.Pair side t (record { from = at; to = e }) } | Broken ↦ told_not 0 ])
+      go : (x : Option ℕ) → value 14 s at ≡ x
+          → ◌≡◌ {A = Entries} (elim x [ Some e ↦ record { end = e; tally = array_tally 0 s 14 forms.Pair side t (record { from = at; to = e }) } | None ↦ told_not 0 ])
           (record { end = end_of x; tally = array_tally 0 s 14 forms.Pair side t (record { from = at; to = end_of x }) })
-      go (At e) q = refl
-      go Broken q = sym (rw (none q))
+      go (Some e) q = refl
+      go None q = sym (rw (none q))
 
   module _ (before after : List ℕ) (r : Entries) (h : Met 0 s 14 forms.Pair side t at before after r) where
     pub entries-end : r.end ≡ end_of (value 14 s at)
@@ -153,19 +152,19 @@ module _ (s : List ℕ) (at : ℕ) (side : Side) (t : Tally) where
         }
 
 -- the same where another thing is added, which is the same
-pub added-as : {s : List ℕ} {a : Span} {t u : Tally} {f g : Reading (List Entry) → Reading (List Entry)} {before after : List ℕ} → Added s a t u f before after
-    → ((x : Reading (List Entry)) → f x ≡ g x) → Added s a t u g before after
+pub added-as : {s : List ℕ} {a : Span} {t u : Tally} {f g : Option (List Entry) → Option (List Entry)} {before after : List ℕ} → Added s a t u f before after
+    → ((x : Option (List Entry)) → f x ≡ g x) → Added s a t u g before after
 added-as {s} {a} {t} {u} {f} {g} {before} {after} h same =
     record {
       few = h.few;
       room = h.room;
       kept = λ n x w k.
           let p = h.kept n x w k in
-          (subst (λ (y : Reading (List Entry)). Tells s y u) (same x) p.0, subst (λ (y : Reading (List Entry)). Kept s y after) (same x) p.1);
+          (subst (λ (y : Option (List Entry)). Tells s y u) (same x) p.0, subst (λ (y : Option (List Entry)). Kept s y after) (same x) p.1);
     }
 
 -- .. and where the same is told
-pub added-told : {s : List ℕ} {a : Span} {t u v : Tally} {f : Reading (List Entry) → Reading (List Entry)} {before after : List ℕ} → v ≡ u → Added s a t u f before after → Added s a t v f before after
+pub added-told : {s : List ℕ} {a : Span} {t u v : Tally} {f : Option (List Entry) → Option (List Entry)} {before after : List ℕ} → v ≡ u → Added s a t u f before after → Added s a t v f before after
 added-told {s} {a} {t} {u} {v} {f} {before} {after} e h = subst (λ (x : Tally). Added s a t x f before after) (sym e) h
 
 -- nothing is added by a value that is passed over
@@ -197,7 +196,7 @@ module _ (s : List ℕ) (d : Data) (m : Pair) {e : ℕ} (h : e ≡ m.value.to) w
   unfolding more_data tally_with on_hit
   data-other n o = sym (rw (n, o, h))
 
-module _ (s : List ℕ) (x : Reading (List Entry)) (m : Pair) where
+module _ (s : List ℕ) (x : Option (List Entry)) (m : Pair) where
   pub held-bids : means s m.name (ascii "bids") ≡ true → and_also x (sided_at Bids forms.Pair 14 s m.value) ≡ with_held s x m
   unfolding with_held
   held-bids y = sym (rw y)
@@ -216,9 +215,9 @@ pub data-end : (s : List ℕ) (t : Tally) (a : Span) → (data_of s t a).end ≡
 unfolding data_of data_from
 data-end s t a = go (object_at 15 s a)
   where
-    go : (x : Reading (List Pair)) → (data_from s a.to t x).end ≡ a.to
-    go (reads ms) = refl
-    go refused = refl
+    go : (x : Option (List Pair)) → (data_from s a.to t x).end ≡ a.to
+    go (Some ms) = refl
+    go None = refl
 
 body-made : {e f : ℕ} {k m : MemberSpan} {c d : Data} → e ≡ f → k ≡ m → c ≡ d → ◌≡◌ {A = Body} (record { end = e; mark = k; last = c }) (record { end = f; mark = m; last = d })
 body-made p q r = rw (p, q, r)
@@ -238,11 +237,11 @@ module _ (s : List ℕ) (b : Body) (a : Span) (k n : ℕ) where
       body-made h (sym (hit-no (eqb k n) with_member_span b.mark a (ne_eqb k n y))) (sym (hit-no (eqb k n) (λ d v. data_of s d.tally v) b.last a (ne_eqb k n y)))
 
 -- what a member adds
-pub body-held : (s : List ℕ) (hit : Bool) (x : Reading (List Entry)) (a : Span) → hit ≡ true → held_of s x (object_at 15 s a) ≡ body_held s hit x a
+pub body-held : (s : List ℕ) (hit : Bool) (x : Option (List Entry)) (a : Span) → hit ≡ true → held_of s x (object_at 15 s a) ≡ body_held s hit x a
 unfolding body_held
 body-held s hit x a h = sym (rw h)
 
-pub body-passed : (s : List ℕ) (hit : Bool) (x : Reading (List Entry)) (a : Span) → hit ≡ false → x ≡ body_held s hit x a
+pub body-passed : (s : List ℕ) (hit : Bool) (x : Option (List Entry)) (a : Span) → hit ≡ false → x ≡ body_held s hit x a
 unfolding body_held
 body-passed s hit x a h = sym (rw h)
 

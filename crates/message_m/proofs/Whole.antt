@@ -1,5 +1,6 @@
 -- What was met in the end is what the definition of the dialect asks for.
 -- Assumes nothing.
+use Rattle.std.specs.Prelude.{None, Option, Some, ℕ}
 use mathlib.Core.Path.{◌≡◌, refl, sym, ap, ap₂, ◌∙◌, subst}
 use mathlib.Core.List.{List, [], ◌∷◌}
 use mathlib.Core.Bool.{Bool, true, false, ◌&&◌, ◌||◌, cond, or_assoc, or-false}
@@ -8,9 +9,8 @@ use native.Mathlib.Omega.{arith}
 use lib.Dec.{eqb}
 use lib.ListN.{length}
 use Rattle.text.specs.Text.{ascii, byte_at}
-use Rattle.decimal.specs.Digits.{Reading, reads, refused}
 use Rattle.edit.specs.declared.Side.TheVariants.{Bids, Asks}
-use Rattle.json_tokens.specs.Tokens.{End, At, Broken, blanks, closing}
+use Rattle.json_tokens.specs.Tokens.{blanks, closing}
 use Rattle.json_tokens.specs.Ends.{end_of}
 use Rattle.json_values.specs.Json.{Span, Pair, value}
 use Rattle.json_values.specs.Names.{means}
@@ -38,7 +38,7 @@ use Rattle.message_m.specs.declared.Members.{Members}
 use Rattle.message_m.proofs.Steps.{placed-more}
 
 -- ---- the sides of `data`
-pub data-folds : (s : List ℕ) (t : Tally) (e : ℕ) (ms : List Pair) → data_from s e t (reads ms) ≡ data_end e (fold_from (more_data s) (no_data 0 t) ms)
+pub data-folds : (s : List ℕ) (t : Tally) (e : ℕ) (ms : List Pair) → data_from s e t (Some ms) ≡ data_end e (fold_from (more_data s) (no_data 0 t) ms)
 unfolding data_from
 data-folds s t e ms = refl
 
@@ -55,7 +55,7 @@ abbrev pub data_at : List ℕ → Tally → ℕ → Data
 data_at s t at = data_of s t (record { from = at; to = end_of (value 15 s at) })
 
 module _ (s : List ℕ) (t : Tally) (at : ℕ) where
-  abbrev made : ℕ → Reading (List Pair) → Data
+  abbrev made : ℕ → Option (List Pair) → Data
   made e x = data_from s e t x
 
   pub data-none : (byte_at s at ≡ 123 → ⊥) → {e : ℕ} → e ≡ end_of (value 15 s at) → no_data e t ≡ data_at s t at
@@ -72,7 +72,7 @@ module _ (s : List ℕ) (t : Tally) (at : ℕ) where
     data-start z k b = made-start made 14 s at opens (more_data s) data_end (no_data 0 t) (data-folds s t) e h z k b
 
 -- what their members hold is told
-held_tells : (s : List ℕ) (x : Reading (List Entry)) (t : Tally) (m : Pair) → Tells s x t → Tells s (with_held s x m) (tally_with s t m)
+held_tells : (s : List ℕ) (x : Option (List Entry)) (t : Tally) (m : Pair) → Tells s x t → Tells s (with_held s x m) (tally_with s t m)
 unfolding with_held tally_with
 held_tells s x t m h = go (means s m.name (ascii "bids")) (means s m.name (ascii "asks"))
   where
@@ -83,28 +83,28 @@ held_tells s x t m h = go (means s m.name (ascii "bids")) (means s m.name (ascii
     go false true = tells_more s x t Asks forms.Pair 14 m.value h
     go false false = h
 
-held_all : (s : List ℕ) (x : Reading (List Entry)) (d : Data) (ms : List Pair) → Tells s x d.tally → Tells s (fold_from (with_held s) x ms) (fold_from (more_data s) d ms).tally
+held_all : (s : List ℕ) (x : Option (List Entry)) (d : Data) (ms : List Pair) → Tells s x d.tally → Tells s (fold_from (with_held s) x ms) (fold_from (more_data s) d ms).tally
 unfolding fold_from more_data
 held_all s x d [] h = h
 held_all s x d (m ∷ ms) h = held_all s (with_held s x m) (more_data s d m) ms (held_tells s x d.tally m h)
 
 -- .. and is what the definition has
-one-held : (s : List ℕ) (x : Reading (List Entry)) (m : Pair) → with_held s x m ≡ and_also x (member_entries forms.Pair 14 s (ascii "bids") (ascii "asks") m)
+one-held : (s : List ℕ) (x : Option (List Entry)) (m : Pair) → with_held s x m ≡ and_also x (member_entries forms.Pair 14 s (ascii "bids") (ascii "asks") m)
 unfolding with_held member_entries
 one-held s x m = go (means s m.name (ascii "bids")) (means s m.name (ascii "asks"))
   where
     go : (b a : Bool) → cond b (and_also x (sided_at Bids forms.Pair 14 s m.value)) (cond a (and_also x (sided_at Asks forms.Pair 14 s m.value)) x)
-        ≡ and_also x (cond b (sided_at Bids forms.Pair 14 s m.value) (cond a (sided_at Asks forms.Pair 14 s m.value) (reads [])))
+        ≡ and_also x (cond b (sided_at Bids forms.Pair 14 s m.value) (cond a (sided_at Asks forms.Pair 14 s m.value) (Some [])))
     go true a = refl
     go false true = refl
     go false false = sym (also-none x)
 
-pub held-are : (s : List ℕ) (x : Reading (List Entry)) (ms : List Pair) → fold_from (with_held s) x ms ≡ and_also x (entries_in forms.Pair 14 s (ascii "bids") (ascii "asks") ms)
+pub held-are : (s : List ℕ) (x : Option (List Entry)) (ms : List Pair) → fold_from (with_held s) x ms ≡ and_also x (entries_in forms.Pair 14 s (ascii "bids") (ascii "asks") ms)
 unfolding fold_from entries_in
 held-are s x [] = sym (also-none x)
 held-are s x (m ∷ ms) =
     held-are s (with_held s x m) ms
-    ∙ ap (λ (y : Reading (List Entry)). and_also y (entries_in forms.Pair 14 s (ascii "bids") (ascii "asks") ms)) (one-held s x m)
+    ∙ ap (λ (y : Option (List Entry)). and_also y (entries_in forms.Pair 14 s (ascii "bids") (ascii "asks") ms)) (one-held s x m)
     ∙ also-assoc x (member_entries forms.Pair 14 s (ascii "bids") (ascii "asks") m) (entries_in forms.Pair 14 s (ascii "bids") (ascii "asks") ms)
 
 -- ---- check 5: what some member has
@@ -130,27 +130,27 @@ flag-from step get one some is none with_member_span st (m ∷ ms) =
 -- ---- the layout
 
 -- what is read twice, one after the other, is read at once
-then-assoc : {A B C : Type 0} (x : Reading A) (f : A → Reading B) (g : B → Reading C) → and_then x (λ a. and_then (f a) g) ≡ and_then (and_then x f) g
+then-assoc : {A B C : Type 0} (x : Option A) (f : A → Option B) (g : B → Option C) → and_then x (λ a. and_then (f a) g) ≡ and_then (and_then x f) g
 unfolding and_then
-then-assoc (reads a) f g = refl
-then-assoc refused f g = refl
+then-assoc (Some a) f g = refl
+then-assoc None f g = refl
 
-then-out : (s : List ℕ) {A : Type 0} (f : A → Reading Layout) (g : A → Outline) (x y : Reading A) → x ≡ y
-    → ((a : A) → x ≡ reads a → outline_of s (f a) ≡ g a) → outline_of s (and_then x f) ≡ outline_where y g
+then-out : (s : List ℕ) {A : Type 0} (f : A → Option Layout) (g : A → Outline) (x y : Option A) → x ≡ y
+    → ((a : A) → x ≡ Some a → outline_of s (f a) ≡ g a) → outline_of s (and_then x f) ≡ outline_where y g
 unfolding and_then outline_where outline_of
-then-out s {A} f g x y h k = go x refl ∙ ap (λ (z : Reading A). outline_where z g) h
+then-out s {A} f g x y h k = go x refl ∙ ap (λ (z : Option A). outline_where z g) h
   where
-    go : (z : Reading A) → x ≡ z → outline_of s (and_then z f) ≡ outline_where z g
-    go (reads a) q = k a q
-    go refused q = refl
+    go : (z : Option A) → x ≡ z → outline_of s (and_then z f) ≡ outline_where z g
+    go (Some a) q = k a q
+    go None q = refl
 
-is_only : Reading Span → Bool
-is_only (reads a) = true
-is_only refused = false
+is_only : Option Span → Bool
+is_only (Some a) = true
+is_only None = false
 
 module _ (s : List ℕ) where
   -- the value of the only member `data` is the last one's
-  last-only : (l : List Span) (d : Data) (a : Span) → only l ≡ reads a → fold_from (λ (d : Data) (a : Span). data_of s d.tally a) d l ≡ data_of s d.tally a
+  last-only : (l : List Span) (d : Data) (a : Span) → only l ≡ Some a → fold_from (λ (d : Data) (a : Span). data_of s d.tally a) d l ≡ data_of s d.tally a
   unfolding only fold_from
   last-only [] d a h = let z : ◌≡◌ {A = ℕ} 0 1 = cc in absurd (omega arith)
   last-only (b ∷ []) d a h = let e : b ≡ a = cc in ap (data_of s d.tally) e
@@ -164,12 +164,12 @@ module _ (s : List ℕ) where
   times-once (a ∷ (b ∷ l)) = ap (λ (n : ℕ). eqb n 1) (count-times (a ∷ (b ∷ l)))
 
 -- the outline of a layout that names the sequence number before its own
-named-before : (s : List ℕ) (l : Layout) (x : Reading ℕ)
-    → outline_of s (and_then x (λ n. reads (record { kind = l.kind; entries = l.entries; checksum = l.checksum; number = l.number; previous = n })))
-    ≡ outline_where x (λ n. following n (outline_of s (reads l)))
+named-before : (s : List ℕ) (l : Layout) (x : Option ℕ)
+    → outline_of s (and_then x (λ n. Some (record { kind = l.kind; entries = l.entries; checksum = l.checksum; number = l.number; previous = n })))
+    ≡ outline_where x (λ n. following n (outline_of s (Some l)))
 unfolding and_then outline_of outline_where
-named-before s l (reads n) = refl
-named-before s l refused = refl
+named-before s l (Some n) = refl
+named-before s l None = refl
 
 -- the members that were met, of which ms are all
 module _ (name s : List ℕ) (ms : List Pair) where
@@ -213,7 +213,7 @@ module _ (name s : List ℕ) (ms : List Pair) where
 
   -- ---- from the checksum on, where ds are the members of `data`
   module _ (kind : Kind) (ds : List Pair) where
-    abbrev held : Reading (List Entry)
+    abbrev held : Option (List Entry)
     held = entries_in forms.Pair 14 s (ascii "bids") (ascii "asks") ds
 
     abbrev told : Data
@@ -221,19 +221,19 @@ module _ (name s : List ℕ) (ms : List Pair) where
 
     held-told : Tells s held told.tally
     held-told =
-        subst (λ (x : Reading (List Entry)). Tells s x told.tally) (held-are s (reads []) ds ∙ none-also held)
-        (held_all s (reads []) (no_data 0 none_yet) ds (tells_none s))
+        subst (λ (x : Option (List Entry)). Tells s x told.tally) (held-are s (Some []) ds ∙ none-also held)
+        (held_all s (Some []) (no_data 0 none_yet) ds (tells_none s))
 
-    abbrev all_read : ℕ → ℕ → Reading Layout
+    abbrev all_read : ℕ → ℕ → Option Layout
     all_read sum number = laid kind (printed sum) number held
 
-    abbrev sum-read : ℕ → Reading Layout
+    abbrev sum-read : ℕ → Option Layout
     sum-read sum = and_then (only (values (ascii "gsn"))) (λ g. and_then (whole_at s g) (all_read sum))
 
-    abbrev numbers-read : Reading Layout
+    abbrev numbers-read : Option Layout
     numbers-read = and_then (only (values (ascii "checksum"))) (λ k. and_then (checksum_at s k) sum-read)
 
-    abbrev sides-read : Reading Layout
+    abbrev sides-read : Option Layout
     sides-read = and_then (only (values_of s (ascii "bids") ds)) (λ b. and_then (only (values_of s (ascii "asks") ds)) (λ a. numbers-read))
 
     abbrev outline : ℕ → ℕ → Outline
@@ -247,7 +247,7 @@ module _ (name s : List ℕ) (ms : List Pair) where
     sum-out sum =
         ap (outline_of s) (then-assoc (only (values (ascii "gsn"))) (whole_at s) (all_read sum))
         ∙ then-out s (all_read sum) (outline sum) (and_then (only (values (ascii "gsn"))) (whole_at s)) (and_then (once_at met.gsn) (whole_at s))
-        (ap (λ (x : Reading Span). and_then x (whole_at s)) (only-is (values (ascii "gsn")) met.gsn gsn-is)) (λ n q. all-out sum n)
+        (ap (λ (x : Option Span). and_then x (whole_at s)) (only-is (values (ascii "gsn")) met.gsn gsn-is)) (λ n q. all-out sum n)
 
     numbers-out : outline_of s numbers-read ≡ numbers_in s kind told.tally met.checksum met.gsn
     unfolding numbers_in
@@ -255,7 +255,7 @@ module _ (name s : List ℕ) (ms : List Pair) where
         ap (outline_of s) (then-assoc (only (values (ascii "checksum"))) (checksum_at s) sum-read)
         ∙ then-out s sum-read (λ sum. outline_where (and_then (once_at met.gsn) (whole_at s)) (outline sum))
         (and_then (only (values (ascii "checksum"))) (checksum_at s)) (and_then (once_at met.checksum) (checksum_at s))
-        (ap (λ (x : Reading Span). and_then x (checksum_at s)) (only-is (values (ascii "checksum")) met.checksum checksum-is)) (λ n q. sum-out n)
+        (ap (λ (x : Option Span). and_then x (checksum_at s)) (only-is (values (ascii "checksum")) met.checksum checksum-is)) (λ n q. sum-out n)
 
     times-bids : told.bids ≡ fold_from (λ (n : ℕ) (a : Span). few_more n) 0 (values_of s (ascii "bids") ds)
     unfolding more_data
@@ -273,34 +273,34 @@ module _ (name s : List ℕ) (ms : List Pair) where
         (sym (ap (λ (n : ℕ). eqb n 1) times-bids ∙ times-once s (values_of s (ascii "bids") ds)))
         (sym (ap (λ (n : ℕ). eqb n 1) times-asks ∙ times-once s (values_of s (ascii "asks") ds)))
       where
-        go : (x y : Reading Span) → outline_of s (and_then x (λ b. and_then y (λ a. numbers-read)))
+        go : (x y : Option Span) → outline_of s (and_then x (λ b. and_then y (λ a. numbers-read)))
             ≡ cond (is_only x) (cond (is_only y) (numbers_in s kind told.tally met.checksum met.gsn) no_outline) no_outline
-        go (reads b) (reads a) = numbers-out
-        go (reads b) refused = refl
-        go refused y = refl
+        go (Some b) (Some a) = numbers-out
+        go (Some b) None = refl
+        go None y = refl
 
   -- ---- from `data` on
   module _ (kind : Kind) where
     abbrev sides : Data → Outline
     sides d = sides_in s kind d met.checksum met.gsn
 
-    abbrev data-read : Span → Reading Layout
+    abbrev data-read : Span → Option Layout
     data-read d = and_then (object_at 15 s d) (sides-read kind)
 
     ended : (e : ℕ) (d : Data) → sides (data_end e d) ≡ sides d
     unfolding sides_in
     ended e d = refl
 
-    data-out : (d : Span) → only (values (ascii "data")) ≡ reads d → outline_of s (data-read d) ≡ sides met.body.last
+    data-out : (d : Span) → only (values (ascii "data")) ≡ Some d → outline_of s (data-read d) ≡ sides met.body.last
     unfolding data_of and_then outline_of data_from sides_in
     data-out d q = go (object_at 15 s d) refl
       where
-        go : (x : Reading (List Pair)) → object_at 15 s d ≡ x → outline_of s (and_then x (sides-read kind)) ≡ sides met.body.last
+        go : (x : Option (List Pair)) → object_at 15 s d ≡ x → outline_of s (and_then x (sides-read kind)) ≡ sides met.body.last
         go x h = at x ∙ ap sides (sym (data-last ∙ last-only s (values (ascii "data")) (no_data 0 none_yet) d q ∙ ap (data_from s d.to none_yet) h))
           where
-            at : (y : Reading (List Pair)) → outline_of s (and_then y (sides-read kind)) ≡ sides (data_from s d.to none_yet y)
-            at (reads ds) = sides-out kind ds
-            at refused = refl
+            at : (y : Option (List Pair)) → outline_of s (and_then y (sides-read kind)) ≡ sides (data_from s d.to none_yet y)
+            at (Some ds) = sides-out kind ds
+            at None = refl
 
     body-out : outline_of s (and_then (only (values (ascii "data"))) data-read) ≡ body_in s kind met
     unfolding body_in
@@ -309,20 +309,20 @@ module _ (name s : List ℕ) (ms : List Pair) where
         (only-is (values (ascii "data")) met.body.mark data-mark) data-out
 
   -- ---- whole
-  abbrev type-read : Kind → Reading Layout
+  abbrev type-read : Kind → Option Layout
   type-read kind = and_then (only (values (ascii "data"))) (data-read kind)
 
-  abbrev product-read : Span → Reading Layout
+  abbrev product-read : Span → Option Layout
   product-read p = and_then (only (values (ascii "type"))) (λ t. and_then (kind_at s t) type-read)
 
-  abbrev channel-read : Span → Reading Layout
+  abbrev channel-read : Span → Option Layout
   channel-read c = and_then (only (values (ascii "product"))) product-read
 
   product-out : (p : Span) → outline_of s (product-read p) ≡ outline_where (and_then (once_at met.kind) (kind_at s)) (λ kind. body_in s kind met)
   product-out p =
       ap (outline_of s) (then-assoc (only (values (ascii "type"))) (kind_at s) type-read)
       ∙ then-out s type-read (λ kind. body_in s kind met) (and_then (only (values (ascii "type"))) (kind_at s)) (and_then (once_at met.kind) (kind_at s))
-      (ap (λ (x : Reading Span). and_then x (kind_at s)) (only-is (values (ascii "type")) met.kind kind-is)) (λ b q. body-out b)
+      (ap (λ (x : Option Span). and_then x (kind_at s)) (only-is (values (ascii "type")) met.kind kind-is)) (λ b q. body-out b)
 
   abbrev of-product : Span → Outline
   of-product p = outline_where (and_then (once_at met.kind) (kind_at s)) (λ kind. body_in s kind met)
@@ -345,9 +345,9 @@ module _ (name s : List ℕ) (ms : List Pair) where
 
   -- where updates are linked, one names the sequence number before its own
   before-is : and_then (only (values (ascii "prev_gsn"))) (whole_at s) ≡ and_then (once_at met.previous) (whole_at s)
-  before-is = ap (λ (x : Reading Span). and_then x (whole_at s)) (only-is (values (ascii "prev_gsn")) met.previous previous-is)
+  before-is = ap (λ (x : Option Span). and_then x (whole_at s)) (only-is (values (ascii "prev_gsn")) met.previous previous-is)
 
-  linked-reads : (l : Layout) → outline_of s (linked_to s (values (ascii "prev_gsn")) l) ≡ linked_outline true s met.previous (outline_of s (reads l))
+  linked-reads : (l : Layout) → outline_of s (linked_to s (values (ascii "prev_gsn")) l) ≡ linked_outline true s met.previous (outline_of s (Some l))
   unfolding linked_to linked_outline
   linked-reads l =
       at (is_snapshot l.kind)
@@ -355,17 +355,17 @@ module _ (name s : List ℕ) (ms : List Pair) where
       (outline-reads s l) (ap is_snapshot (outline-kind s l)))
     where
       named-all : Outline
-      named-all = outline_of s (reads l)
+      named-all = outline_of s (Some l)
 
-      at : (b : Bool) → outline_of s (cond b (reads l) (and_then (and_then (only (values (ascii "prev_gsn"))) (whole_at s)) (λ n. reads (record { kind = l.kind; entries = l.entries; checksum = l.checksum; number = l.number; previous = n }))))
+      at : (b : Bool) → outline_of s (cond b (Some l) (and_then (and_then (only (values (ascii "prev_gsn"))) (whole_at s)) (λ n. Some (record { kind = l.kind; entries = l.entries; checksum = l.checksum; number = l.number; previous = n }))))
           ≡ cond b named-all (outline_where (and_then (once_at met.previous) (whole_at s)) (λ n. following n named-all))
       at true = refl
-      at false = named-before s l (and_then (only (values (ascii "prev_gsn"))) (whole_at s)) ∙ ap (λ (x : Reading ℕ). outline_where x (λ n. following n named-all)) before-is
+      at false = named-before s l (and_then (only (values (ascii "prev_gsn"))) (whole_at s)) ∙ ap (λ (x : Option ℕ). outline_where x (λ n. following n named-all)) before-is
 
-  linked-all : (x : Reading Layout) → outline_of s (and_then x (linked_to s (values (ascii "prev_gsn")))) ≡ linked_outline true s met.previous (outline_of s x)
+  linked-all : (x : Option Layout) → outline_of s (and_then x (linked_to s (values (ascii "prev_gsn")))) ≡ linked_outline true s met.previous (outline_of s x)
   unfolding and_then outline_of linked_outline
-  linked-all (reads l) = linked-reads l
-  linked-all refused = refl
+  linked-all (Some l) = linked-reads l
+  linked-all None = refl
 
   linked-out : (linked : Bool) → outline_of s (layout_in linked s ms) ≡ linked_outline linked s met.previous (outline_in s met)
   unfolding layout_in linked_outline
@@ -389,13 +389,13 @@ module _ (name s : List ℕ) (ms : List Pair) where
 
 -- ---- the message
 module _ (linked : Bool) (name s : List ℕ) where
-  abbrev heard_of : List Pair → Reading Envelope
-  heard_of ms = reads (record { ours = ours_m name s ms; layout = layout_in linked s ms })
+  abbrev heard_of : List Pair → Option Envelope
+  heard_of ms = Some (record { ours = ours_m name s ms; layout = layout_in linked s ms })
 
-  abbrev pub told_from : ℕ → Reading (List Pair) → Scan
+  abbrev pub told_from : ℕ → Option (List Pair) → Scan
   told_from e x = scan_of s e (and_then x heard_of)
 
-  pub told-folds : (e : ℕ) (ms : List Pair) → told_from e (reads ms) ≡ scan_in linked s e (fold_from (more_members name s) no_members ms)
+  pub told-folds : (e : ℕ) (ms : List Pair) → told_from e (Some ms) ≡ scan_in linked s e (fold_from (more_members name s) no_members ms)
   unfolding and_then scan_of scan_in
   told-folds e ms = rw (ours-out name s ms, linked-out name s ms linked)
 
@@ -403,10 +403,10 @@ module _ (linked : Bool) (name s : List ℕ) where
   unfolding scan_at envelope_m end_of and_then
   told_is at = sym (go (value 16 s at) refl)
     where
-      go : (x : End) → value 16 s at ≡ x
-          → elim x [ At e ↦ scan_of s e (envelope_m linked name s (record { from = at; to = e })) | Broken ↦ scan_of s 0 refused ] ≡ told_from (end_of x) (object_at 16 s (record { from = at; to = end_of x }))
-      go (At e) q = refl
-      go Broken q = ap (told_from 0) (sym (object-broken 15 s (record { from = at; to = 0 }) q))
+      go : (x : Option ℕ) → value 16 s at ≡ x
+          → elim x [ Some e ↦ scan_of s e (envelope_m linked name s (record { from = at; to = e })) | None ↦ scan_of s 0 None ] ≡ told_from (end_of x) (object_at 16 s (record { from = at; to = end_of x }))
+      go (Some e) q = refl
+      go None q = ap (told_from 0) (sym (object-broken 15 s (record { from = at; to = 0 }) q))
 
 pub members-end : (name s : List ℕ) (met : Members) (m : Pair) → (more_members name s met m).body.end ≡ m.value.to
 unfolding more_members more_body

@@ -1,8 +1,7 @@
 -- What one walk over a message of dialect M collects, member by member, and what is told of the message in the end.
 -- Assumes nothing: these are definitions.
-use Rattle.std.specs.Prelude.{ℕ, ◌≤◌, ◌≡◌, Bool, true, false, ◌&&◌, ◌||◌, cond, List, [], ◌∷◌, eqb, length}
+use Rattle.std.specs.Prelude.{ℕ, ◌≤◌, ◌≡◌, Bool, true, false, ◌&&◌, ◌||◌, cond, List, [], ◌∷◌, eqb, length, None, Option, Some}
 use Rattle.text.specs.Text.{ascii}
-use Rattle.decimal.specs.Digits.{Reading, reads, refused}
 use Rattle.edit.specs.Buffer.{buffer_words}
 use Rattle.edit.specs.declared.Side.TheVariants.{Bids, Asks}
 use Rattle.json_values.specs.Json.{Span, Pair}
@@ -30,7 +29,7 @@ use Rattle.message_m.specs.declared.Members.{Members}
 -- ---- the value of a member `data`
 
 -- The entries that a member holds, after those that were read before.
-unfoldable pub with_held : List ℕ → Reading (List Entry) → Pair → Reading (List Entry)
+unfoldable pub with_held : List ℕ → Option (List Entry) → Pair → Option (List Entry)
 with_held s x m =
     cond (means s m.name (ascii "bids")) (and_also x (sided_at Bids forms.Pair side_depth s m.value))
     (cond (means s m.name (ascii "asks")) (and_also x (sided_at Asks forms.Pair side_depth s m.value)) x)
@@ -58,23 +57,23 @@ more_data s d m =
       tally = tally_with s d.tally m;
     }
 
-unfoldable pub data_from : List ℕ → ℕ → Tally → Reading (List Pair) → Data
-data_from s end t (reads ms) = data_end end (fold_from (more_data s) (no_data 0 t) ms)
-data_from s end t refused = no_data end t
+unfoldable pub data_from : List ℕ → ℕ → Tally → Option (List Pair) → Data
+data_from s end t (Some ms) = data_end end (fold_from (more_data s) (no_data 0 t) ms)
+data_from s end t None = no_data end t
 
 unfoldable pub data_of : List ℕ → Tally → Span → Data
 data_of s t a = data_from s a.to t (object_at item_depth s a)
 
 -- The entries that a value holds as that of a member `data`, after those that were read before.
-unfoldable pub held_of : List ℕ → Reading (List Entry) → Reading (List Pair) → Reading (List Entry)
-held_of s x (reads ms) = fold_from (with_held s) x ms
-held_of s x refused = x
+unfoldable pub held_of : List ℕ → Option (List Entry) → Option (List Pair) → Option (List Entry)
+held_of s x (Some ms) = fold_from (with_held s) x ms
+held_of s x None = x
 
 -- What a reader promises of a value from a on, which it reads if it is JSON: that it is told, and that the buffer has what `next` says that it adds.
-pub record Added (s : List ℕ) (a : Span) (t u : Tally) (next : Reading (List Entry) → Reading (List Entry)) (before after : List ℕ) : Type 0 where
+pub record Added (s : List ℕ) (a : Span) (t u : Tally) (next : Option (List Entry) → Option (List Entry)) (before after : List ℕ) : Type 0 where
   pub few : (a.to ≡ 0 → ⊥) → count u ≤ a.to
   pub room : length after ≡ buffer_words
-  pub kept : (a.to ≡ 0 → ⊥) → (x : Reading (List Entry)) → Tells s x t → Kept s x before → Tells s (next x) u × Kept s (next x) after
+  pub kept : (a.to ≡ 0 → ⊥) → (x : Option (List Entry)) → Tells s x t → Kept s x before → Tells s (next x) u × Kept s (next x) after
 
 pub record DataRead (s : List ℕ) (t : Tally) (a : Span) (before after : List ℕ) (r : Data) : Type 0 where
   pub told : r ≡ data_of s t a
@@ -122,7 +121,7 @@ unfoldable pub more_body : List ℕ → Bool → Body → Span → Body
 more_body s hit b a = record { end = a.to; mark = on_hit hit with_member_span b.mark a; last = on_hit hit (λ d v. data_of s d.tally v) b.last a }
 
 -- The entries that a member of the message holds, after those that were read before: those of `data`.
-unfoldable pub body_held : List ℕ → Bool → Reading (List Entry) → Span → Reading (List Entry)
+unfoldable pub body_held : List ℕ → Bool → Option (List Entry) → Span → Option (List Entry)
 body_held s hit x a = cond hit (held_of s x (object_at item_depth s a)) x
 
 pub record MoreBody (s : List ℕ) (hit : Bool) (b : Body) (a : Span) (before after : List ℕ) (r : Body) : Type 0 where
@@ -164,9 +163,9 @@ pub record MoreMembers (name s : List ℕ) (met : Members) (m : Pair) (before af
 
 -- ---- the layout, once all members were met
 
-unfoldable pub outline_where : {A : Type 0} → Reading A → (A → Outline) → Outline
-outline_where (reads a) outline = outline a
-outline_where refused outline = no_outline
+unfoldable pub outline_where : {A : Type 0} → Option A → (A → Outline) → Outline
+outline_where (Some a) outline = outline a
+outline_where None outline = no_outline
 
 unfoldable pub numbers_in : List ℕ → Kind → Tally → MemberSpan → MemberSpan → Outline
 numbers_in s kind t checksum gsn =

@@ -1,7 +1,6 @@
 -- Dialect M, as document 01 has it under "Messages". Assumes nothing: these are definitions.
-use Rattle.std.specs.Prelude.{ℕ, Bool, false, ◌&&◌, ◌||◌, cond, List, [], ◌∷◌}
+use Rattle.std.specs.Prelude.{ℕ, Bool, false, ◌&&◌, ◌||◌, cond, List, [], ◌∷◌, None, Option, Some}
 use Rattle.text.specs.Text.{ascii}
-use Rattle.decimal.specs.Digits.{Reading, reads, refused}
 use Rattle.json_values.specs.Json.{Span, Pair, max_depth}
 use Rattle.json_values.specs.Names.{means}
 use Rattle.entries.specs.Places.{and_then, object_at, values_of, only, whole_at, checksum_at}
@@ -21,10 +20,10 @@ ours_m name s ms = some_means s (ascii "book") (values_of s (ascii "channel") ms
 
 -- ---- check 6: named, once each: `channel`, `product`, `type` (`snapshot` or `update`), `data`, `checksum`, `gsn`, and in `data` `bids` and `asks`
 
-unfoldable pub kind_at : List ℕ → Span → Reading Kind
-kind_at s a = cond (means s a (ascii "snapshot")) (reads Snapshot) (cond (means s a (ascii "update")) (reads Update) refused)
+unfoldable pub kind_at : List ℕ → Span → Option Kind
+kind_at s a = cond (means s a (ascii "snapshot")) (Some Snapshot) (cond (means s a (ascii "update")) (Some Update) None)
 
-unfoldable pub layout_m : List ℕ → List Pair → Reading Layout
+unfoldable pub layout_m : List ℕ → List Pair → Option Layout
 layout_m s ms =
     and_then (only (values_of s (ascii "channel") ms)) (λ c.
     and_then (only (values_of s (ascii "product") ms)) (λ p.
@@ -41,18 +40,18 @@ layout_m s ms =
     laid kind (printed sum) number (entries_in forms.Pair side_depth s (ascii "bids") (ascii "asks") ds)))))))))))))
 
 -- Where updates are linked, one needs `prev_gsn` once, the sequence number before its own, written as `gsn` is; a snapshot's is passed over.
-unfoldable pub linked_to : List ℕ → List Span → Layout → Reading Layout
+unfoldable pub linked_to : List ℕ → List Span → Layout → Option Layout
 linked_to s before l =
-    cond (is_snapshot l.kind) (reads l)
+    cond (is_snapshot l.kind) (Some l)
     (and_then (and_then (only before) (whole_at s)) (λ n.
-    reads (record { kind = l.kind; entries = l.entries; checksum = l.checksum; number = l.number; previous = n })))
+    Some (record { kind = l.kind; entries = l.entries; checksum = l.checksum; number = l.number; previous = n })))
 
-unfoldable pub layout_in : Bool → List ℕ → List Pair → Reading Layout
+unfoldable pub layout_in : Bool → List ℕ → List Pair → Option Layout
 layout_in linked s ms = cond linked (and_then (layout_m s ms) (linked_to s (values_of s (ascii "prev_gsn") ms))) (layout_m s ms)
 
 -- ---- the message, to a book of that name
 
-unfoldable pub envelope_m : Bool → List ℕ → List ℕ → Span → Reading Envelope
+unfoldable pub envelope_m : Bool → List ℕ → List ℕ → Span → Option Envelope
 envelope_m linked name s a =
     and_then (object_at max_depth s a) (λ ms.
-    reads (record { ours = ours_m name s ms; layout = layout_in linked s ms }))
+    Some (record { ours = ours_m name s ms; layout = layout_in linked s ms }))

@@ -1,5 +1,6 @@
 -- An array of orders, order by order: what was met of the elements that were passed, what is left of them, and the buffer that has what they say. At the
 -- end all of them were met. Assumes nothing.
+use Rattle.std.specs.Prelude.{None, Option, Some, ℕ}
 use Prim.Native.Nat.{ℕ, zero, suc, ◌+◌, ◌-◌, ◌≤◌, ◌<◌}
 use mathlib.Core.Path.{◌≡◌, refl, sym, ap, ◌∙◌, subst}
 use mathlib.Core.Bool.{Bool, true, false, cond}
@@ -8,10 +9,9 @@ use native.Mathlib.Omega.{arith}
 use borrow.Author.Tests.{eq-eqb, ne_eqb}
 use lib.ListN.{length, take, set}
 use Rattle.text.specs.Text.{byte_at}
-use Rattle.decimal.specs.Digits.{Reading, reads, refused}
 use Rattle.edit.specs.declared.Side.{Side}
 use Rattle.edit.specs.declared.Side.TheVariants.{Bids, Asks}
-use Rattle.json_tokens.specs.Tokens.{End, At, Broken, blanks, closing, separator}
+use Rattle.json_tokens.specs.Tokens.{blanks, closing, separator}
 use Rattle.json_tokens.specs.Ends.{end_of}
 use Rattle.json_tokens.proofs.Laws.{end-at}
 use Rattle.json_tokens.proofs.Bounds.{bounds, blanks-in, closing-in}
@@ -66,22 +66,22 @@ module _ (s : List ℕ) (side : Side) where
   rows-formed t (r ∷ rows) h = rows-formed (one_more s side t r) rows (one-formed t r h)
 
   -- one more, at most
-  few-one : (t : OrderTally) (y : Reading OrderRow) → met (tallied_one s side t y) ≤ suc (met t)
+  few-one : (t : OrderTally) (y : Option OrderRow) → met (tallied_one s side t y) ≤ suc (met t)
   unfolding tallied_one one_more counted
-  few-one t (reads r) = go t.well_formed refl
+  few-one t (Some r) = go t.well_formed refl
     where
       go : (b : Bool) → t.well_formed ≡ b → met (cond b (counted t side (is_read r.event) (bad_at false s r) (bad_at true s r)) t) ≤ suc (met t)
       go true h = let n : met (counted t side (is_read r.event) (bad_at false s r) (bad_at true s r)) ≡ suc (met t) = rw h at (one-met t r h) in omega arith
       go false h = omega arith
-  few-one t refused = omega arith
+  few-one t None = omega arith
 
-  tallied-one : (t : OrderTally) (x : Reading (List OrderRow)) (y : Reading OrderRow)
-      → tallied_one s side (tallied s side t x) y ≡ tallied s side t (and_also x (and_then y (λ r. reads (r ∷ []))))
+  tallied-one : (t : OrderTally) (x : Option (List OrderRow)) (y : Option OrderRow)
+      → tallied_one s side (tallied s side t x) y ≡ tallied s side t (and_also x (and_then y (λ r. Some (r ∷ []))))
   unfolding tallied tallied_one and_also and_then one_more fold_from
-  tallied-one t (reads rows) (reads r) = sym (fold-append (one_more s side) t rows (r ∷ []))
-  tallied-one t (reads rows) refused = refl
-  tallied-one t refused (reads r) = refl
-  tallied-one t refused refused = refl
+  tallied-one t (Some rows) (Some r) = sym (fold-append (one_more s side) t rows (r ∷ []))
+  tallied-one t (Some rows) None = refl
+  tallied-one t None (Some r) = refl
+  tallied-one t None None = refl
 
 -- ---- what was found at a position
 
@@ -90,26 +90,26 @@ module _ (d : ℕ) (s : List ℕ) (i : ℕ) where
   unfolding order_place_at end_of order_place_of
   place_end = go (value d s i)
     where
-      at_value : (e : ℕ) (y : Reading OrderRow) → (order_place_of e y).end ≡ e
-      at_value e (reads r) = refl
-      at_value e refused = refl
+      at_value : (e : ℕ) (y : Option OrderRow) → (order_place_of e y).end ≡ e
+      at_value e (Some r) = refl
+      at_value e None = refl
 
-      go : (x : End) → (elim x as (λ y. OrderPlace) [ At e ↦ order_place_of e (order_row d s (record { from = i; to = e })) | Broken ↦ order_place_of 0 refused ]).end ≡ end_of x
-      go (At e) = at_value e (order_row d s (record { from = i; to = e }))
-      go Broken = refl
+      go : (x : Option ℕ) → (elim x as (λ y. OrderPlace) [ Some e ↦ order_place_of e (order_row d s (record { from = i; to = e })) | None ↦ order_place_of 0 None ]).end ≡ end_of x
+      go (Some e) = at_value e (order_row d s (record { from = i; to = e }))
+      go None = refl
 
-  place_is : (e : ℕ) → value d s i ≡ At e → order_place_at d s i ≡ order_place_of e (order_row d s (record { from = i; to = e }))
+  place_is : (e : ℕ) → value d s i ≡ Some e → order_place_at d s i ≡ order_place_of e (order_row d s (record { from = i; to = e }))
   unfolding order_place_at
   place_is e v = rw (v, order_place_at)
 
 -- ---- the value at a position, as an array of orders
 
 module _ (s : List ℕ) (depth : ℕ) (side : Side) (t : OrderTally) (at : ℕ) where
-  told_is : (e : ℕ) → value depth s at ≡ At e → told_at s depth side t at ≡ record { end = e; tally = tallied s side t (orders_at depth s (record { from = at; to = e })) }
+  told_is : (e : ℕ) → value depth s at ≡ Some e → told_at s depth side t at ≡ record { end = e; tally = tallied s side t (orders_at depth s (record { from = at; to = e })) }
   unfolding told_at
   told_is e v = rw (v, told_at)
 
-  told-broken : value depth s at ≡ Broken → told_at s depth side t at ≡ told_not 0
+  told-broken : value depth s at ≡ None → told_at s depth side t at ≡ told_not 0
   unfolding told_at
   told-broken v = rw (v, told_at)
 
@@ -118,7 +118,7 @@ unfolding orders_at
 orders-in d s a = let n : suc d - 1 ≡ d = omega arith in ap (λ (k : ℕ). and_then (array_at (suc d) s a) (all (order_row k s))) n
 
 module _ (s : List ℕ) (at : ℕ) (d : ℕ) (side : Side) (t : OrderTally) (before : List ℕ) where
-  abbrev order : Span → Reading OrderRow
+  abbrev order : Span → Option OrderRow
   order = order_row d s
 
   -- behind those that were met before, the buffer has what these orders say
@@ -127,7 +127,7 @@ module _ (s : List ℕ) (at : ℕ) (d : ℕ) (side : Side) (t : OrderTally) (bef
 
   -- the same of elements, if they are orders
   pub Filled : List Span → List ℕ → Type 0
-  Filled l after = t.well_formed ≡ true → (rows : List OrderRow) → all order l ≡ reads rows → Has rows after
+  Filled l after = t.well_formed ≡ true → (rows : List OrderRow) → all order l ≡ Some rows → Has rows after
 
   has_one : (rows : List OrderRow) (r : OrderRow) (buffer after : List ℕ) → length before ≡ buffer_words → length buffer ≡ buffer_words
       → entries_in after ≡ set (entries_in buffer) (met t + length rows) (entry_at s side r) → Has rows buffer → Has (rows ++ (r ∷ [])) after
@@ -164,11 +164,11 @@ module _ (s : List ℕ) (at : ℕ) (d : ℕ) (side : Side) (t : OrderTally) (bef
         subst (λ (k : ℕ). Met s k side t at before after (record { end = e; tally = tally })) deep
         (record { told = all_told; few = λ n. few; room = room; kept = λ formed k v rows g. filled formed rows (sym (these k) ∙ g) })
       where
-        ends : value (suc d) s at ≡ At e
+        ends : value (suc d) s at ≡ Some e
         ends = value-array s at d opens ∙ ap items_end (sym h)
 
         these : (k : ℕ) → orders_at (suc d) s (record { from = at; to = k }) ≡ all order l
-        these k = orders-in d s (record { from = at; to = k }) ∙ ap (λ (x : Reading (List Span)). and_then x (all order)) (holds k ∙ ap contents (sym h))
+        these k = orders-in d s (record { from = at; to = k }) ∙ ap (λ (x : Option (List Span)). and_then x (all order)) (holds k ∙ ap contents (sym h))
 
         all_told : record { end = e; tally = tally } ≡ told_at s (suc d) side t at
         all_told =
@@ -181,7 +181,7 @@ module _ (s : List ℕ) (at : ℕ) (d : ℕ) (side : Side) (t : OrderTally) (bef
         subst (λ (k : ℕ). Met s k side t at before after (told_not 0)) deep
         (record { told = sym (told-broken s (suc d) side t at broken); few = λ n. absurd (n refl); room = room; kept = λ formed e v. broken-at broken v })
       where
-        broken : value (suc d) s at ≡ Broken
+        broken : value (suc d) s at ≡ None
         broken = value-array s at d opens ∙ ap items_end (sym h)
 
   -- ---- the array is empty, or its first order is to begin at k
@@ -294,11 +294,11 @@ module _ (s : List ℕ) (at : ℕ) (d : ℕ) (side : Side) (t : OrderTally) (bef
 
 -- ---- a value that is no array
 module _ (s : List ℕ) (depth : ℕ) (side : Side) (t : OrderTally) (at : ℕ) (before : List ℕ) (h : byte_at s at ≡ 91 → ⊥) where
-  no-orders : (e : ℕ) → orders_at depth s (record { from = at; to = e }) ≡ refused
+  no-orders : (e : ℕ) → orders_at depth s (record { from = at; to = e }) ≡ None
   unfolding orders_at and_then array_at
   no-orders e = go depth
     where
-      go : (k : ℕ) → orders_at k s (record { from = at; to = e }) ≡ refused
+      go : (k : ℕ) → orders_at k s (record { from = at; to = e }) ≡ None
       go zero = refl
       go (suc k) = rw (ne_eqb (byte_at s at) 91 h)
 
@@ -306,6 +306,6 @@ module _ (s : List ℕ) (depth : ℕ) (side : Side) (t : OrderTally) (at : ℕ) 
   unfolding end_of tallied
   met-other room = record { told = go (value depth s at) refl; few = λ n. omega arith; room = room; kept = λ formed e v rows g. no_row (sym (no-orders e) ∙ g) }
     where
-      go : (x : End) → value depth s at ≡ x → told_not (end_of x) ≡ told_at s depth side t at
-      go (At e) v = ap (λ (y : OrderTally). record { end = e; tally = y }) (sym (ap (tallied s side t) (no-orders e))) ∙ sym (told_is s depth side t at e v)
-      go Broken v = sym (told-broken s depth side t at v)
+      go : (x : Option ℕ) → value depth s at ≡ x → told_not (end_of x) ≡ told_at s depth side t at
+      go (Some e) v = ap (λ (y : OrderTally). record { end = e; tally = y }) (sym (ap (tallied s side t) (no-orders e))) ∙ sym (told_is s depth side t at e v)
+      go None v = sym (told-broken s depth side t at v)

@@ -1,10 +1,10 @@
 -- One order more is counted and put into the buffer, or what was met are no orders. Assumes nothing.
+use Rattle.std.specs.Prelude.{None, Option, Some}
 use Prim.Native.Nat.{ℕ}
 use mathlib.Core.Path.{◌≡◌, refl, sym, ap, ◌∙◌, subst}
 use mathlib.Core.Bool.{true, false, true≢false}
 use mathlib.Core.List.{List}
 use lib.ListN.{length}
-use Rattle.decimal.specs.Digits.{Reading, reads, refused}
 use Rattle.edit.specs.declared.Side.{Side}
 use Rattle.entries.proofs.Strings.{no_row, same_row}
 use Rattle.order_edit.specs.Buffer.{OrderEntry, buffer_words, order_entry, Put}
@@ -16,10 +16,10 @@ use Rattle.order_entries.specs.declared.OrderRead.{OrderRead}
 use Rattle.order_arrays.specs.Tally.{not_orders, counted, is_read, one_more, tallied_one, met, CountedAt}
 use Rattle.order_arrays.specs.declared.OrderTally.{OrderTally}
 
-event-back : (x : Reading Event) → read_event (maybe_event x) ≡ x
+event-back : (x : Option Event) → read_event (maybe_event x) ≡ x
 unfolding maybe_event read_event
-event-back (reads e) = refl
-event-back refused = refl
+event-back (Some e) = refl
+event-back None = refl
 
 module _ (s : List ℕ) (side : Side) (t : OrderTally) (f : OrderPlace) (before : List ℕ) where
   -- what is counted of an order that was found
@@ -30,20 +30,20 @@ module _ (s : List ℕ) (side : Side) (t : OrderTally) (f : OrderPlace) (before 
       → (r : OrderTally) → r ≡ counted t side (is_read (read_event f.event)) o.broken_at o.strict_at
       → (after : List ℕ) → Put before (met t) (order_entry o.entry) after → CountedAt s side t f before after r
   unfolding order_place_of tallied_one one_more bad_at bad_quantity entry_at
-  counted-order fair formed o read r told after put (reads row) h =
+  counted-order fair formed o read r told after put (Some row) h =
       record {
         told = told ∙ rw (read.broken 0, read.strict 0) refl ∙ ap counted_at h ∙ rw (event-back row.event, formed);
         room = put.room;
         put = λ g x q. subst (λ (e : OrderEntry). Put before (met t) e after) (read.says 0 ∙ ap (λ (y : OrderPlace). entry_at s side (row_from 0 y)) h ∙ rw (event-back row.event) refl ∙ ap (entry_at s side) (sym (same_row q))) put;
       }
-  counted-order fair formed o read r told after put refused h = absurd (true≢false (sym fair ∙ ap (λ (x : OrderPlace). x.well_formed) h))
+  counted-order fair formed o read r told after put None h = absurd (true≢false (sym fair ∙ ap (λ (x : OrderPlace). x.well_formed) h))
 
   pub counted-after : f.well_formed ≡ true → t.well_formed ≡ false → length before ≡ buffer_words → CountedAt s side t f before before t
   unfolding order_place_of tallied_one one_more
-  counted-after fair unformed room (reads row) h = record { told = rw unformed refl; room = room; put = λ g. absurd (true≢false (sym g ∙ unformed)) }
-  counted-after fair unformed room refused h = absurd (true≢false (sym fair ∙ ap (λ (x : OrderPlace). x.well_formed) h))
+  counted-after fair unformed room (Some row) h = record { told = rw unformed refl; room = room; put = λ g. absurd (true≢false (sym g ∙ unformed)) }
+  counted-after fair unformed room None h = absurd (true≢false (sym fair ∙ ap (λ (x : OrderPlace). x.well_formed) h))
 
   pub counted_none : f.well_formed ≡ false → length before ≡ buffer_words → (r : OrderTally) → r ≡ not_orders → CountedAt s side t f before before r
   unfolding order_place_of tallied_one
-  counted_none unfair room r told (reads row) h = absurd (true≢false (sym (ap (λ (x : OrderPlace). x.well_formed) h) ∙ unfair))
-  counted_none unfair room r told refused h = record { told = told; room = room; put = λ g x q. no_row q }
+  counted_none unfair room r told (Some row) h = absurd (true≢false (sym (ap (λ (x : OrderPlace). x.well_formed) h) ∙ unfair))
+  counted_none unfair room r told None h = record { told = told; room = room; put = λ g x q. no_row q }

@@ -1,9 +1,7 @@
 -- The orders of an array in a message, and what is met of them, order by order: how many there are for each side, whether each has an event, the first text that
 -- check 8 refuses in an update and in a snapshot, and the buffer that has what they say. Assumes nothing: these are definitions.
-use Rattle.std.specs.Prelude.{ℕ, ◌+◌, ◌-◌, ◌≤◌, ◌≡◌, Bool, true, false, ◌&&◌, cond, List, ◌++◌, map, eqb, length, take}
-use Rattle.decimal.specs.Digits.{Reading, reads, refused}
+use Rattle.std.specs.Prelude.{ℕ, ◌+◌, ◌-◌, ◌≤◌, ◌≡◌, Bool, true, false, ◌&&◌, cond, List, ◌++◌, map, eqb, length, take, None, Option, Some}
 use Rattle.edit.specs.declared.Side.{Side}
-use Rattle.json_tokens.specs.Tokens.{At, Broken}
 use Rattle.json_values.specs.Json.{Span, value}
 use Rattle.json_values.specs.Fold.{fold_from}
 use Rattle.entries.specs.Places.{and_then, all, array_at}
@@ -17,7 +15,7 @@ use Rattle.order_arrays.specs.declared.OrderTally.{OrderTally}
 use Rattle.order_arrays.specs.declared.Orders.{Orders}
 
 -- The orders of the array that a value is, perhaps none; the elements of it have one depth less.
-unfoldable pub orders_at : ℕ → List ℕ → Span → Reading (List OrderRow)
+unfoldable pub orders_at : ℕ → List ℕ → Span → Option (List OrderRow)
 orders_at depth s a = and_then (array_at depth s a) (all (order_row (depth - 1) s))
 
 -- ---- what is met
@@ -49,9 +47,9 @@ counted t side event broken strict =
       well_formed = t.well_formed;
     }
 
-unfoldable pub is_read : {A : Type 0} → Reading A → Bool
-is_read (reads a) = true
-is_read refused = false
+unfoldable pub is_read : {A : Type 0} → Option A → Bool
+is_read (Some a) = true
+is_read None = false
 
 -- Nothing is counted after something that is no array of orders.
 unfoldable pub one_more : List ℕ → Side → OrderTally → OrderRow → OrderTally
@@ -60,19 +58,19 @@ one_more s side t r = cond t.well_formed (counted t side (is_read r.event) (bad_
 -- ---- an array of orders
 
 -- What is told of orders that were read, or not; t was told before.
-unfoldable pub tallied : List ℕ → Side → OrderTally → Reading (List OrderRow) → OrderTally
-tallied s side t (reads rows) = fold_from (one_more s side) t rows
-tallied s side t refused = not_orders
+unfoldable pub tallied : List ℕ → Side → OrderTally → Option (List OrderRow) → OrderTally
+tallied s side t (Some rows) = fold_from (one_more s side) t rows
+tallied s side t None = not_orders
 
 -- The same of a single order.
-unfoldable pub tallied_one : List ℕ → Side → OrderTally → Reading OrderRow → OrderTally
-tallied_one s side t (reads r) = one_more s side t r
-tallied_one s side t refused = not_orders
+unfoldable pub tallied_one : List ℕ → Side → OrderTally → Option OrderRow → OrderTally
+tallied_one s side t (Some r) = one_more s side t r
+tallied_one s side t None = not_orders
 
 -- What is told of the value at a position as an array of orders.
 unfoldable pub told_at : List ℕ → ℕ → Side → OrderTally → ℕ → Orders
 told_at s depth side t at =
-    elim (value depth s at) [ At e ↦ record { end = e; tally = tallied s side t (orders_at depth s (record { from = at; to = e })) } | Broken ↦ told_not 0 ]
+    elim (value depth s at) [ Some e ↦ record { end = e; tally = tallied s side t (orders_at depth s (record { from = at; to = e })) } | None ↦ told_not 0 ]
 
 -- ---- what the readers promise
 
@@ -81,14 +79,14 @@ abbrev pub met : OrderTally → ℕ
 met t = t.bids + t.asks
 
 -- The order that was read, or not, was met: it is counted and put into the buffer.
-pub record Counted (s : List ℕ) (side : Side) (t : OrderTally) (x : Reading OrderRow) (before after : List ℕ) (r : OrderTally) : Type 0 where
+pub record Counted (s : List ℕ) (side : Side) (t : OrderTally) (x : Option OrderRow) (before after : List ℕ) (r : OrderTally) : Type 0 where
   pub told : r ≡ tallied_one s side t x
   pub room : length after ≡ buffer_words
-  pub put : t.well_formed ≡ true → (row : OrderRow) → x ≡ reads row → Put before (met t) (entry_at s side row) after
+  pub put : t.well_formed ≡ true → (row : OrderRow) → x ≡ Some row → Put before (met t) (entry_at s side row) after
 
 -- The same of what was found at a position.
 abbrev pub CountedAt : List ℕ → Side → OrderTally → OrderPlace → List ℕ → List ℕ → OrderTally → Type 0
-CountedAt s side t f before after r = (x : Reading OrderRow) → f ≡ order_place_of f.end x → Counted s side t x before after r
+CountedAt s side t f before after r = (x : Option OrderRow) → f ≡ order_place_of f.end x → Counted s side t x before after r
 
 -- The array of orders at a position was met.
 pub record Met (s : List ℕ) (depth : ℕ) (side : Side) (t : OrderTally) (at : ℕ) (before after : List ℕ) (r : Orders) : Type 0 where
@@ -97,5 +95,5 @@ pub record Met (s : List ℕ) (depth : ℕ) (side : Side) (t : OrderTally) (at :
   pub few : (r.end ≡ 0 → ⊥) → met r.tally ≤ r.end
   pub room : length after ≡ buffer_words
   -- behind those that were met before it has what the orders say, up to its end
-  pub kept : t.well_formed ≡ true → (e : ℕ) → value depth s at ≡ At e → (rows : List OrderRow) → orders_at depth s (record { from = at; to = e }) ≡ reads rows
+  pub kept : t.well_formed ≡ true → (e : ℕ) → value depth s at ≡ Some e → (rows : List OrderRow) → orders_at depth s (record { from = at; to = e }) ≡ Some rows
       → take (met t + length rows) (entries_in after) ≡ take max_buffered (take (met t) (entries_in before) ++ map (entry_at s side) rows)

@@ -1,4 +1,5 @@
 -- The order out of the members that were met. Assumes nothing.
+use Rattle.std.specs.Prelude.{None, Some}
 use Prim.Native.Nat.{ℕ, ◌+◌, ◌-◌, ◌<◌}
 use mathlib.Core.Path.{◌≡◌, refl, sym, ap}
 use mathlib.Core.Bool.{Bool, true, false, ◌&&◌, cond}
@@ -8,7 +9,6 @@ use borrow.Author.Tests.{eq-eqb, ne_eqb}
 use lib.Dec.{eqb}
 use lib.ListN.{take, drop}
 use Rattle.text.specs.Text.{ascii, byte_at}
-use Rattle.decimal.specs.Digits.{reads, refused}
 use Rattle.json_values.specs.Json.{Span}
 use Rattle.json_values.specs.Names.{inner, means}
 use Rattle.entries.specs.Places.{and_then, is_string}
@@ -26,11 +26,11 @@ use Rattle.order_entries.specs.declared.OrderMembers.{OrderMembers}
 
 -- ---- strings
 
-string-once : (s : List ℕ) (m : MemberSpan) → and_then (once_at m) (string_at s) ≡ cond (once_string s m) (reads (place_of m)) refused
+string-once : (s : List ℕ) (m : MemberSpan) → and_then (once_at m) (string_at s) ≡ cond (once_string s m) (Some (place_of m)) None
 unfolding and_then once_at string_at once_string
 string-once s m = at (eqb m.times 1)
   where
-    at : (b : Bool) → and_then (cond b (reads (place_of m)) refused) (λ a. cond (is_string s a) (reads a) refused) ≡ cond (b && is_string s (place_of m)) (reads (place_of m)) refused
+    at : (b : Bool) → and_then (cond b (Some (place_of m)) None) (λ a. cond (is_string s a) (Some a) None) ≡ cond (b && is_string s (place_of m)) (Some (place_of m)) None
     at true = refl
     at false = refl
 
@@ -86,28 +86,28 @@ module _ (s : List ℕ) (at end : ℕ) (met : OrderMembers) where
   abbrev row : OrderRow
   row = record { whole = whole; id = place_of met.id; price = place_of met.price; size = place_of met.size; event = and_then (once_at met.event) (event_at s) }
 
-  row-cond : row_of s whole (once_at met.id) (once_at met.price) (once_at met.size) (once_at met.event) ≡ cond strings (cond (is_id (inner s (place_of met.id))) (reads row) refused) refused
+  row-cond : row_of s whole (once_at met.id) (once_at met.price) (once_at met.size) (once_at met.event) ≡ cond strings (cond (is_id (inner s (place_of met.id))) (Some row) None) None
   unfolding row_of and_then
   row-cond =
       rw (string-once s met.id, string-once s met.price, string-once s met.size)
       (go (once_string s met.id) (once_string s met.price) (once_string s met.size))
     where
       go : (b c d : Bool)
-          → and_then (cond b (reads (place_of met.id)) refused) (λ i.
-          and_then (cond c (reads (place_of met.price)) refused) (λ p.
-          and_then (cond d (reads (place_of met.size)) refused) (λ z.
-          cond (is_id (inner s i)) (reads (record { whole = whole; id = i; price = p; size = z; event = and_then (once_at met.event) (event_at s) })) refused)))
-          ≡ cond (b && (c && d)) (cond (is_id (inner s (place_of met.id))) (reads row) refused) refused
+          → and_then (cond b (Some (place_of met.id)) None) (λ i.
+          and_then (cond c (Some (place_of met.price)) None) (λ p.
+          and_then (cond d (Some (place_of met.size)) None) (λ z.
+          cond (is_id (inner s i)) (Some (record { whole = whole; id = i; price = p; size = z; event = and_then (once_at met.event) (event_at s) })) None)))
+          ≡ cond (b && (c && d)) (cond (is_id (inner s (place_of met.id))) (Some row) None) None
       go true true true = refl
       go true true false = refl
       go true false d = refl
       go false c d = refl
 
-  pub place-strings : strings ≡ false → order_place_of end refused ≡ place_in s at end met
+  pub place-strings : strings ≡ false → order_place_of end None ≡ place_in s at end met
   unfolding place_in
   place-strings h = sym (rw (row-cond, h))
 
-  pub place-id : strings ≡ true → is_id (inner s (place_of met.id)) ≡ false → order_place_of end refused ≡ place_in s at end met
+  pub place-id : strings ≡ true → is_id (inner s (place_of met.id)) ≡ false → order_place_of end None ≡ place_in s at end met
   unfolding place_in
   place-id h i = sym (rw (row-cond, h, i))
 
@@ -128,7 +128,7 @@ module _ (s : List ℕ) (at end : ℕ) (met : OrderMembers) where
 
 -- ---- where its texts lie
 
-pub none-laid : (s : List ℕ) (end : ℕ) (f : OrderPlace) → f ≡ order_place_of end refused → Laid s f
+pub none-laid : (s : List ℕ) (end : ℕ) (f : OrderPlace) → f ≡ order_place_of end None → Laid s f
 unfolding order_place_of
 none-laid s end f e =
     rw e

@@ -1,4 +1,5 @@
 -- The members of an order, one after the other. Assumes nothing.
+use Rattle.std.specs.Prelude.{None, Option, Some, ℕ}
 use Prim.Native.Nat.{ℕ, suc, ◌+◌, ◌<◌, ◌≤◌}
 use mathlib.Core.Path.{◌≡◌, refl, sym, ap, ◌∙◌}
 use mathlib.Core.Bool.{Bool, true, false}
@@ -6,8 +7,7 @@ use mathlib.Core.List.{List}
 use native.Mathlib.Omega.{arith}
 use lib.ListN.{length}
 use Rattle.text.specs.Text.{ascii, byte_at}
-use Rattle.decimal.specs.Digits.{Reading, reads, refused}
-use Rattle.json_tokens.specs.Tokens.{End, At, Broken, blanks, closing}
+use Rattle.json_tokens.specs.Tokens.{blanks, closing}
 use Rattle.json_tokens.specs.Ends.{end_of}
 use Rattle.json_values.specs.Json.{Span, Pair, value}
 use Rattle.json_values.specs.Names.{means}
@@ -24,7 +24,7 @@ use Rattle.order_entries.specs.declared.OrderPlace.{OrderPlace}
 use Rattle.order_entries.specs.declared.OrderMembers.{OrderMembers}
 
 module _ (s : List ℕ) (at : ℕ) where
-  abbrev told : ℕ → Reading (List Pair) → OrderPlace
+  abbrev told : ℕ → Option (List Pair) → OrderPlace
   told e x = order_place_of e (and_then x (row_in s (record { from = at; to = e })))
 
   module _ (ms : List Pair) where
@@ -47,7 +47,7 @@ module _ (s : List ℕ) (at : ℕ) where
     unfolding more_members
     event-is = on-fold s (ascii "event") (more_members s) (λ (x : OrderMembers). x.event) with_member_span (λ st m. refl) no_members ms
 
-    told-folds : (e : ℕ) → told e (reads ms) ≡ place_in s at e met
+    told-folds : (e : ℕ) → told e (Some ms) ≡ place_in s at e met
     unfolding and_then row_in place_in
     told-folds e =
         rw (only-is (values_of s (ascii "order_id") ms) met.id id-is, only-is (values_of s (ascii "limit_price") ms) met.price price-is, only-is (values_of s (ascii "order_qty") ms) met.size size_is, only-is (values_of s (ascii "event") ms) met.event event-is)
@@ -57,25 +57,25 @@ module _ (s : List ℕ) (at : ℕ) where
     unfolding order_place_at order_row end_of and_then
     told_is = sym (go (value (suc d) s at) refl)
       where
-        go : (x : End) → value (suc d) s at ≡ x
-            → elim x [ At e ↦ order_place_of e (order_row (suc d) s (record { from = at; to = e })) | Broken ↦ order_place_of 0 refused ] ≡ told (end_of x) (object_at (suc d) s (record { from = at; to = end_of x }))
-        go (At e) q = refl
-        go Broken q = ap (told 0) (sym (object-broken d s (record { from = at; to = 0 }) q))
+        go : (x : Option ℕ) → value (suc d) s at ≡ x
+            → elim x [ Some e ↦ order_place_of e (order_row (suc d) s (record { from = at; to = e })) | None ↦ order_place_of 0 None ] ≡ told (end_of x) (object_at (suc d) s (record { from = at; to = end_of x }))
+        go (Some e) q = refl
+        go None q = ap (told 0) (sym (object-broken d s (record { from = at; to = 0 }) q))
 
     -- the loop over its members
     abbrev pub order_loop : Loop Pair OrderMembers OrderPlace
-    order_loop = over_members d s (more_members s) (place_in s at) (order_place_of 0 refused)
+    order_loop = over_members d s (more_members s) (place_in s at) (order_place_of 0 None)
 
-    pub place_none : (byte_at s at ≡ 123 → ⊥) → {e : ℕ} → e ≡ end_of (value (suc d) s at) → order_place_of e refused ≡ order_place_at (suc d) s at
+    pub place_none : (byte_at s at ≡ 123 → ⊥) → {e : ℕ} → e ≡ end_of (value (suc d) s at) → order_place_of e None ≡ order_place_at (suc d) s at
     unfolding and_then
-    place_none n h = ap (λ (e : ℕ). order_place_of e refused) h ∙ made_other told d s at n ∙ told_is
+    place_none n h = ap (λ (e : ℕ). order_place_of e None) h ∙ made_other told d s at n ∙ told_is
 
     module _ (opens : byte_at s at ≡ 123) (e : ℕ) (h : e ≡ end_of (closing 125 s (at + 1))) where
-      empty-place : order_place_of e refused ≡ place_in s at e no_members
+      empty-place : order_place_of e None ≡ place_in s at e no_members
       unfolding place_in row_of and_then once_at
       empty-place = refl
 
-      pub place-empty : 0 < e → order_place_of e refused ≡ order_place_at (suc d) s at
+      pub place-empty : 0 < e → order_place_of e None ≡ order_place_at (suc d) s at
       place-empty p = empty-place ∙ made-empty told d s at opens (more_members s) (place_in s at) no_members (λ x ms. told-folds ms x) e h p ∙ told_is
 
       pub place-start : e ≡ 0 → (k : ℕ) → k ≡ blanks s (at + 1) → Left order_loop no_members k (order_place_at (suc d) s at)

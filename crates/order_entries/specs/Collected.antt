@@ -1,8 +1,6 @@
 -- What one walk over an order collects, member by member, and what is told of it in the end, in numbers. Assumes nothing: these are definitions.
-use Rattle.std.specs.Prelude.{ℕ, ◌≤◌, ◌≡◌, Bool, true, false, ◌&&◌, List, eqb, length}
+use Rattle.std.specs.Prelude.{ℕ, ◌≤◌, ◌≡◌, Bool, true, false, ◌&&◌, List, eqb, length, None, Option, Some}
 use Rattle.text.specs.Text.{ascii}
-use Rattle.decimal.specs.Digits.{Reading, reads, refused}
-use Rattle.json_tokens.specs.Tokens.{At, Broken}
 use Rattle.json_values.specs.Json.{Span, Pair, value}
 use Rattle.entries.specs.Places.{and_then, is_string}
 use Rattle.layout.specs.MemberSpans.{no_member_span, with_member_span, once_at, on_member}
@@ -16,13 +14,13 @@ use Rattle.order_entries.specs.declared.OrderMembers.{OrderMembers}
 
 -- ---- what is told of an order
 
-unfoldable pub maybe_event : Reading Event → MaybeEvent
-maybe_event (reads event) = Is event
-maybe_event refused = Missing
+unfoldable pub maybe_event : Option Event → MaybeEvent
+maybe_event (Some event) = Is event
+maybe_event None = Missing
 
 -- The value ends at `end`, and is the order that was read of it, or none.
-unfoldable pub order_place_of : ℕ → Reading OrderRow → OrderPlace
-order_place_of end (reads r) =
+unfoldable pub order_place_of : ℕ → Option OrderRow → OrderPlace
+order_place_of end (Some r) =
     record {
       end = end;
       well_formed = true;
@@ -34,12 +32,12 @@ order_place_of end (reads r) =
       size_to = r.size.to;
       event = maybe_event r.event;
     }
-order_place_of end refused =
+order_place_of end None =
     record { end = end; well_formed = false; id_from = 0; id_to = 0; price_from = 0; price_to = 0; size_from = 0; size_to = 0; event = Missing }
 
 -- The value at a position as an order.
 unfoldable pub order_place_at : ℕ → List ℕ → ℕ → OrderPlace
-order_place_at depth s at = elim (value depth s at) [ At e ↦ order_place_of e (order_row depth s (record { from = at; to = e })) | Broken ↦ order_place_of 0 refused ]
+order_place_at depth s at = elim (value depth s at) [ Some e ↦ order_place_of e (order_row depth s (record { from = at; to = e })) | None ↦ order_place_of 0 None ]
 
 -- ---- members
 

@@ -1,8 +1,7 @@
 -- Worked examples: a text, and the order that it is. Assumes nothing.
 use Prim.Native.String.{String}
-use Rattle.std.specs.Prelude.{ℕ, ◌≡◌, refl, true, false, List, [], ◌∷◌, length}
+use Rattle.std.specs.Prelude.{ℕ, ◌≡◌, refl, true, false, List, [], ◌∷◌, length, None, Option, Some}
 use Rattle.text.specs.Text.{ascii}
-use Rattle.decimal.specs.Digits.{Reading, reads, refused}
 use Rattle.order_edit.specs.declared.Event.{Event}
 use Rattle.order_edit.specs.declared.Event.TheVariants.{Add, Modify}
 use Rattle.text.specs.Text as x·
@@ -24,28 +23,28 @@ pub record Said : Type 0 where
   pub id : List ℕ
   pub price : List ℕ
   pub size : List ℕ
-  pub event : Reading Event
+  pub event : Option Event
 
-said_of : String → Reading Said
+said_of : String → Option Said
 said_of t =
     p·.and_then (r·.order_row 12 (ascii t) (record { from = 0; to = length (ascii t) })) (λ r.
-    reads (record { id = j2·.inner (ascii t) r.id; price = j2·.inner (ascii t) r.price; size = j2·.inner (ascii t) r.size; event = r.event }))
+    Some (record { id = j2·.inner (ascii t) r.id; price = j2·.inner (ascii t) r.price; size = j2·.inner (ascii t) r.size; event = r.event }))
 
-refused_of : String → Reading (List ℕ)
+refused_of : String → Option (List ℕ)
 refused_of t =
     p·.and_then (r·.order_row 12 (ascii t) (record { from = 0; to = length (ascii t) })) (λ r.
-    reads (y·.bad_at false (ascii t) r ∷ y·.bad_at true (ascii t) r ∷ []))
+    Some (y·.bad_at false (ascii t) r ∷ y·.bad_at true (ascii t) r ∷ []))
 
 pub data Case : Type 0 where
-  is : String → String → String → String → Reading Event → Case
+  is : String → String → String → String → Option Event → Case
   none : String → Case
   -- where the first text begins that check 8 refuses, in an update and in a snapshot
   bad : String → ℕ → ℕ → Case
 
 Holds : Case → Type 0
-Holds (is t id price size event) = said_of t ≡ reads (record { id = ascii id; price = ascii price; size = ascii size; event = event })
-Holds (none t) = said_of t ≡ refused
-Holds (bad t update snapshot) = refused_of t ≡ reads (update ∷ snapshot ∷ [])
+Holds (is t id price size event) = said_of t ≡ Some (record { id = ascii id; price = ascii price; size = ascii size; event = event })
+Holds (none t) = said_of t ≡ None
+Holds (bad t update snapshot) = refused_of t ≡ Some (update ∷ snapshot ∷ [])
 
 Each : List Case → Type 0
 Each [] = Unit
@@ -54,17 +53,17 @@ Each (c ∷ cs) = Holds c × Each cs
 table : List Case
 table =
     -- 004's first order; a snapshot's has no event
-    is "{\"order_id\":\"OTCFZG-YOE2Q-LQKNM3\",\"limit_price\":\"44939.4\",\"order_qty\":\"0.88968699\",\"timestamp\":\"2024-01-08T12:26:39.526146327Z\"}" "OTCFZG-YOE2Q-LQKNM3" "44939.4" "0.88968699" refused ∷
+    is "{\"order_id\":\"OTCFZG-YOE2Q-LQKNM3\",\"limit_price\":\"44939.4\",\"order_qty\":\"0.88968699\",\"timestamp\":\"2024-01-08T12:26:39.526146327Z\"}" "OTCFZG-YOE2Q-LQKNM3" "44939.4" "0.88968699" None ∷
     -- members in any order, and a name spelled with an escape
-    is "{ \"event\" : \"modify\" , \"order_qty\":\"0\",\"limit\\u005fprice\":\"5\",\"order_id\":\"a\"}" "a" "5" "0" (reads Modify) ∷
+    is "{ \"event\" : \"modify\" , \"order_qty\":\"0\",\"limit\\u005fprice\":\"5\",\"order_id\":\"a\"}" "a" "5" "0" (Some Modify) ∷
     -- an event spelled with an escape
-    is "{\"event\":\"\\u0061dd\",\"order_qty\":\"1\",\"limit_price\":\"5\",\"order_id\":\"a\"}" "a" "5" "1" (reads Add) ∷
+    is "{\"event\":\"\\u0061dd\",\"order_qty\":\"1\",\"limit_price\":\"5\",\"order_id\":\"a\"}" "a" "5" "1" (Some Add) ∷
     -- an event that is none of the three, is no string, or stands twice
-    is "{\"event\":\"Add\",\"order_qty\":\"1\",\"limit_price\":\"5\",\"order_id\":\"a\"}" "a" "5" "1" refused ∷
-    is "{\"event\":1,\"order_qty\":\"1\",\"limit_price\":\"5\",\"order_id\":\"a\"}" "a" "5" "1" refused ∷
-    is "{\"event\":\"add\",\"event\":\"add\",\"order_qty\":\"1\",\"limit_price\":\"5\",\"order_id\":\"a\"}" "a" "5" "1" refused ∷
+    is "{\"event\":\"Add\",\"order_qty\":\"1\",\"limit_price\":\"5\",\"order_id\":\"a\"}" "a" "5" "1" None ∷
+    is "{\"event\":1,\"order_qty\":\"1\",\"limit_price\":\"5\",\"order_id\":\"a\"}" "a" "5" "1" None ∷
+    is "{\"event\":\"add\",\"event\":\"add\",\"order_qty\":\"1\",\"limit_price\":\"5\",\"order_id\":\"a\"}" "a" "5" "1" None ∷
     -- a text that is no decimal is another check's
-    is "{\"order_qty\":\"x\",\"limit_price\":\"\",\"order_id\":\"a\"}" "a" "" "x" refused ∷
+    is "{\"order_qty\":\"x\",\"limit_price\":\"\",\"order_id\":\"a\"}" "a" "" "x" None ∷
     -- a price that is no string; one twice; none
     none "{\"order_qty\":\"1\",\"limit_price\":5,\"order_id\":\"a\"}" ∷
     none "{\"order_qty\":\"1\",\"limit_price\":\"5\",\"order_id\":\"a\",\"limit_price\":\"5\"}" ∷

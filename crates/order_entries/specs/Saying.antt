@@ -1,6 +1,5 @@
 -- What an order of a message says in numbers, and which of its texts check 8 refuses. Assumes nothing: these are definitions.
-use Rattle.std.specs.Prelude.{ℕ, ◌≡◌, Bool, true, false, ◌&&◌, ◌||◌, cond, List, ltb}
-use Rattle.decimal.specs.Digits.{Reading, reads, refused}
+use Rattle.std.specs.Prelude.{ℕ, ◌≡◌, Bool, true, false, ◌&&◌, ◌||◌, cond, List, ltb, None, Option, Some}
 use Rattle.decimal.specs.Decimal.{number}
 use Rattle.decimal.specs.Limits.{Within}
 use Rattle.edit.specs.declared.Side.{Side}
@@ -20,9 +19,9 @@ use Rattle.order_entries.specs.declared.OrderRead.{OrderRead}
 -- ---- of a row
 
 -- Its event, and to add it where it names none, as in a snapshot.
-unfoldable pub event_or : Reading Event → Event
-event_or (reads event) = event
-event_or refused = Add
+unfoldable pub event_or : Option Event → Event
+event_or (Some event) = event
+event_or None = Add
 
 -- The entry that it is. A text that is no decimal gives 0; check 8 has refused it before.
 unfoldable pub entry_at : List ℕ → Side → OrderRow → OrderEntry
@@ -49,9 +48,9 @@ bad_at snapshot s r = first_bad (bad_price s r.price) r.price.from (bad_quantity
 
 -- ---- of what was found
 
-unfoldable pub read_event : MaybeEvent → Reading Event
-read_event (Is event) = reads event
-read_event Missing = refused
+unfoldable pub read_event : MaybeEvent → Option Event
+read_event (Is event) = Some event
+read_event Missing = None
 
 -- The row that was found at a position.
 abbrev pub row_from : ℕ → OrderPlace → OrderRow

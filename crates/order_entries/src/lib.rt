@@ -10,8 +10,7 @@
 
 mod saying;
 
-ghost use Rattle.std.specs.Prelude.{◌≡◌, ◌≤◌};
-ghost use Rattle.decimal.specs.Digits.{refused};
+ghost use Rattle.std.specs.Prelude.{◌≡◌, ◌≤◌, None};
 ghost use Rattle.json_values.specs.Names.{inner};
 ghost use Rattle.layout.specs.MemberSpans.{with_member_span, on_member};
 ghost use Rattle.order_edit.specs.Ids.{is_id};
@@ -231,7 +230,7 @@ fn event_of(s: &[u8], mark: MemberSpan) -> MaybeEvent
 
 // A value that ends at `end` and is no order.
 fn no_order(end: usize) -> OrderPlace
-    ensures { result ≡ order_place_of end refused }
+    ensures { result ≡ order_place_of end None }
 {
     OrderPlace {
         end,

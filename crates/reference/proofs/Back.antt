@@ -1,5 +1,6 @@
 -- The round trip: what every side that is reached has, and what a new book makes of a snapshot of it.
 -- Assumes nothing.
+use Rattle.std.specs.Prelude.{None, Option, Some}
 use mathlib.Core.Path.{◌≡◌, refl, sym, ap, ap₂, ◌∙◌, subst}
 use mathlib.Core.List.{List, [], ◌∷◌, ◌++◌, map, append_assoc, append-nil}
 use mathlib.Core.Bool.{Bool, true, false, true≢false, cond}
@@ -9,7 +10,6 @@ use borrow.Author.Tests.{ltb-true}
 use lib.Dec.{lit<}
 use lib.ListN.{length, take, length-take}
 use lib.Seq.{take_all}
-use Rattle.decimal.specs.Digits.{Reading, reads, refused}
 use Rattle.decimal.specs.Decimal.{Number, read, is_zero, value}
 use Rattle.decimal.specs.Limits.{Within}
 use Rattle.decimal.proofs.RoundTrip.{read-within}
@@ -118,9 +118,9 @@ price-positive : (s : List ℕ) (a : Span) → bad_price s a ≡ false → Posit
 unfolding bad_price number_at
 price-positive s a h = go (read (inner s a)) refl h
   where
-    go : (x : Reading Number) → read (inner s a) ≡ x → is_bad_price x ≡ false → Positive (number_in x)
-    go (reads n) q g = record { within = read-within (inner s a) n q; some = g }
-    go refused q g = absurd (true≢false g)
+    go : (x : Option Number) → read (inner s a) ≡ x → is_bad_price x ≡ false → Positive (number_in x)
+    go (Some n) q g = record { within = read-within (inner s a) n q; some = g }
+    go None q g = absurd (true≢false g)
 
 -- a level that it sets can be held
 abbrev Fine : SidedEdit → Type 0

@@ -1,12 +1,12 @@
 -- What a message carries: every message but a snapshot of K's a checksum, and none of K's a sequence number.
 -- Assumes nothing.
+use Rattle.std.specs.Prelude.{None, Option, Some}
 use mathlib.Core.Path.{◌≡◌, refl}
 use mathlib.Core.List.{List}
 use mathlib.Core.Bool.{Bool, true, false, cond}
 use Prim.Native.Nat.{ℕ}
 use native.Mathlib.Omega.{arith}
 use Rattle.text.specs.Text.{ascii}
-use Rattle.decimal.specs.Digits.{Reading, reads, refused}
 use Rattle.json_values.specs.Json.{Span, Pair, max_depth}
 use Rattle.settings.specs.Settings.{Config}
 use Rattle.settings.specs.declared.Dialect.{Dialect}
@@ -28,15 +28,15 @@ use Rattle.reference.proofs.Checks.{Refusals, Read, Either, checked-either}
 
 -- ---- reading
 
-then-read : {A B : Type 0} (P : B → Type 0) (x : Reading A) (next : A → Reading B) → ((a : A) → Read P (next a)) → Read P (and_then x next)
+then-read : {A B : Type 0} (P : B → Type 0) (x : Option A) (next : A → Option B) → ((a : A) → Read P (next a)) → Read P (and_then x next)
 unfolding and_then
-then-read P (reads a) next h = h a
-then-read P refused next h = tt
+then-read P (Some a) next h = h a
+then-read P None next h = tt
 
 abbrev Carrying : Dialect → Layout → Type 0
 Carrying d l = Carries d l.kind l.checksum l.number
 
-laid-carries : (d : Dialect) (kind : Kind) (sum : Printed) (number : ℕ) (entries : Reading (List Entry)) → Carries d kind sum number
+laid-carries : (d : Dialect) (kind : Kind) (sum : Printed) (number : ℕ) (entries : Option (List Entry)) → Carries d kind sum number
     → Read (Carrying d) (laid kind sum number entries)
 unfolding laid
 laid-carries d kind sum number entries h = then-read (Carrying d) entries _ (λ es. h)
@@ -59,7 +59,7 @@ objects-carry s objects = at (is_snapshot s objects) (is_update s objects)
     at : (a b : Bool) → Read (Carrying K)
         (cond a (laid Snapshot unprinted 0 (entries_k s (ascii "bs") (ascii "as") objects))
         (cond b (and_then (only (values_of s (ascii "c") (together objects))) (λ c.
-        and_then (quoted_checksum_at s c) (λ sum. laid Update (printed sum) 0 (entries_k s (ascii "b") (ascii "a") objects)))) refused))
+        and_then (quoted_checksum_at s c) (λ sum. laid Update (printed sum) 0 (entries_k s (ascii "b") (ascii "a") objects)))) None))
     at true b =
         laid-carries K Snapshot unprinted 0 (entries_k s (ascii "bs") (ascii "as") objects)
         (record { compared = λ e. (refl, refl); none = λ e h. refl; number = λ e. refl })
@@ -101,17 +101,17 @@ unfolding layout_in linked_to and_then
 linked-carries v false s ms = m-carries v s ms
 linked-carries v true s ms = go (layout_m s ms) (m-carries v s ms)
   where
-    before : Reading ℕ
+    before : Option ℕ
     before = and_then (only (values_of s (ascii "prev_gsn") ms)) (whole_at s)
 
     at : (l : Layout) (b : Bool) → Carrying (M v) l
-        → Read (Carrying (M v)) (cond b (reads l) (and_then before (λ n. reads (record { kind = l.kind; entries = l.entries; checksum = l.checksum; number = l.number; previous = n }))))
+        → Read (Carrying (M v)) (cond b (Some l) (and_then before (λ n. Some (record { kind = l.kind; entries = l.entries; checksum = l.checksum; number = l.number; previous = n }))))
     at l true h = h
     at l false h = then-read (Carrying (M v)) before _ (λ n. record { compared = h.compared; none = h.none; number = h.number })
 
-    go : (x : Reading Layout) → Read (Carrying (M v)) x → Read (Carrying (M v)) (and_then x (linked_to s (values_of s (ascii "prev_gsn") ms)))
-    go (reads l) h = at l (is_snapshot_l l.kind) h
-    go refused h = tt
+    go : (x : Option Layout) → Read (Carrying (M v)) x → Read (Carrying (M v)) (and_then x (linked_to s (values_of s (ascii "prev_gsn") ms)))
+    go (Some l) h = at l (is_snapshot_l l.kind) h
+    go None h = tt
 
 abbrev HeardCarries : Dialect → Envelope → Type 0
 HeardCarries d h = Read (Carrying d) h.layout

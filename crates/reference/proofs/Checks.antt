@@ -1,11 +1,11 @@
 -- What holds of every answer of the checks 2 to 8, and of every layout that passes them, holds of what they give.
 -- Assumes nothing.
+use Rattle.std.specs.Prelude.{None, Option, Some}
 use mathlib.Core.List.{List, [], ◌∷◌}
 use mathlib.Core.Bool.{Bool, true, false, cond}
 use Prim.Native.Nat.{ℕ}
 use lib.Dec.{ltb}
 use lib.ListN.{length}
-use Rattle.decimal.specs.Digits.{Reading, reads, refused}
 use Rattle.json_values.specs.Json.{Span, text}
 use Rattle.settings.specs.Settings.{Config}
 use Rattle.settings.specs.Rules.{rules_of}
@@ -24,32 +24,32 @@ pub record Refusals (F : Answer → Type 0) : Type 0 where
   pub decimal : F BadDecimal
 
 -- what holds of whatever is read
-abbrev pub Read : {A : Type 0} → (A → Type 0) → Reading A → Type 0
-Read P (reads a) = P a
-Read P refused = Unit {0}
+abbrev pub Read : {A : Type 0} → (A → Type 0) → Option A → Type 0
+Read P (Some a) = P a
+Read P None = Unit {0}
 
 abbrev pub Either : (Answer → Type 0) → (Layout → Type 0) → Checked → Type 0
 Either F P (fails a) = F a
 Either F P (passes l) = P l
 
 module _ (F : Answer → Type 0) (P : Layout → Type 0) (f : Refusals F) where
-  laid-either : (most : ℕ) (x : Reading Layout) → Read P x → Either F P (laid_out most x)
+  laid-either : (most : ℕ) (x : Option Layout) → Read P x → Either F P (laid_out most x)
   unfolding laid_out counted
-  laid-either most (reads l) h = at (too_many most l)
+  laid-either most (Some l) h = at (too_many most l)
     where
       at : (b : Bool) → Either F P (cond b (fails TooManyEntries) (passes l))
       at true = f.entries
       at false = h
-  laid-either most refused h = f.layout
+  laid-either most None h = f.layout
 
-  addressed-either : (most : ℕ) (x : Reading Envelope) → Read (λ h. Read P h.layout) x → Either F P (addressed most x)
+  addressed-either : (most : ℕ) (x : Option Envelope) → Read (λ h. Read P h.layout) x → Either F P (addressed most x)
   unfolding addressed
-  addressed-either most (reads h) r = at h.ours
+  addressed-either most (Some h) r = at h.ours
     where
       at : (b : Bool) → Either F P (cond b (laid_out most h.layout) (fails NotOurs))
       at true = laid-either most h.layout r
       at false = f.not_ours
-  addressed-either most refused r = f.not_ours
+  addressed-either most None r = f.not_ours
 
   framed-either : (t : Config) (s : List ℕ) → Read (λ h. Read P h.layout) (envelope_in t.dialect t s (top s)) → Either F P (framed t s)
   unfolding framed

@@ -1,5 +1,6 @@
 -- What a reference book does with a message: it refuses it and keeps all but its status, or takes it, and takes it exactly when it is acceptable.
 -- Assumes nothing.
+use Rattle.std.specs.Prelude.{None, Option, Some}
 use mathlib.Core.Path.{◌≡◌, refl, sym, ap, ap₂, ◌∙◌}
 use mathlib.Core.List.{List, [], ◌∷◌}
 use mathlib.Core.Bool.{Bool, true, false, true≢false, false≢true, ◌&&◌, ◌||◌, not, cond}
@@ -9,7 +10,6 @@ use borrow.Author.Tests.{ltb-true, ltb-false, lt-ltb, le-ltb, leb-false, lt-leb,
 use lib.Dec.{leb, ltb, eqb}
 use lib.ListN.{length}
 use Rattle.decimal.specs.Decimal.{value}
-use Rattle.decimal.specs.Digits.{Reading, reads, refused}
 use Rattle.settings.specs.Settings.{Config}
 use Rattle.edit.specs.Edit.{PriceLevel, shown_price}
 use Rattle.edit.specs.declared.Side.TheVariants.{Bids, Asks}
@@ -42,13 +42,13 @@ said-refusal t s a h = go (checked t s) (checked-either F (λ l. Unit {0}) every
     every : Refusals F
     every = record { long = refl; not-json = refl; not_ours = refl; layout = refl; entries = refl; decimal = refl }
 
-    any-layout : (x : Reading Layout) → Read (λ l. Unit {0}) x
-    any-layout (reads l) = tt
-    any-layout refused = tt
+    any-layout : (x : Option Layout) → Read (λ l. Unit {0}) x
+    any-layout (Some l) = tt
+    any-layout None = tt
 
-    any : (x : Reading Envelope) → Read (λ k. Read (λ l. Unit {0}) k.layout) x
-    any (reads k) = any-layout k.layout
-    any refused = tt
+    any : (x : Option Envelope) → Read (λ k. Read (λ l. Unit {0}) k.layout) x
+    any (Some k) = any-layout k.layout
+    any None = tt
 
     go : (x : Checked) → Either F (λ l. Unit {0}) x → decoded_of s x ≡ refuses a → refusal a ≡ true
     go (fails b) r g = let e : b ≡ a = cc in rw e at r

@@ -1,4 +1,5 @@
 -- A shut book answers 1 to every call, and no other book ever does. Assumes nothing.
+use Rattle.std.specs.Prelude.{None, Option, Some}
 use mathlib.Core.Path.{◌≡◌, refl, sym, ap, ◌∙◌}
 use mathlib.Core.List.{List}
 use mathlib.Core.Bool.{Bool, true, false, true≢false, cond}
@@ -6,7 +7,6 @@ use Prim.Native.Nat.{ℕ}
 use native.Mathlib.Omega.{arith}
 use lib.Dec.{eqb}
 use lib.ListN.{length}
-use Rattle.decimal.specs.Digits.{Reading, reads, refused}
 use Rattle.settings.specs.Settings.{Config}
 use Rattle.entries.specs.Places.{top}
 use Rattle.layout.specs.Layout.{Layout, Envelope}
@@ -44,13 +44,13 @@ decoded-other t s a h = go (checked t s) (checked-either Other (λ l. Unit {0}) 
     every : Refusals Other
     every = record { long = refl; not-json = refl; not_ours = refl; layout = refl; entries = refl; decimal = refl }
 
-    any-layout : (x : Reading Layout) → Read (λ l. Unit {0}) x
-    any-layout (reads l) = tt
-    any-layout refused = tt
+    any-layout : (x : Option Layout) → Read (λ l. Unit {0}) x
+    any-layout (Some l) = tt
+    any-layout None = tt
 
-    any : (x : Reading Envelope) → Read (λ k. Read (λ l. Unit {0}) k.layout) x
-    any (reads k) = any-layout k.layout
-    any refused = tt
+    any : (x : Option Envelope) → Read (λ k. Read (λ l. Unit {0}) k.layout) x
+    any (Some k) = any-layout k.layout
+    any None = tt
 
     go : (x : Checked) → Either Other (λ l. Unit {0}) x → decoded_of s x ≡ refuses a → Other a
     go (fails b) r g = let e : b ≡ a = cc in rw e at r

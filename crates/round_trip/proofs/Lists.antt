@@ -1,11 +1,12 @@
 -- Items with commas between them and a closing bracket after them are read back, one by one. Assumes nothing.
+use Rattle.std.specs.Prelude.{None}
 use Prim.Native.Nat.{ℕ, zero, suc, ◌+◌, ◌≤◌, ◌<◌}
 use mathlib.Core.Path.{◌≡◌, refl, sym, ap, ◌∙◌}
 use mathlib.Core.Bool.{false}
 use mathlib.Core.List.{List, [], ◌∷◌, ◌++◌, map, append_assoc}
 use native.Mathlib.Omega.{arith}
 use lib.ListN.{length, get_or, drop, length-append}
-use Rattle.json_tokens.specs.Tokens.{Broken, blanks, closing}
+use Rattle.json_tokens.specs.Tokens.{blanks, closing}
 use Rattle.json_values.specs.Json.{Next, item, Items, items, prepended, onward, list, list_of}
 use Rattle.json_values.proofs.Laws.{first_ends, first-item, later-item, later-ends}
 use Rattle.writer.specs.Snapshot.{comma_joined}
@@ -116,6 +117,6 @@ module _ {A D : Type 0} (one : ℕ → Next A) (close : ℕ) (s : List ℕ) (wri
           matches = w.matches;
         }
       where
-        opens : (t : List ℕ) → drop i s ≡ t → 32 < get_or t 0 0 → (get_or t 0 0 ≡ close → ⊥) → closing close s i ≡ Broken
+        opens : (t : List ℕ) → drop i s ≡ t → 32 < get_or t 0 0 → (get_or t 0 0 ≡ close → ⊥) → closing close s i ≡ None
         opens [] h l n = absurd (omega arith)
         opens (x ∷ t) h l n = closes-not close s i x t h l n

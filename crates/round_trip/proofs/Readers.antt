@@ -1,4 +1,5 @@
 -- What the readers of values make of texts that are known: arrays, objects, members by name, strings, whole numbers. Assumes nothing.
+use Rattle.std.specs.Prelude.{Option, Some}
 use Prim.Native.Nat.{ℕ, suc, ◌+◌, ◌-◌}
 use mathlib.Core.Path.{◌≡◌, refl, ap, ap₂, ◌∙◌}
 use mathlib.Core.Bool.{Bool, true, false, cond, and-eq-true_iff}
@@ -7,7 +8,6 @@ use native.Mathlib.Omega.{arith}
 use borrow.Author.Tests.{eq-eqb, ne_eqb}
 use lib.ListN.{length, take, drop}
 use lib.Seq.{take-append_seam}
-use Rattle.decimal.specs.Digits.{Reading, reads}
 use Rattle.text.specs.Text.{byte_at}
 use Rattle.json_values.specs.Json.{Span, Pair}
 use Rattle.json_values.specs.Names.{meaning, same, means, inner}
@@ -22,9 +22,9 @@ use Rattle.round_trip.proofs.Lists.{Matched, both_none, both_more}
 use Rattle.round_trip.proofs.Values.{Reads, IsText, elements-read, Field, object, GoodField, IsField, members-read}
 
 -- ---- arrays and objects
-pub record Gives {A D : Type 0} (is : A → D → Type 0) (ds : List D) (x : Reading (List A)) : Type 0 where
+pub record Gives {A D : Type 0} (is : A → D → Type 0) (ds : List D) (x : Option (List A)) : Type 0 where
   pub found : List A
-  pub gives : x ≡ reads found
+  pub gives : x ≡ Some found
   pub matches : Matched is found ds
 
 pub array-at : {D : Type 0} (d : ℕ) (write : D → List ℕ) (ds : List D) → Each (λ x. Reads d (write x)) ds

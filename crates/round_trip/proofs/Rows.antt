@@ -1,4 +1,5 @@
 -- The entries that the writer writes for levels say these levels, and none breaks check 8. Assumes nothing.
+use Rattle.std.specs.Prelude.{Option, Some}
 use Prim.Native.Nat.{ℕ, zero, suc, ◌+◌, ◌/◌, ◌^◌, ◌≤◌}
 use mathlib.Core.Path.{◌≡◌, refl, ap, ap₂, ◌∙◌}
 use mathlib.Core.Bool.{Bool, true, false, ◌&&◌, cond}
@@ -7,7 +8,7 @@ use native.Mathlib.Omega.{arith}
 use borrow.Author.Tests.{ne_eqb, le-leb}
 use lib.ListN.{length}
 use Rattle.text.specs.Text.{ascii}
-use Rattle.decimal.specs.Digits.{Reading, reads, written}
+use Rattle.decimal.specs.Digits.{written}
 use Rattle.decimal.specs.Decimal.{Number, read, text, after_point, is_zero}
 use Rattle.decimal.proofs.Digits.{Digits, none, one, digit-in, written-digits, fixed-digits}
 use Rattle.decimal.proofs.RoundTrip.{read-text}
@@ -57,7 +58,7 @@ text-plain n = plain-append (written (n.digits / 10 ^ n.decimals)) (after_point 
 
 -- ---- a decimal in quotes
 module _ {s : List ℕ} {a : Span} (n : Number) (p : Positive n) (h : Is s a (quoted (text n))) where
-  reads-it : read (inner s a) ≡ reads n
+  reads-it : read (inner s a) ≡ Some n
   reads-it = ap read (inner-is (text n) h) ∙ read-text n p.within
 
   number_is : number_at s a ≡ n
@@ -91,18 +92,18 @@ level-is l f h k = record {
 }
 
 -- an entry that is read of a part of the text
-pub record EntryAt (s : List ℕ) (l : PriceLevel) (x : Reading Row) : Type 0 where
+pub record EntryAt (s : List ℕ) (l : PriceLevel) (x : Option Row) : Type 0 where
   pub row : Row
-  pub is_row : x ≡ reads row
+  pub is_row : x ≡ Some row
   pub row_is : IsLevel s row l
 
 -- what an entry of a dialect is to be
-pub record Written (write : PriceLevel → List ℕ) (entry : List ℕ → Span → Reading Row) : Type 0 where
+pub record Written (write : PriceLevel → List ℕ) (entry : List ℕ → Span → Option Row) : Type 0 where
   pub entry-reads : (l : PriceLevel) → Reads 13 (write l)
   pub entry_at : (s : List ℕ) (a : Span) (l : PriceLevel) → ValidLevel l → Is s a (write l) → EntryAt s l (entry s a)
 
 -- an entry is an array of strings, of which a dialect's `row` makes the row
-module _ (texts : PriceLevel → List (List ℕ)) (row : List ℕ → Span → List Span → Reading Row) (strings : (l : PriceLevel) → Each (λ t. Reads 12 (quoted t)) (texts l))
+module _ (texts : PriceLevel → List (List ℕ)) (row : List ℕ → Span → List Span → Option Row) (strings : (l : PriceLevel) → Each (λ t. Reads 12 (quoted t)) (texts l))
     (row_at : (s : List ℕ) (a : Span) (parts : List Span) (l : PriceLevel) → ValidLevel l → Matched (IsText quoted s) parts (texts l) → EntryAt s l (row s a parts)) where
   array_row : (s : List ℕ) (a : Span) (l : PriceLevel) → ValidLevel l → Is s a (array (map quoted (texts l))) → EntryAt s l (and_then (array_at 13 s a) (row s a))
   unfolding and_then
@@ -209,13 +210,13 @@ matched-append : {A D : Type 0} {is : A → D → Type 0} {l k : List A} {d e : 
 matched-append both_none n = n
 matched-append (both_more h m) n = both_more h (matched-append m n)
 
-pub also : {A D : Type 0} {is : A → D → Type 0} {d e : List D} {x y : Reading (List A)} → Gives is d x → Gives is e y → Gives is (d ++ e) (and_also x y)
+pub also : {A D : Type 0} {is : A → D → Type 0} {d e : List D} {x y : Option (List A)} → Gives is d x → Gives is e y → Gives is (d ++ e) (and_also x y)
 unfolding and_also and_then
 also g h = record { found = g.found ++ h.found; gives = rw (g.gives, and_then, h.gives); matches = matched-append g.matches h.matches }
 
-pub no_more : {A D : Type 0} {is : A → D → Type 0} {d : List D} {x : Reading (List A)} → Gives is d x → Gives is d (and_also x (reads []))
+pub no_more : {A D : Type 0} {is : A → D → Type 0} {d : List D} {x : Option (List A)} → Gives is d x → Gives is d (and_also x (Some []))
 unfolding and_also and_then
-no_more g = record { found = g.found; gives = rw (g.gives, and_then) (ap reads (append-nil g.found)); matches = g.matches }
+no_more g = record { found = g.found; gives = rw (g.gives, and_then) (ap Some (append-nil g.found)); matches = g.matches }
 
 -- ---- what entries say
 pub edits-are : {s : List ℕ} {es : List Entry} {ds : List SidedEdit} → Matched (IsEdit s) es ds → map sided_edit (map (numbers_at s) es) ≡ ds

@@ -1,4 +1,5 @@
 -- K's snapshot is read back: its text is an array of four values, the second of which is an object with the two sides. Assumes nothing.
+use Rattle.std.specs.Prelude.{Some}
 use Prim.Native.Nat.{ℕ, ◌≤◌}
 use mathlib.Core.Path.{◌≡◌, refl, ap, ◌∙◌}
 use mathlib.Core.Bool.{true}
@@ -6,7 +7,7 @@ use mathlib.Core.List.{List, [], ◌∷◌, ◌++◌, map, append-nil, append_as
 use native.Mathlib.Omega.{arith}
 use lib.ListN.{length, length-append}
 use Rattle.text.specs.Text.{ascii, is_digit}
-use Rattle.decimal.specs.Digits.{reads, leading, value_from, written}
+use Rattle.decimal.specs.Digits.{leading, value_from, written}
 use Rattle.decimal.specs.Decimal.{is_whole}
 use Rattle.decimal.specs.Whole.{read_whole}
 use Rattle.decimal.proofs.Digits.{written-digits}
@@ -117,7 +118,7 @@ module _ (s : List ℕ) (bids asks : List PriceLevel) (fine-bids : Each ValidLev
     unfolding is_snapshot named meaning
     a-snapshot = rw (times-are (ascii "as"), times-are (ascii "bs"), times-are (ascii "a"), times-are (ascii "b"), times-are (ascii "c"))
 
-    laid_out : (g : Gives (IsEdit s) the-edits (entries_in Triple 14 s (ascii "bs") (ascii "as") ms)) → objects_layout s (ms ∷ []) ≡ reads (laid_as g.found unprinted 0)
+    laid_out : (g : Gives (IsEdit s) the-edits (entries_in Triple 14 s (ascii "bs") (ascii "as") ms)) → objects_layout s (ms ∷ []) ≡ Some (laid_as g.found unprinted 0)
     unfolding objects_layout entries_k laid and_then
     laid_out g = rw (a-snapshot, alone, g.gives)
 
@@ -139,7 +140,7 @@ module _ (s : List ℕ) (bids asks : List PriceLevel) (fine-bids : Each ValidLev
       unfolding ours_k
       ours = rw (means-it (channel depth) hc (channel-plain depth), means-it name hp name-is)
 
-      whole : whole_at s n ≡ reads 0
+      whole : whole_at s n ≡ Some 0
       unfolding whole_at read_whole is_whole leading is_digit value_from
       whole = ap read_whole (part-is hn)
 
@@ -149,11 +150,11 @@ module _ (s : List ℕ) (bids asks : List PriceLevel) (fine-bids : Each ValidLev
       the-entries : Gives (IsEdit s) the-edits (entries_in Triple 14 s (ascii "bs") (ascii "as") the-object.found)
       the-entries = entries-in the-object.found the-object.matches
 
-      layout : layout_k s frame ≡ reads (laid_as the-entries.found unprinted 0)
+      layout : layout_k s frame ≡ Some (laid_as the-entries.found unprinted 0)
       unfolding layout_k and_then all
       layout = rw (whole, the-object.gives) (laid_out the-object.found the-object.matches the-entries)
 
-      heard : (a : Span) → array_at 16 s a ≡ reads (n ∷ (o ∷ (c ∷ (p ∷ [])))) → HeardAs s the-edits unprinted 0 (envelope_k depth name s a)
+      heard : (a : Span) → array_at 16 s a ≡ Some (n ∷ (o ∷ (c ∷ (p ∷ [])))) → HeardAs s the-edits unprinted 0 (envelope_k depth name s a)
       unfolding envelope_k and_then frame_of
       heard a e = record {
         entries = the-entries.found;
@@ -161,7 +162,7 @@ module _ (s : List ℕ) (bids asks : List PriceLevel) (fine-bids : Each ValidLev
         carries = the-entries.matches;
       }
 
-    heard-in : (a : Span) (found : List Span) → array_at 16 s a ≡ reads found → Matched (IsText itself s) found (tree bids asks depth name) → HeardAs s the-edits unprinted 0 (envelope_k depth name s a)
+    heard-in : (a : Span) (found : List Span) → array_at 16 s a ≡ Some found → Matched (IsText itself s) found (tree bids asks depth name) → HeardAs s the-edits unprinted 0 (envelope_k depth name s a)
     heard-in a found e (both_more {a = n} hn (both_more {a = o} ho (both_more {a = c} hc (both_more {a = p} hp both_none)))) = heard n o c p hn ho hc hp a e
 
     heard-tree : (a : Span) → Is s a (array (tree bids asks depth name)) → HeardAs s the-edits unprinted 0 (envelope_k depth name s a)

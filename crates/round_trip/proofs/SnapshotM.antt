@@ -1,4 +1,5 @@
 -- M's snapshot is read back: its text is an object of six members, one of which is an object with the two sides. Assumes nothing.
+use Rattle.std.specs.Prelude.{Some}
 use Prim.Native.Nat.{ℕ, ◌^◌, ◌≤◌, ◌<◌}
 use mathlib.Core.Path.{◌≡◌, refl, ap, ◌∙◌}
 use mathlib.Core.Bool.{true, false, Bool}
@@ -6,7 +7,7 @@ use mathlib.Core.List.{List, [], ◌∷◌, ◌++◌, map, append_assoc}
 use native.Mathlib.Omega.{arith}
 use lib.ListN.{length, length-append}
 use Rattle.text.specs.Text.{ascii}
-use Rattle.decimal.specs.Digits.{reads, written}
+use Rattle.decimal.specs.Digits.{written}
 use Rattle.decimal.specs.Whole.{read_whole, at_most, read_checksum}
 use Rattle.decimal.proofs.Digits.{length-written}
 use Rattle.decimal.proofs.WholeNumber.{below-bound}
@@ -106,7 +107,7 @@ module _ (bids asks : List PriceLevel) where
     tree-reads = object-reads 15 (tree name checksum number) fields-good
 
 -- ---- what is read of known members
-only_one : {s : List ℕ} {parts : List Span} {t : List ℕ} (o : One (Is s) parts t) → only parts ≡ reads o.the
+only_one : {s : List ℕ} {parts : List Span} {t : List ℕ} (o : One (Is s) parts t) → only parts ≡ Some o.the
 unfolding only
 only_one o = ap only o.alone
 
@@ -166,15 +167,15 @@ module _ (s : List ℕ) (bids asks : List PriceLevel) (fine-bids : Each ValidLev
     ours = rw (means-one s (ascii "book") refl channel, means-one s name name-is product)
 
     -- check 6
-    a-snapshot : kind_at s kind.the ≡ reads Snapshot
+    a-snapshot : kind_at s kind.the ≡ Some Snapshot
     unfolding kind_at plain unescaped
     a-snapshot = rw (means-it (ascii "snapshot") kind.is-it refl)
 
-    the_sum : checksum_at s sum-in.the ≡ reads checksum
+    the_sum : checksum_at s sum-in.the ≡ Some checksum
     unfolding checksum_at read_checksum
     the_sum = ap read_checksum (part-is sum-in.is-it) ∙ ap (at_most 4294967295) (written_read checksum (omega arith)) ∙ below-bound 4294967295 checksum low
 
-    the_number : whole_at s number_in.the ≡ reads number
+    the_number : whole_at s number_in.the ≡ Some number
     unfolding whole_at
     the_number = ap read_whole (part-is number_in.is-it) ∙ written_read number few
 
@@ -192,7 +193,7 @@ module _ (s : List ℕ) (bids asks : List PriceLevel) (fine-bids : Each ValidLev
     the-entries : Gives (IsEdit s) the-edits (entries_in forms.Pair 14 s (ascii "bids") (ascii "asks") the_data.found)
     the-entries = entries-in the_data.found the_data.matches
 
-    layout : layout_m s ms ≡ reads (laid_as the-entries.found (printed checksum) number)
+    layout : layout_m s ms ≡ Some (laid_as the-entries.found (printed checksum) number)
     unfolding layout_m and_then laid
     layout =
         rw (
@@ -212,12 +213,12 @@ module _ (s : List ℕ) (bids asks : List PriceLevel) (fine-bids : Each ValidLev
         )
 
     -- a snapshot names no sequence number before its own, and needs none
-    linked-layout : (linked : Bool) → layout_in linked s ms ≡ reads (laid_as the-entries.found (printed checksum) number)
+    linked-layout : (linked : Bool) → layout_in linked s ms ≡ Some (laid_as the-entries.found (printed checksum) number)
     unfolding layout_in linked_to and_then is_snapshot
     linked-layout true = rw layout
     linked-layout false = layout
 
-    heard : (linked : Bool) (a : Span) → object_at 16 s a ≡ reads ms → HeardAs s the-edits (printed checksum) number (envelope_m linked name s a)
+    heard : (linked : Bool) (a : Span) → object_at 16 s a ≡ Some ms → HeardAs s the-edits (printed checksum) number (envelope_m linked name s a)
     unfolding envelope_m and_then
     heard linked a e = record {
       entries = the-entries.found;

@@ -1,4 +1,5 @@
 -- The tokens that the writer writes, each where it stands in a text. Assumes nothing.
+use Rattle.std.specs.Prelude.{None, Some}
 use Prim.Native.Nat.{ℕ, zero, suc, ◌+◌, ◌/◌, ◌%◌, ◌≤◌, ◌<◌}
 use mathlib.Core.Path.{◌≡◌, refl, sym, ap, ◌∙◌, subst}
 use mathlib.Core.Bool.{Bool, true, false, ◌&&◌, and-eq-true_iff}
@@ -12,7 +13,7 @@ use Rattle.text.specs.Text.{is_digit, byte_at}
 use Rattle.decimal.specs.Digits.{written, significant}
 use Rattle.decimal.proofs.Digits.{Digits, none, one, digit-in, written-digits, written-positive, significant-zero, first-significant}
 use Rattle.json_tokens.specs.Ends.{unescaped}
-use Rattle.json_tokens.specs.Tokens.{At, Broken, skip_while, digits, blanks, closing, separator, chars, string_rest, string, int, json_number}
+use Rattle.json_tokens.specs.Tokens.{skip_while, digits, blanks, closing, separator, chars, string_rest, string, int, json_number}
 use Rattle.json_tokens.proofs.Laws.{closing-yes, closing-no, separator-yes, separator-no, string-yes, minus-no, int-zero, int-more, some-yes, fraction-none, exponent-none, number_is}
 use Rattle.writer.specs.Snapshot.{quoted}
 use Rattle.round_trip.proofs.Places.{byte-here, past, past-byte, no-blanks, Stops, stops-is}
@@ -25,19 +26,19 @@ module _ (c : ℕ) (s : List ℕ) (i x : ℕ) (u : List ℕ) (h : drop i s ≡ x
   the-byte : byte_at s (blanks s i) ≡ x
   the-byte = ap (byte_at s) here-no-blanks ∙ byte-here s i (x ∷ u) h
 
-  pub closes : x ≡ c → closing c s i ≡ At (i + 1)
-  closes e = closing-yes c s i (the-byte ∙ e) ∙ ap (λ (n : ℕ). At (n + 1)) here-no-blanks
+  pub closes : x ≡ c → closing c s i ≡ Some (i + 1)
+  closes e = closing-yes c s i (the-byte ∙ e) ∙ ap (λ (n : ℕ). Some (n + 1)) here-no-blanks
 
-  pub closes-not : (x ≡ c → ⊥) → closing c s i ≡ Broken
+  pub closes-not : (x ≡ c → ⊥) → closing c s i ≡ None
   closes-not n = closing-no c s i (λ e. n (sym the-byte ∙ e))
 
-  pub separates : x ≡ c → 32 < get_or u 0 0 → separator c s i ≡ At (i + 1)
+  pub separates : x ≡ c → 32 < get_or u 0 0 → separator c s i ≡ Some (i + 1)
   separates e m =
       separator-yes c s i (the-byte ∙ e)
-      ∙ ap (λ (n : ℕ). At (blanks s (n + 1))) here-no-blanks
-      ∙ ap At (no-blanks s (i + 1) u (past-byte s i x u h) m)
+      ∙ ap (λ (n : ℕ). Some (blanks s (n + 1))) here-no-blanks
+      ∙ ap Some (no-blanks s (i + 1) u (past-byte s i x u h) m)
 
-  pub separates-not : (x ≡ c → ⊥) → separator c s i ≡ Broken
+  pub separates-not : (x ≡ c → ⊥) → separator c s i ≡ None
   separates-not n = separator-no c s i (λ e. n (sym the-byte ∙ e))
 
 -- ---- strings without a quote, a backslash or a byte below 32
@@ -52,13 +53,13 @@ unescaped-in c h =
     let q = (and-eq-true_iff _ _).0 p.1 in
     (leb-true 32 c p.0, eqb-false c 34 (not-true _ q.0), eqb-false c 92 (not-true _ q.1))
 
-chars-plain : (t u : List ℕ) (i : ℕ) → plain t ≡ true → chars (t ++ (34 ∷ u)) i ≡ At (i + (length t + 1))
+chars-plain : (t u : List ℕ) (i : ℕ) → plain t ≡ true → chars (t ++ (34 ∷ u)) i ≡ Some (i + (length t + 1))
 unfolding chars plain
 chars-plain [] u i h = refl
 chars-plain (c ∷ t) u i h =
     let p = (and-eq-true_iff (unescaped c) (plain t)).0 h in
     let q = unescaped-in c p.0 in
-    rw (ne_eqb c 34 q.1, ne_eqb c 92 q.2, le-ltb c 32 q.0, chars) (chars-plain t u (i + 1) p.1 ∙ ap At (omega arith))
+    rw (ne_eqb c 34 q.1, ne_eqb c 92 q.2, le-ltb c 32 q.0, chars) (chars-plain t u (i + 1) p.1 ∙ ap Some (omega arith))
 
 pub quoted-append : (t u : List ℕ) → quoted t ++ u ≡ 34 ∷ (t ++ (34 ∷ u))
 unfolding quoted
@@ -68,7 +69,7 @@ pub length-quoted : (t : List ℕ) → length (quoted t) ≡ length t + 2
 unfolding quoted
 length-quoted t = let e : length (t ++ (34 ∷ [])) ≡ length t + 1 = length-append t (34 ∷ []) in omega arith
 
-pub string-here : (s : List ℕ) (i : ℕ) (t u : List ℕ) → plain t ≡ true → drop i s ≡ quoted t ++ u → string s i ≡ At (i + length (quoted t))
+pub string-here : (s : List ℕ) (i : ℕ) (t u : List ℕ) → plain t ≡ true → drop i s ≡ quoted t ++ u → string s i ≡ Some (i + length (quoted t))
 unfolding string_rest
 string-here s i t u p h =
     let q : drop i s ≡ 34 ∷ (t ++ (34 ∷ u)) = h ∙ quoted-append t u in
@@ -76,7 +77,7 @@ string-here s i t u p h =
     string-yes s i (byte-here s i _ q)
     ∙ ap (λ (l : List ℕ). chars l (i + 1)) (past-byte s i 34 _ q)
     ∙ chars-plain t u (i + 1) p
-    ∙ ap At n
+    ∙ ap Some n
 
 -- ---- whole numbers
 run-digits : {w : List ℕ} → Digits w → (u : List ℕ) (i : ℕ) → is_digit (get_or u 0 0) ≡ false → skip_while is_digit (w ++ u) i ≡ i + length w
@@ -102,21 +103,21 @@ module _ (s : List ℕ) (i c : ℕ) (w u : List ℕ) (h : drop i s ≡ (c ∷ w)
   unfolding ends_at
   after = byte-here s ends_at u (past s i (c ∷ w) u h)
 
-  the-int : int s i ≡ At ends_at
+  the-int : int s i ≡ Some ends_at
   unfolding ends_at is_digit digits
   the-int = at (eqb c 48) refl
     where
-      at : (b : Bool) → eqb c 48 ≡ b → int s i ≡ At ends_at
+      at : (b : Bool) → eqb c 48 ≡ b → int s i ≡ Some ends_at
       at true e =
           let q : c ≡ 48 = eqb-true c 48 e in
           let n : length w ≡ 0 = ap length (z q) in
-          int-zero s i (the-first ∙ q) ∙ ap At (omega arith)
+          int-zero s i (the-first ∙ q) ∙ ap Some (omega arith)
       at false e =
           int-more s i (λ q. eqb-false c 48 e (sym the-first ∙ q))
           ∙ some-yes s i (ap is_digit the-first ∙ first-digit d)
-          ∙ ap At (ap (λ (l : List ℕ). skip_while is_digit l i) h ∙ run-digits d u i (stops-is u stop).0)
+          ∙ ap Some (ap (λ (l : List ℕ). skip_while is_digit l i) h ∙ run-digits d u i (stops-is u stop).0)
 
-  pub number-here : json_number s i ≡ At (i + length (c ∷ w))
+  pub number-here : json_number s i ≡ Some (i + length (c ∷ w))
   unfolding ends_at
   number-here =
       number_is s i ends_at ends_at

@@ -1,5 +1,6 @@
 -- Values as the writer writes them: each is read to its end wherever it stands, and the elements of an array and the members of an object are those
 -- that were written. Assumes nothing.
+use Rattle.std.specs.Prelude.{Some}
 use Prim.Native.Nat.{ℕ, suc, ◌+◌, ◌≤◌, ◌<◌}
 use mathlib.Core.Path.{◌≡◌, refl, sym, ap, ◌∙◌, subst}
 use mathlib.Core.Bool.{true}
@@ -9,7 +10,6 @@ use lib.ListN.{length, get_or, drop, length-append}
 use Rattle.text.specs.Text.{is_digit, byte_at}
 use Rattle.decimal.specs.Digits.{written}
 use Rattle.decimal.proofs.Digits.{Digits, none, one, digit-in}
-use Rattle.json_tokens.specs.Tokens.{At}
 use Rattle.json_tokens.proofs.Laws.{scalar-number}
 use Rattle.json_values.specs.Json.{Span, Pair, Next, item, items, list_of, items_end, element, member, elements, members, value}
 use Rattle.json_values.proofs.Laws.{value-array, value-object, value-scalar, value-string, element-is, member_is}
@@ -22,7 +22,7 @@ use Rattle.round_trip.proofs.Lists.{Read, Item, list_read}
 -- ---- a text that is a value, where arrays and objects nest at most d deep
 pub record Reads (d : ℕ) (t : List ℕ) : Type 0 where
   pub starts : Starts t
-  pub ends : (s : List ℕ) (i : ℕ) (u : List ℕ) → drop i s ≡ t ++ u → Stops u → value d s i ≡ At (i + length t)
+  pub ends : (s : List ℕ) (i : ℕ) (u : List ℕ) → drop i s ≡ t ++ u → Stops u → value d s i ≡ Some (i + length t)
 
 pub each_map : {A : Type 0} {P Q : A → Type 0} {l : List A} → ((a : A) → P a → Q a) → Each P l → Each Q l
 each_map f each_none = each_none

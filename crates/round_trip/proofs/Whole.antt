@@ -1,4 +1,5 @@
 -- A text that is one value as the writer writes it, heard as a snapshot of these levels, says this snapshot. Assumes nothing.
+use Rattle.std.specs.Prelude.{Option, Some}
 use Prim.Native.Nat.{ℕ, ◌+◌, ◌≤◌}
 use mathlib.Core.Path.{◌≡◌, refl, sym, ap, ◌∙◌, subst}
 use mathlib.Core.Bool.{Bool, true, false, cond}
@@ -8,9 +9,8 @@ use borrow.Author.Tests.{eq-eqb, le-ltb}
 use lib.Dec.{ltb}
 use lib.ListN.{length}
 use lib.Seq.{drop-length}
-use Rattle.decimal.specs.Digits.{Reading, reads}
 use Rattle.json_tokens.specs.Bytes.{blank}
-use Rattle.json_tokens.specs.Tokens.{At, skip_while, blanks, ended}
+use Rattle.json_tokens.specs.Tokens.{skip_while, blanks, ended}
 use Rattle.json_values.specs.Json.{Span, value}
 use Rattle.json_values.specs.Json as json·
 use Rattle.json_values.proofs.Laws.{text-ends}
@@ -36,10 +36,10 @@ module _ (s : List ℕ) (r : Reads 16 s) where
   at-start : blanks s 0 ≡ 0
   at-start = no-blanks s 0 s refl r.starts.seen
 
-  the_value : value 16 s (blanks s 0) ≡ At (length s)
+  the_value : value 16 s (blanks s 0) ≡ Some (length s)
   the_value =
       let n : 0 + length s ≡ length s = omega arith in
-      ap (value 16 s) at-start ∙ r.ends s 0 [] (sym (append-nil s)) nothing_stops ∙ ap At n
+      ap (value 16 s) at-start ∙ r.ends s 0 [] (sym (append-nil s)) nothing_stops ∙ ap Some n
 
   to_the_end : blanks s (length s) ≡ length s
   unfolding blanks skip_while
@@ -62,9 +62,9 @@ abbrev pub laid_as : List Entry → Printed → ℕ → Layout
 laid_as entries sum number = record { kind = Snapshot; entries = entries; checksum = sum; number = number; previous = 0 }
 
 -- it is this book's, and has the layout of a snapshot that carries these edits
-pub record HeardAs (s : List ℕ) (edits : List SidedEdit) (sum : Printed) (number : ℕ) (x : Reading Envelope) : Type 0 where
+pub record HeardAs (s : List ℕ) (edits : List SidedEdit) (sum : Printed) (number : ℕ) (x : Option Envelope) : Type 0 where
   pub entries : List Entry
-  pub is-heard : x ≡ reads (record { ours = true; layout = reads (laid_as entries sum number) })
+  pub is-heard : x ≡ Some (record { ours = true; layout = Some (laid_as entries sum number) })
   pub carries : Matched (IsEdit s) entries edits
 
 -- no more of them for a side than a message may have

@@ -1,10 +1,10 @@
 -- `next_entry` meets its contract: an entry that begins with two decimals in quotes has these for its price and its size, and any other is found first.
+use Rattle.std.specs.Prelude.{Some}
 use Prim.Native.Nat.{◌+◌, ◌≤◌, ◌<◌}
 use mathlib.Core.Bool.{Bool, true, false, ◌||◌}
 use mathlib.Core.Path.{◌≡◌, refl, sym, ap, ap₂, ◌∙◌}
 use native.Mathlib.Omega.{arith}
 use lib.ListN.{length}
-use Rattle.decimal.specs.Digits.{reads}
 use Rattle.decimal.specs.Decimal.{number, read, is_zero}
 use Rattle.decimal.proofs.RoundTrip.{read-within}
 use Rattle.json_values.specs.Names.{inner}
@@ -39,10 +39,10 @@ module _ (c : Then-end-gt0) where
   formed : found.well_formed ≡ true
   formed = decimals-formed c.args.form c.args.depth c.args.s.now c.args.at c.two_amounts-front.result two c.entry_end-end.result c.entry_end-end.ensures more
 
-  price : read (inner c.args.s.now (price_span found)) ≡ reads (number c.two_amounts-front.result.price)
+  price : read (inner c.args.s.now (price_span found)) ≡ Some (number c.two_amounts-front.result.price)
   price = price-reads c.args.form c.args.depth c.args.s.now c.args.at c.two_amounts-front.result two c.entry_end-end.result c.entry_end-end.ensures more
 
-  size : read (inner c.args.s.now (size_span found)) ≡ reads (number c.two_amounts-front.result.size)
+  size : read (inner c.args.s.now (size_span found)) ≡ Some (number c.two_amounts-front.result.size)
   size = size-reads c.args.form c.args.depth c.args.s.now c.args.at c.two_amounts-front.result two c.entry_end-end.result c.entry_end-end.ensures more
 
   past : (c.args.at < c.entry_end-end.result) × (c.entry_end-end.result ≤ length c.args.s.now)
@@ -71,14 +71,14 @@ returns-then-end-gt0 c =
     let a = c.args in
     let m = (goal.at.returns-then-end-gt0 c).Then-end-gt0 in
     let d = m.two_amounts-front.result in
-    let bad = bad-by a.s.now (a.base + a.at) (found m) (reads (number d.price)) (reads (number d.size)) (sym (price m)) (sym (size m)) in
+    let bad = bad-by a.s.now (a.base + a.at) (found m) (Some (number d.price)) (Some (number d.size)) (sym (price m)) (sym (size m)) in
     counted-entry a.s.now a.side a.before (a.base + a.at) (found m) a.buffer.now _ (formed m) (sym (ends m))
     c.is_zero-broken.result c.either-strict.result c.with_entry-tally.ensures
     (c.is_zero-broken.ensures ∙ or-false (is_zero (number d.price)) ∙ bad false)
     (c.either-strict.ensures ∙ ap₂ (λ (x y : Bool). x || y) c.is_zero-broken.ensures c.is_zero.ensures ∙ bad true)
     _ (number d.price) (number d.size) c.put.ensures
-    (price-by a.s.now a.at (found m) (reads (number d.price)) (reads (number d.size)) (sym (price m)) (sym (size m)))
-    (size-by a.s.now a.at (found m) (reads (number d.price)) (reads (number d.size)) (sym (price m)) (sym (size m)))
+    (price-by a.s.now a.at (found m) (Some (number d.price)) (Some (number d.size)) (sym (price m)) (sym (size m)))
+    (size-by a.s.now a.at (found m) (Some (number d.price)) (Some (number d.size)) (sym (price m)) (sym (size m)))
 
 pub returns-then-found-eq0 : goal.returns-then-found-eq0
 unfolding entry_place_of

@@ -1,9 +1,9 @@
 -- `entries::passed_over` meets its contract: it hands on where the value ends.
 -- Assumes nothing.
+use Rattle.std.specs.Prelude.{None}
 use mathlib.Core.Path.{◌∙◌, ap}
-use Rattle.decimal.specs.Digits.{refused}
 use Rattle.entries.specs.Found.{entry_place_of}
 use Rattle.entries.proofs.passed_over.Goals as goal
 
 pub returns : goal.returns
-returns c = c.no_entry.ensures ∙ ap (λ e. entry_place_of e refused) c.value_end.ensures
+returns c = c.no_entry.ensures ∙ ap (λ e. entry_place_of e None) c.value_end.ensures

@@ -1,8 +1,8 @@
 -- `is_whole` meets its contract: the value is read as one.
 -- Assumes nothing.
+use Rattle.std.specs.Prelude.{None, Some}
 use mathlib.Core.Path.{sym, ap, ◌∙◌}
 use native.Mathlib.Omega.{arith}
-use Rattle.decimal.specs.Digits.{reads, refused}
 use Rattle.decimal.specs.Reads.{parsed_whole}
 use Rattle.message_k.proofs.Numbers.{value_room, whole-read}
 use Rattle.message_k.specs.MembersK.{is_read}
@@ -19,8 +19,8 @@ slice_bounds-parse_whole-end c = let a = c.args in let q = value_room 15 a.s.now
 
 pub returns-in-Number : goal.returns-in-Number
 unfolding is_read
-returns-in-Number c = let a = c.args in whole-read a.s.now a.from a.to (reads c.in-Number.field-0) (sym (ap parsed_whole c.in-Number.is) ∙ c.parse_whole.ensures)
+returns-in-Number c = let a = c.args in whole-read a.s.now a.from a.to (Some c.in-Number.field-0) (sym (ap parsed_whole c.in-Number.is) ∙ c.parse_whole.ensures)
 
 pub returns-in-Refused : goal.returns-in-Refused
 unfolding is_read
-returns-in-Refused c = let a = c.args in whole-read a.s.now a.from a.to refused (sym (ap parsed_whole c.in-Refused.is) ∙ c.parse_whole.ensures)
+returns-in-Refused c = let a = c.args in whole-read a.s.now a.from a.to None (sym (ap parsed_whole c.in-Refused.is) ∙ c.parse_whole.ensures)

@@ -1,12 +1,12 @@
 -- `k_object` meets its contract: wherever the loop stands, what was told with what the members left will add is the answer, and the buffer has the
 -- entries of those that were read.
 -- Assumes nothing.
+use Rattle.std.specs.Prelude.{Some}
 use mathlib.Core.Path.{◌≡◌, sym, ap, ◌∙◌, subst}
 use mathlib.Core.List.{List}
 use Prim.Native.Nat.{ℕ, ◌+◌}
 use native.Mathlib.Omega.{arith}
 use Rattle.text.specs.Text.{byte_at}
-use Rattle.decimal.specs.Digits.{Reading}
 use Rattle.json_tokens.proofs.Laws.{end-at, in-byte}
 use Rattle.json_tokens.proofs.Bounds.{bounds, blanks-in, closing-in, separator-in, string-in}
 use Rattle.json_tokens.specs.Ends.{end_of}
@@ -70,7 +70,7 @@ module _ (c : After-k_member-more) where
   stands =
       member-stands 14 (text at) at.loop-members.i c.string_end-name_to.result c.string_end-name_to.ensures c.if-name_to-eq0.false c.colon_end-from.result c.colon_end-from.ensures c.if-from-eq0.false next.end ends
 
-  abbrev is-value : (next.end ≡ 0 → ⊥) → value 14 (text at) c.colon_end-from.result ≡ tokens·.At next.end
+  abbrev is-value : (next.end ≡ 0 → ⊥) → value 14 (text at) c.colon_end-from.result ≡ Some next.end
   is-value n = end-at (value 14 (text at) c.colon_end-from.result) next.end ends n
 
   steps : (next.end ≡ 0 → ⊥) → next ≡ with_member (text at) at.loop-members.members here
@@ -110,7 +110,7 @@ returns-then-none-ne0 c =
     (omega arith)
     (λ x w k.
     let q : x ≡ held_all s x a.at = fold-empty (over_held s) x (a.at + 1) none.result none.ensures c.if-none-ne0.true in
-    (subst (λ (y : Reading (List Entry)). Tells s y c.closed.result.tally) q (subst (Tells s x) (sym (ap (λ (z : Members). z.tally) e)) w), subst (λ (y : Reading (List Entry)). Kept s y a.buffer.now) q k))
+    (subst (λ (y : Option (List Entry)). Tells s y c.closed.result.tally) q (subst (Tells s x) (sym (ap (λ (z : Members). z.tally) e)) w), subst (λ (y : Option (List Entry)). Kept s y a.buffer.now) q k))
 
 pub overflow_add-at-2 : goal.overflow_add-at-2
 overflow_add-at-2 c =

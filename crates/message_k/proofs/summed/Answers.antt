@@ -1,8 +1,8 @@
 -- `summed` meets its contract: what stands between the quotes is read, if the value is a string.
 -- Assumes nothing.
+use Rattle.std.specs.Prelude.{None, Some}
 use mathlib.Core.Path.{sym, ap, ◌∙◌}
 use native.Mathlib.Omega.{arith}
-use Rattle.decimal.specs.Digits.{reads, refused}
 use Rattle.decimal.specs.Reads.{parsed_checksum}
 use Rattle.message_k.proofs.Numbers.{quoted-room, sum-other, sum-read}
 use Rattle.message_k.specs.MembersK.{is_read, or_zero}
@@ -31,11 +31,11 @@ unfolding is_read or_zero
 returns-in-Number c =
     let a = c.args in
     let h = c.in-Number.is in
-    sum-read a.s.now a.from a.to a.sum c.with_member_span-mark.ensures (sym c.byte_at.ensures ∙ c.if-byte_at-ne-QUOTE.false) (reads c.in-Number.n) (sym (ap parsed_checksum h) ∙ c.parse_checksum.ensures)
+    sum-read a.s.now a.from a.to a.sum c.with_member_span-mark.ensures (sym c.byte_at.ensures ∙ c.if-byte_at-ne-QUOTE.false) (Some c.in-Number.n) (sym (ap parsed_checksum h) ∙ c.parse_checksum.ensures)
 
 pub returns-in-Refused : goal.returns-in-Refused
 unfolding is_read or_zero
 returns-in-Refused c =
     let a = c.args in
     let h = c.in-Refused.is in
-    sum-read a.s.now a.from a.to a.sum c.with_member_span-mark.ensures (sym c.byte_at.ensures ∙ c.if-byte_at-ne-QUOTE.false) refused (sym (ap parsed_checksum h) ∙ c.parse_checksum.ensures)
+    sum-read a.s.now a.from a.to a.sum c.with_member_span-mark.ensures (sym c.byte_at.ensures ∙ c.if-byte_at-ne-QUOTE.false) None (sym (ap parsed_checksum h) ∙ c.parse_checksum.ensures)

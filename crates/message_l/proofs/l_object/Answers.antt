@@ -1,11 +1,11 @@
 -- `message_l::l_object` meets its contract: wherever the loop stands, what was met with the members left is the answer, and the buffer has the orders of those that
 -- were read.
 -- Assumes nothing.
+use Rattle.std.specs.Prelude.{Option, Some}
 use Prim.Native.Nat.{ℕ, ◌+◌}
 use lib.ListN.{length}
 use native.Mathlib.Omega.{arith}
 use Rattle.text.specs.Text.{byte_at}
-use Rattle.decimal.specs.Digits.{Reading, reads}
 use Rattle.json_tokens.proofs.Laws.{end-at, in-byte}
 use Rattle.json_tokens.proofs.Bounds.{bounds, separator-in, string-in}
 use mathlib.Core.Path.{◌≡◌, ◌∙◌, sym, ap, subst}
@@ -115,7 +115,7 @@ returns-then-none-gt0 c =
     let e = c.no_listing-then-none-gt0.ensures in
     let some : (close.result ≡ 0 → ⊥) = λ z. let l = c.if-none-gt0.true in omega arith in
     object-read a.name.now s a.at _ c.no_listing-then-none-gt0.result b.requires (e ∙ listing-empty a.name.now s a.at o close.result close.ensures c.if-none-gt0.true) o
-    (rw e (subst (λ (x : Reading (List SidedOrder)). Holds s x none_yet a.buffer.now) (fold-empty (orders_loop s) (reads []) (a.at + 1) close.result close.ensures some) (holds-none s a.buffer.now)))
+    (rw e (subst (λ (x : Option (List SidedOrder)). Holds s x none_yet a.buffer.now) (fold-empty (orders_loop s) (Some []) (a.at + 1) close.result close.ensures some) (holds-none s a.buffer.now)))
 
 pub overflow_add-at-2 : goal.overflow_add-at-2
 overflow_add-at-2 c =
@@ -138,7 +138,7 @@ loop-met-init c =
       told = listing_start a.name.now s a.at o close.result close.ensures (omega arith) skip.result skip.ensures;
       few = omega arith;
       room = b.requires;
-      holding = record { x = reads []; left = fold_start (orders_loop s) (reads []) (a.at + 1) close.result close.ensures (omega arith) skip.result skip.ensures; holds = holds-none s a.buffer.now };
+      holding = record { x = Some []; left = fold_start (orders_loop s) (Some []) (a.at + 1) close.result close.ensures (omega arith) skip.result skip.ensures; holds = holds-none s a.buffer.now };
     })
 
 pub more_listing-next-requires : goal.more_listing-next-requires

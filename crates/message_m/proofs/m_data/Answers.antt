@@ -1,11 +1,11 @@
 -- `message_m::m_data` meets its contract: wherever the loop stands, the sides that were met with those of the members left are the answer, and the buffer has
 -- the entries of those that were read.
 -- Assumes nothing.
+use Rattle.std.specs.Prelude.{Option}
 use Prim.Native.Nat.{ℕ, ◌+◌}
 use lib.ListN.{length}
 use native.Mathlib.Omega.{arith}
 use Rattle.text.specs.Text.{byte_at}
-use Rattle.decimal.specs.Digits.{Reading}
 use Rattle.json_tokens.proofs.Laws.{end-at, in-byte}
 use Rattle.json_tokens.proofs.Bounds.{bounds, blanks-in, closing-in, separator-in, string-in}
 use mathlib.Core.Path.{◌≡◌, ◌∙◌, sym, ap, subst}
@@ -116,7 +116,7 @@ returns-then-none-gt0 c =
     (omega arith)
     (λ x w k.
     let q : x ≡ held_all 14 s (with_held s) x a.at = fold-empty (over_held 14 s (with_held s)) x (a.at + 1) close.result close.ensures some in
-    (subst (λ (y : Reading (List Entry)). Tells s y c.no_data-then-none-gt0.result.tally) q (subst (Tells s x) (sym (ap (λ (z : Data). z.tally) e)) w), subst (λ (y : Reading (List Entry)). Kept s y a.buffer.now) q k))
+    (subst (λ (y : Option (List Entry)). Tells s y c.no_data-then-none-gt0.result.tally) q (subst (Tells s x) (sym (ap (λ (z : Data). z.tally) e)) w), subst (λ (y : Option (List Entry)). Kept s y a.buffer.now) q k))
 
 pub overflow_add-at-2 : goal.overflow_add-at-2
 overflow_add-at-2 c =

@@ -1,10 +1,10 @@
 -- `message_m::m_message` meets its contract: wherever the loop stands, the members that were met with those left make the answer, and the buffer has the
 -- entries of those that were met.
 -- Assumes nothing.
+use Rattle.std.specs.Prelude.{Some}
 use Prim.Native.Nat.{ℕ, ◌+◌, ◌≤◌}
 use native.Mathlib.Omega.{arith}
 use Rattle.text.specs.Text.{byte_at}
-use Rattle.decimal.specs.Digits.{reads}
 use Rattle.json_tokens.proofs.Laws.{end-at, in-byte}
 use Rattle.json_tokens.proofs.Bounds.{bounds, separator-in, string-in}
 use mathlib.Core.Path.{◌≡◌, ◌∙◌, ap, refl, sym, subst}
@@ -128,7 +128,7 @@ returns-then-none-gt0 c =
     message-read a.linked a.name.now s a.at a.buffer.now c.scan.result
     (c.scan.ensures ∙ ap (scan_in a.linked s close.result) c.no_members.ensures ∙ told-empty a.linked a.name.now s a.at o close.result close.ensures c.if-none-gt0.true)
     o
-    (rw (sym (fold-empty (over_held 15 s (body_step s)) (reads []) (a.at + 1) close.result close.ensures some)) (kept-none s a.buffer.now b.requires))
+    (rw (sym (fold-empty (over_held 15 s (body_step s)) (Some []) (a.at + 1) close.result close.ensures some)) (kept-none s a.buffer.now b.requires))
 
 pub overflow_add-at-2 : goal.overflow_add-at-2
 overflow_add-at-2 c =
@@ -152,8 +152,8 @@ loop-met-init c =
       marked = unmarked-placed s;
       few = omega arith;
       holding = record {
-        x = reads [];
-        left = fold_start (over_held 15 s (body_step s)) (reads []) (a.at + 1) close.result close.ensures (omega arith) skip.result skip.ensures;
+        x = Some [];
+        left = fold_start (over_held 15 s (body_step s)) (Some []) (a.at + 1) close.result close.ensures (omega arith) skip.result skip.ensures;
         tells = tells_none s;
         kept = kept-none s a.buffer.now b.requires;
       };

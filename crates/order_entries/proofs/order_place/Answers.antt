@@ -1,10 +1,10 @@
 -- `order_place` meets its contract: wherever the loop stands, the members that were met with those that are left are the answer.
+use Rattle.std.specs.Prelude.{None}
 use Prim.Native.Nat.{ℕ, suc, ◌-◌, ◌≤◌}
 use mathlib.Core.Path.{◌≡◌, ◌∙◌, sym, ap, subst}
 use mathlib.Core.List.{List}
 use native.Mathlib.Omega.{arith}
 use Rattle.text.specs.Text.{byte_at}
-use Rattle.decimal.specs.Digits.{refused}
 use Rattle.json_tokens.specs.Ends.{end_of}
 use Rattle.json_tokens.proofs.Laws.{in-byte}
 use Rattle.json_values.specs.Json.{Pair, wrong, member, value}
@@ -66,7 +66,7 @@ module _ (c : After-value_end-to) where
 
 -- no order: it has no texts
 module _ (a : At) where
-  missing : (n : ℕ) (r : OrderPlace) → r ≡ order_place_of n refused → order_place_of n refused ≡ order_place_at (start a).args.depth (text a) (start a).args.at
+  missing : (n : ℕ) (r : OrderPlace) → r ≡ order_place_of n None → order_place_of n None ≡ order_place_at (start a).args.depth (text a) (start a).args.at
       → Found (text a) (order_place_at (start a).args.depth (text a) (start a).args.at) r
   missing n r e told = record { is = e ∙ told; laid = none-laid (text a) n r e }
 
@@ -78,7 +78,7 @@ returns-then-byte_at-ne-OPEN_OBJECT c =
     let e = deeper a.depth b.requires in
     let other : (byte_at s a.at ≡ 123 → ⊥) = λ h. c.if-byte_at-ne-OPEN_OBJECT.true (c.byte_at.ensures ∙ h) in
     record {
-      is = c.no_order.ensures ∙ subst (λ (d : ℕ). order_place_of c.value_end.result refused ≡ order_place_at d s a.at) e (place_none s a.at (a.depth - 1) other (c.value_end.ensures ∙ ap (λ (d : ℕ). end_of (value d s a.at)) (sym e)));
+      is = c.no_order.ensures ∙ subst (λ (d : ℕ). order_place_of c.value_end.result None ≡ order_place_at d s a.at) e (place_none s a.at (a.depth - 1) other (c.value_end.ensures ∙ ap (λ (d : ℕ). end_of (value d s a.at)) (sym e)));
       laid = none-laid s _ c.no_order.result c.no_order.ensures;
     }
 
@@ -97,7 +97,7 @@ returns-then-none-gt0 c =
     let o = sym c.byte_at.ensures ∙ c.if-byte_at-ne-OPEN_OBJECT.false in
     let close = c.object_close_end-none in
     record {
-      is = c.no_order-then-none-gt0.ensures ∙ subst (λ (d : ℕ). order_place_of close.result refused ≡ order_place_at d s a.at) (deeper a.depth b.requires) (place-empty s a.at (a.depth - 1) o close.result close.ensures c.if-none-gt0.true);
+      is = c.no_order-then-none-gt0.ensures ∙ subst (λ (d : ℕ). order_place_of close.result None ≡ order_place_at d s a.at) (deeper a.depth b.requires) (place-empty s a.at (a.depth - 1) o close.result close.ensures c.if-none-gt0.true);
       laid = none-laid s _ c.no_order-then-none-gt0.result c.no_order-then-none-gt0.ensures;
     }
 

@@ -1,6 +1,6 @@
 -- A message that passes checks 2 to 8 is what its outline and the buffer say.
 -- Assumes nothing.
-use Rattle.std.specs.Prelude.{None, Option, Some}
+use Rattle.std.specs.Prelude.{None, Option, Some, Ok}
 use mathlib.Core.Path.{◌≡◌, refl, sym, ap, ap₂, ◌∙◌, subst}
 use mathlib.Core.List.{List, [], ◌∷◌, map, ◌++◌}
 use mathlib.Core.Bool.{Bool, true, false, true≢false, cond}
@@ -26,7 +26,7 @@ use Rattle.layout.specs.Layout.{is_snapshot, Printed, printed, unprinted, Layout
 use Rattle.layout.specs.Scan.{is_printed, sum_of, outline_of}
 use Rattle.layout.specs.declared.Kind.{Kind}
 use Rattle.layout.specs.declared.Outline.{Outline}
-use Rattle.message.specs.Meaning.{SidedEdit, sided_edit, passes, bad, entries_for, checked, message_of}
+use Rattle.message.specs.Meaning.{SidedEdit, sided_edit, bad, entries_for, checked, message_of}
 use Rattle.message.proofs.Deciding.{outline-bids, outline-asks, outline-printed, outline-checksum, outline-number, outline-previous}
 use Rattle.layout.proofs.Laws.{outline-kind}
 use Rattle.message.proofs.Entering.{also-framed, framed-few}
@@ -82,7 +82,7 @@ module _ (s : List ℕ) where
 
 -- ---- a message that passes
 
-module _ (b : Book) (s buffer : List ℕ) (l : Layout) (passed : checked (config_of b.settings) s ≡ passes l) (kept : Kept s (Some l.entries) buffer) where
+module _ (b : Book) (s buffer : List ℕ) (l : Layout) (passed : checked (config_of b.settings) s ≡ Ok l) (kept : Kept s (Some l.entries) buffer) where
   abbrev pub outlined : Outline
   outlined = outline_of s (Some l)
 

@@ -1,6 +1,6 @@
 -- Refusals, and the chain of checks 9 to 13 and 16, one test at a time.
 -- Assumes nothing.
-use Rattle.std.specs.Prelude.{Some}
+use Rattle.std.specs.Prelude.{Some, Err, Ok, Result}
 use mathlib.Core.Path.{◌≡◌, refl, sym, ap, ◌∙◌, subst}
 use mathlib.Core.List.{List, map}
 use mathlib.Core.Bool.{Bool, true, false, ◌&&◌, ◌||◌, not, cond}
@@ -12,12 +12,10 @@ use Rattle.settings.specs.declared.Dialect.{Dialect}
 use Rattle.layout.specs.Layout.{is_snapshot, Printed, printed, unprinted, Layout}
 use Rattle.layout.specs.Scan.{is_printed, sum_of}
 use Rattle.answer.specs.Answers.{answer_number, one_of, is_taken, leaves_status}
-use Rattle.message.specs.Meaning.{Checked, fails, passes, checked, Message, message_of, decoded_of, decode}
+use Rattle.message.specs.Meaning.{checked, Message, message_of, decoded_of, decode}
 use Rattle.message.specs.Verdict.{verdict_of}
 use Rattle.answer.specs.declared.Answer.{Answer}
 use Rattle.answer.specs.declared.Answer.TheVariants.{Taken, Shut, PriceTwice, NoSnapshot, OldNumber, TooManyLevels, WrongChecksum, Crossed}
-use Rattle.message.specs.declared.Verdict.{Verdict}
-use Rattle.message.specs.declared.Verdict.TheVariants.{Fails, Passes}
 use Rattle.layout.specs.declared.Outline.{Outline}
 use Rattle.layout.specs.Scan.{outline_of}
 use Rattle.reference.specs.Reference.{waiting, is_shut, is_live, Reference, rules, checksum_of, names_price_twice, lacks_snapshot, is_old, has_too_many, has_crossed, differs, has_wrong_checksum, verdict, After, taken_by, with_status, refused_by, answered, received, receive}
@@ -71,31 +69,31 @@ unfolding shows refused_step refused_lifecycle leaves_status answer_number one_o
 shut-told b s g u = told-as (refused_step b Shut) (hear-shut (shows b) s u) (record { good = g; same = refl; answer = refl; moved = refl })
 
 module _ (p : Reference) (s : List ℕ) (u : is_shut p.status ≡ false) where
-  pub hear-fails : (a : Answer) → checked p.config s ≡ fails a → receive p s ≡ refused_by p a
+  pub hear-fails : (a : Answer) → checked p.config s ≡ Err a → receive p s ≡ refused_by p a
   unfolding receive received decode decoded_of
   hear-fails a h = rw (u, h, receive, decode, decoded_of, received)
 
-  pub hear-passes : (l : Layout) → checked p.config s ≡ passes l → receive p s ≡ answered p (message_of s l) (verdict p (message_of s l))
+  pub hear-passes : (l : Layout) → checked p.config s ≡ Ok l → receive p s ≡ answered p (message_of s l) (verdict p (message_of s l))
   unfolding receive received decode decoded_of
   hear-passes l h = rw (u, h, receive, decode, decoded_of, received)
 
 -- from the reader's answer
-module _ (s : List ℕ) (x : Checked) (v : Verdict) (h : v ≡ verdict_of s x) where
-  pub verdict-fails : (a : Answer) → v ≡ Fails a → x ≡ fails a
+module _ (s : List ℕ) (x : Result Layout Answer) (v : Result Outline Answer) (h : v ≡ verdict_of s x) where
+  pub verdict-fails : (a : Answer) → v ≡ Err a → x ≡ Err a
   unfolding verdict_of
   verdict-fails a g = go x (sym h ∙ g)
     where
-      go : (y : Checked) → verdict_of s y ≡ Fails a → y ≡ fails a
-      go (fails b) k = let e : b ≡ a = cc in ap fails e
-      go (passes l) k = let z : ◌≡◌ {A = ℕ} 0 1 = cc in absurd (omega arith)
+      go : (y : Result Layout Answer) → verdict_of s y ≡ Err a → y ≡ Err a
+      go (Err b) k = let e : b ≡ a = cc in ap Err e
+      go (Ok l) k = let z : ◌≡◌ {A = ℕ} 0 1 = cc in absurd (omega arith)
 
-  pub verdict-passes : (o : Outline) → v ≡ Passes o → (l : Layout) × (x ≡ passes l) × (o ≡ outline_of s (Some l))
+  pub verdict-passes : (o : Outline) → v ≡ Ok o → (l : Layout) × (x ≡ Ok l) × (o ≡ outline_of s (Some l))
   unfolding verdict_of
   verdict-passes o g = go x (sym h ∙ g)
     where
-      go : (y : Checked) → verdict_of s y ≡ Passes o → (l : Layout) × (y ≡ passes l) × (o ≡ outline_of s (Some l))
-      go (fails b) k = let z : ◌≡◌ {A = ℕ} 0 1 = cc in absurd (omega arith)
-      go (passes l) k = let e : outline_of s (Some l) ≡ o = cc in (l, refl, sym e)
+      go : (y : Result Layout Answer) → verdict_of s y ≡ Ok o → (l : Layout) × (y ≡ Ok l) × (o ≡ outline_of s (Some l))
+      go (Err b) k = let z : ◌≡◌ {A = ℕ} 0 1 = cc in absurd (omega arith)
+      go (Ok l) k = let e : outline_of s (Some l) ≡ o = cc in (l, refl, sym e)
 
 -- ---- checks 9 to 13 and 16
 

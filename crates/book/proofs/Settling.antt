@@ -1,5 +1,6 @@
 -- A message that passes the checks of its text: the book after it, from what its entries make of the sides.
 -- Assumes nothing.
+use Rattle.std.specs.Prelude.{Err, Ok, Result}
 use mathlib.Core.Path.{◌≡◌, refl, sym, ap, ap₂, ◌∙◌, subst}
 use mathlib.Core.List.{List, [], ◌∷◌, map}
 use mathlib.Core.Bool.{Bool, true, false, true≢false, ◌&&◌, ◌||◌, not, cond}
@@ -46,8 +47,6 @@ use Rattle.message.proofs.Entering.{or-none}
 use Rattle.message.specs.Meaning.{SidedEdit, sided_edit, Message}
 use Rattle.answer.specs.Answers.{answer_number, is_taken}
 use Rattle.answer.specs.declared.Answer.{Answer}
-use Rattle.message.specs.declared.Verdict.{Verdict}
-use Rattle.message.specs.declared.Verdict.TheVariants.{Fails, Passes}
 use Rattle.answer.specs.declared.Answer.TheVariants.{Taken, PriceTwice, NoSnapshot, OldNumber, TooManyLevels, WrongChecksum, Crossed}
 use Rattle.reference.specs.Reference.{live, is_live, Sides, Reference, After, edits_for as edits_of, after_edits, sides_after, levels_moved, prices_of, checksum_of, names_price_twice, lacks_snapshot, is_old, has_too_many, has_crossed, differs, has_wrong_checksum, one_more, taken, taken_by, refused_by, receive}
 use Rattle.book.specs.Shown.{shows, text_of, Received}
@@ -127,12 +126,12 @@ unfolding edits_of edits_for
 edits-are side o buffer = sided-edits side (entries_of o buffer)
 
 -- an update that passes checks 10 and 11 comes to a live book, and is not old
-update-passed : (state : State) (r : Rules) (n : ℕ) (o : Outline) → is_snapshot o.kind ≡ false → judged_update state r n o ≡ Passes o
+update-passed : (state : State) (r : Rules) (n : ℕ) (o : Outline) → is_snapshot o.kind ≡ false → judged_update state r n o ≡ Ok o
     → (is_live (status_of state) ≡ true) × (is_old_by r n o ≡ false)
 unfolding judged_update
 update-passed state r n o h j = at (is_snapshot o.kind) (is_live (status_of state)) (is_old_by r n o) h j
   where
-    at : (t x y : Bool) → t ≡ false → cond t (Passes o) (cond x (cond y (Fails OldNumber) (Passes o)) (Fails NoSnapshot)) ≡ Passes o → (x ≡ true) × (y ≡ false)
+    at : (t x y : Bool) → t ≡ false → cond t (Ok o) (cond x (cond y (Err OldNumber) (Ok o)) (Err NoSnapshot)) ≡ Ok o → (x ≡ true) × (y ≡ false)
     at true x y g e = absurd (true≢false g)
     at false true true g e = let z : ◌≡◌ {A = ℕ} 0 1 = cc in absurd (omega arith)
     at false true false g e = (refl, refl)
@@ -271,19 +270,19 @@ module _ (b : Book) (o : Outline) (buffer : List ℕ) (k : Passed b o buffer) wh
   update-is-old h y x = refuse-as OldNumber (eleven p m (update-names-once m (h)) (update-lacks p m true (h) y) (old-is h ∙ x))
 
   -- .. of a message whose book is this one's
-  pub judged-told : (s : List ℕ) → receive p s ≡ next → (v : Verdict) → v ≡ judged_update b.lifecycle.state r b.number o → Judged b s buffer v
+  pub judged-told : (s : List ℕ) → receive p s ≡ next → (v : Result Outline Answer) → v ≡ judged_update b.lifecycle.state r b.number o → Judged b s buffer v
   unfolding judged_update Judged shows status_of
   judged-told s n v e = subst (Judged b s buffer) (sym e) (at (is_snapshot o.kind) refl (is_live (status_of b.lifecycle.state)) refl (is_old_by r b.number o) refl)
     where
       at : (t : Bool) → is_snapshot o.kind ≡ t → (x : Bool) → is_live (status_of b.lifecycle.state) ≡ x → (y : Bool) → (is_old_by r b.number o) ≡ y
-          → Judged b s buffer (cond t (Passes o) (cond x (cond y (Fails OldNumber) (Passes o)) (Fails NoSnapshot)))
+          → Judged b s buffer (cond t (Ok o) (cond x (cond y (Err OldNumber) (Ok o)) (Err NoSnapshot)))
       at true h x f y g = (record { passed = k; updates = sym (judged-snapshot b.lifecycle.state r b.number o h) }, n)
       at false h true f true g = told-as (refused_step b OldNumber) n (update-is-old h f g)
       at false h true f false g = (record { passed = k; updates = sym (judged-new b.lifecycle.state r b.number o h f g) }, n)
       at false h false f y g = told-as (refused_step b NoSnapshot) n (update-waits h f)
 
   -- a message that passes them
-  module _ (judged : judged_update b.lifecycle.state r b.number o ≡ Passes o) where
+  module _ (judged : judged_update b.lifecycle.state r b.number o ≡ Ok o) where
     passed-both : (lacks_snapshot p m ≡ false) × (is_old p m ≡ false)
     unfolding shows
     passed-both = at (is_snapshot o.kind) refl
@@ -380,7 +379,7 @@ module _ (b : Book) (o : Outline) (buffer : List ℕ) (k : Passed b o buffer) wh
 
   -- ---- the whole of checks 9, 12, 16 and 13
 
-  module _ (judged : judged_update b.lifecycle.state r b.number o ≡ Passes o) (bids asks : SideAfter)
+  module _ (judged : judged_update b.lifecycle.state r b.number o ≡ Ok o) (bids asks : SideAfter)
       (wb : Worked t Bids b.settings.depth (edits_for Bids es) (side_before o b.bids) bids)
       (wa : Worked t Asks b.settings.depth (edits_for Asks es) (side_before o b.asks) asks) where
     abbrev over : Bool

@@ -1,5 +1,5 @@
 -- What the functions that take a message give, in terms of the code's book. Assumes nothing: these are definitions.
-use Rattle.std.specs.Prelude.{ℕ, ◌+◌, ◌<◌, ◌^◌, ◌≡◌, Bool, true, false, ◌&&◌, ◌||◌, not, cond, List, map, eqb, ltb, length, take}
+use Rattle.std.specs.Prelude.{ℕ, ◌+◌, ◌<◌, ◌^◌, ◌≡◌, Bool, true, false, ◌&&◌, ◌||◌, not, cond, List, map, eqb, ltb, length, take, Err, Ok, Result}
 use Rattle.lifecycle.specs.Lifecycle.{status_of, live_lifecycle, refused_lifecycle, judged_update, judged_sides}
 use Rattle.answer.specs.Answers.{is_taken}
 use Rattle.decimal.specs.Decimal.{is_zero}
@@ -20,8 +20,6 @@ use Rattle.layout.specs.declared.Outline.{Outline}
 use Rattle.message.specs.Meaning.{Message, sided_edit}
 use Rattle.answer.specs.declared.Answer.{Answer}
 use Rattle.answer.specs.declared.Answer.TheVariants.{Taken, WrongChecksum}
-use Rattle.message.specs.declared.Verdict.{Verdict}
-use Rattle.message.specs.declared.Verdict.TheVariants.{Fails, Passes}
 use Rattle.reference.specs.Reference.{is_shut, checksum_of, one_more, verdict, After, answered, receive}
 use Rattle.book.specs.Shown.{shows, text_of, Good, Received, ReceivedAs}
 use Rattle.book.specs.declared.Book.{Book}
@@ -102,12 +100,12 @@ after_in b o buffer = answered (shows b) (message_in o buffer) (verdict (shows b
 -- What checks 10 and 11 leave.
 pub record Ready (b : Book) (o : Outline) (buffer : List ℕ) : Type 0 where
   pub passed : Passed b o buffer
-  pub updates : judged_update b.lifecycle.state (rules_of b.settings.dialect) b.number o ≡ Passes o
+  pub updates : judged_update b.lifecycle.state (rules_of b.settings.dialect) b.number o ≡ Ok o
 
 -- What checks 1 to 8, 10 and 11 find.
-unfoldable pub Judged : Book → List ℕ → List ℕ → Verdict → Type 0
-Judged b s buffer (Fails a) = Received (receive (shows b) s) (refused_step b a)
-Judged b s buffer (Passes o) = Ready b o buffer × (receive (shows b) s ≡ after_in b o buffer)
+unfoldable pub Judged : Book → List ℕ → List ℕ → Result Outline Answer → Type 0
+Judged b s buffer (Err a) = Received (receive (shows b) s) (refused_step b a)
+Judged b s buffer (Ok o) = Ready b o buffer × (receive (shows b) s ≡ after_in b o buffer)
 
 -- A side before the entries: the book's own, and with no level before those of a snapshot.
 abbrev pub side_before : Outline → Levels → Levels

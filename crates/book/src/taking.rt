@@ -17,7 +17,6 @@ use edit::{BUFFER_WORDS, Side};
 use layout::{Outline, is_snapshot};
 use level::MAX_WORDS;
 use lifecycle::{count_before, is_over, judge, judge_sides, live, refused, updates_after};
-use message::Verdict;
 use settings::{Dialect, SumText, rules_of};
 use side::Applied;
 use sides::{apply_entries, is_crossed};
@@ -38,8 +37,8 @@ pub fn receive(
     let lifecycle = header.lifecycle;
     let mut buffer = [0; BUFFER_WORDS];
     match judge(settings, lifecycle, header.number, s, &mut buffer) {
-        Verdict::Fails(refusal) => refuse(header, refusal),
-        Verdict::Passes(outline) => {
+        Err(refusal) => refuse(header, refusal),
+        Ok(outline) => {
             if outline.bids == 0 {
                 return take_asks(header, outline, bids, asks, &buffer, table);
             }

@@ -1,5 +1,6 @@
 -- What a checksum catches, of books: a checksum text is one of bytes, and the checksum of a message that is taken is that of the book afterwards.
 -- Assumes nothing.
+use Rattle.std.specs.Prelude.{Ok}
 use Prim.Native.Nat.{ℕ, zero, suc, ◌<◌}
 use mathlib.Core.Path.{◌≡◌, sym, ◌∙◌, subst}
 use mathlib.Core.Bool.{Bool, true, false}
@@ -18,7 +19,7 @@ use Rattle.settings.specs.declared.SumText.TheVariants.{Stripped, Interleaved}
 use Rattle.edit.specs.Edit.{PriceLevel}
 use Rattle.checksum.specs.Text.{k_level, k_checksum_text, m_level, interleaved, colon_joined, m_checksum_text}
 use Rattle.layout.specs.Layout.{Printed, printed}
-use Rattle.message.specs.Meaning.{Message, decodes}
+use Rattle.message.specs.Meaning.{Message}
 use Rattle.reference.specs.Reference.{Reference, rules, opened, sides_after, checksum_text, checksum_of, final}
 use Rattle.reference.specs.Claims.{Agrees, carries_none, the_same, Acceptable}
 use Rattle.reference.proofs.Claims.{demand-2}
@@ -102,7 +103,7 @@ book-low Interleaved n bids asks = colons-low (interleaved n bids asks)
 same-printed : {m n : ℕ} → printed m ≡ printed n → m ≡ n
 same-printed e = cc
 
-same-message : {x y : Message} → decodes x ≡ decodes y → x ≡ y
+same-message : {x y : Message} → Ok x ≡ Ok y → x ≡ y
 same-message e = cc
 
 pub burst-refused : BurstRefused

@@ -1,6 +1,6 @@
 -- Demand 3 of the code: one claim about a list of calls to one newly opened book, in any order: messages, questions on the current and on the last good
 -- book, writings-out into buffers of any length and content. Assumes nothing: these are definitions.
-use Rattle.std.specs.Prelude.{ℕ, ◌≡◌, List, [], ◌∷◌, map, take}
+use Rattle.std.specs.Prelude.{ℕ, ◌≡◌, List, [], ◌∷◌, map, take, Ok}
 use contract.Lifetimes.{Lfts}
 use Rattle.std.specs.Borrow.{Bor, MutBor}
 use Rattle.decimal.specs.Decimal.{number as number_of}
@@ -9,7 +9,7 @@ use Rattle.settings.specs.declared.Dialect.{Dialect}
 use Rattle.edit.specs.declared.Side.{Side}
 use Rattle.settings.specs.Settings.{kept}
 use Rattle.layout.specs.declared.Kind.TheVariants.{Snapshot}
-use Rattle.message.specs.Meaning.{Message, decodes, decode}
+use Rattle.message.specs.Meaning.{Message, decode}
 use Rattle.answer.specs.declared.Answer.TheVariants.{Taken}
 use Rattle.reference.specs.Reference.{opened, Value, counts, level, amount, Reply, message, Question, question, how_many, level_at, which_number, how_many_updates, write, Call, replies_to}
 use Rattle.reference.specs.Claims.{call}
@@ -77,7 +77,7 @@ Opens dialect depth name b = (κs : Lfts 1) × (n : Bor (List ℕ)) × (n.now �
 abbrev pub FromSnapshotCode : Type 0
 FromSnapshotCode = (dialect : Dialect) (depth : ℕ) (name : List ℕ) (b c e n f : Book) (cs ds : List Call) (s buffer : List ℕ) (m : Message) (r : Seen) (qs rs ts : List Seen)
     → Opens dialect depth name b → Made b cs qs c → Made c (call (message s) buffer ∷ ds) (r ∷ rs) e
-    → decode (kept (record { dialect = dialect; depth = depth; name = name })) s ≡ decodes m → m.kind ≡ Snapshot → r.answer ≡ Taken
+    → decode (kept (record { dialect = dialect; depth = depth; name = name })) s ≡ Ok m → m.kind ≡ Snapshot → r.answer ≡ Taken
     → Opens dialect depth name n → Made n (call (message s) buffer ∷ ds) ts f
     → r ∷ rs ≡ ts
 

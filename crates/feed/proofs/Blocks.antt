@@ -1,4 +1,6 @@
 -- A message of which one byte more is carried than a message may have is answered as the whole of it. Assumes nothing.
+use Rattle.std.specs.Prelude.{Err, Result}
+use Rattle.answer.specs.declared.Answer.{Answer}
 use Prim.Native.Nat.{ℕ, ◌<◌, ◌≤◌}
 use mathlib.Core.Path.{◌≡◌, refl, sym, ap, ◌∙◌}
 use mathlib.Core.Bool.{Bool, true, false, cond}
@@ -13,7 +15,7 @@ use Rattle.answer.specs.declared.Answer.TheVariants.{TooLong, Shut}
 use Rattle.settings.specs.Rules.{rules_of}
 use Rattle.settings.specs.declared.Dialect.{Dialect}
 use Rattle.settings.specs.declared.Dialect.TheVariants.{K, M, Unknown}
-use Rattle.message.specs.Meaning.{framed, also_decimals, checked, Decoded, refuses, decoded_of, decode}
+use Rattle.message.specs.Meaning.{framed, also_decimals, checked, decoded_of, decode, Message}
 use Rattle.reference.specs.Reference.{Reference, opened, is_shut, After, receive, received}
 use Rattle.line_text.specs.Opening.{line_one}
 use Rattle.feed.specs.Feed.{reply_to, replies, session, carried}
@@ -27,7 +29,7 @@ longest-most K = omega arith
 longest-most (M e) = omega arith
 longest-most Unknown = omega arith
 
-too_long : (t : Config) (s : List ℕ) → 32768 < length s → decode t s ≡ refuses TooLong
+too_long : (t : Config) (s : List ℕ) → 32768 < length s → decode t s ≡ Err TooLong
 unfolding decode decoded_of checked also_decimals framed
 too_long t s h = let m = longest-most t.dialect in rw (lt-ltb (rules_of t.dialect).longest (length s) (omega arith), framed)
 
@@ -43,7 +45,7 @@ carried-said t s = at (leb (length s) carried) refl
 
 pub carried-hear : (p : Reference) (s : List ℕ) → receive p (take carried s) ≡ receive p s
 unfolding receive
-carried-hear p s = ap (λ (x : Decoded). cond (is_shut p.status) (record { book = p; answer = Shut; moved = 0 }) (received p x)) (carried-said p.config s)
+carried-hear p s = ap (λ (x : Result Message Answer). cond (is_shut p.status) (record { book = p; answer = Shut; moved = 0 }) (received p x)) (carried-said p.config s)
 
 -- ---- line by line
 

@@ -1,4 +1,5 @@
 -- Laws of how a book stands. Assumes nothing.
+use Rattle.std.specs.Prelude.{Err, Ok, Result}
 use Prim.Native.Nat.{ℕ}
 use mathlib.Core.Path.{◌≡◌, refl, sym, ap, ◌∙◌}
 use mathlib.Core.List.{List}
@@ -16,8 +17,6 @@ use Rattle.layout.specs.declared.Kind.{Kind}
 use Rattle.layout.specs.declared.Outline.{Outline}
 use Rattle.message.specs.Meaning.{checked}
 use Rattle.message.specs.Verdict.{verdict_of}
-use Rattle.message.specs.declared.Verdict.{Verdict}
-use Rattle.message.specs.declared.Verdict.TheVariants.{Fails, Passes}
 use Rattle.reference.specs.Reference.{is_shut, is_live}
 use Rattle.lifecycle.specs.Lifecycle.{status_of, refused_lifecycle, is_old_by, judged_update, judged_sides, after_text, judged}
 use Rattle.lifecycle.specs.declared.State.{State}
@@ -36,38 +35,38 @@ refused-waits x a h = sym (rw (h, refused_lifecycle))
 -- ---- checks 10 and 11 in numbers, one test at a time
 
 module _ (state : State) (r : Rules) (n : ℕ) (o : Outline) where
-  pub judged-snapshot : is_snapshot o.kind ≡ true → Passes o ≡ judged_update state r n o
+  pub judged-snapshot : is_snapshot o.kind ≡ true → Ok o ≡ judged_update state r n o
   unfolding judged_update
   judged-snapshot h = sym (pick (is_snapshot o.kind) h)
     where
-      pick : (t : Bool) → t ≡ true → cond t (Passes o) (cond (is_live (status_of state)) (cond (is_old_by r n o) (Fails OldNumber) (Passes o)) (Fails NoSnapshot)) ≡ Passes o
+      pick : (t : Bool) → t ≡ true → cond t (Ok o) (cond (is_live (status_of state)) (cond (is_old_by r n o) (Err OldNumber) (Ok o)) (Err NoSnapshot)) ≡ Ok o
       pick true e = refl
       pick false e = absurd (true≢false (sym e))
 
   module _ (h : is_snapshot o.kind ≡ false) where
-    pub judged-idle : is_live (status_of state) ≡ false → Fails NoSnapshot ≡ judged_update state r n o
+    pub judged-idle : is_live (status_of state) ≡ false → Err NoSnapshot ≡ judged_update state r n o
     unfolding judged_update
     judged-idle l = sym (pick (is_snapshot o.kind) (is_live (status_of state)) h l)
       where
-        pick : (t x : Bool) → t ≡ false → x ≡ false → cond t (Passes o) (cond x (cond (is_old_by r n o) (Fails OldNumber) (Passes o)) (Fails NoSnapshot)) ≡ Fails NoSnapshot
+        pick : (t x : Bool) → t ≡ false → x ≡ false → cond t (Ok o) (cond x (cond (is_old_by r n o) (Err OldNumber) (Ok o)) (Err NoSnapshot)) ≡ Err NoSnapshot
         pick true x e f = absurd (true≢false e)
         pick false true e f = absurd (true≢false f)
         pick false false e f = refl
 
-    pub judged-live : is_live (status_of state) ≡ true → cond (is_old_by r n o) (Fails OldNumber) (Passes o) ≡ judged_update state r n o
+    pub judged-live : is_live (status_of state) ≡ true → cond (is_old_by r n o) (Err OldNumber) (Ok o) ≡ judged_update state r n o
     unfolding judged_update
     judged-live l = sym (pick (is_snapshot o.kind) (is_live (status_of state)) h l)
       where
-        pick : (t x : Bool) → t ≡ false → x ≡ true → cond t (Passes o) (cond x (cond (is_old_by r n o) (Fails OldNumber) (Passes o)) (Fails NoSnapshot)) ≡ cond (is_old_by r n o) (Fails OldNumber) (Passes o)
+        pick : (t x : Bool) → t ≡ false → x ≡ true → cond t (Ok o) (cond x (cond (is_old_by r n o) (Err OldNumber) (Ok o)) (Err NoSnapshot)) ≡ cond (is_old_by r n o) (Err OldNumber) (Ok o)
         pick true x e f = absurd (true≢false e)
         pick false true e f = refl
         pick false false e f = absurd (true≢false (sym f))
 
-    pub judged-old : is_live (status_of state) ≡ true → (is_old_by r n o) ≡ true → Fails OldNumber ≡ judged_update state r n o
-    judged-old l e = sym (ap (λ (t : Bool). cond t (Fails OldNumber) (Passes o)) e) ∙ judged-live l
+    pub judged-old : is_live (status_of state) ≡ true → (is_old_by r n o) ≡ true → Err OldNumber ≡ judged_update state r n o
+    judged-old l e = sym (ap (λ (t : Bool). cond t (Err OldNumber) (Ok o)) e) ∙ judged-live l
 
-    pub judged-new : is_live (status_of state) ≡ true → (is_old_by r n o) ≡ false → Passes o ≡ judged_update state r n o
-    judged-new l e = sym (ap (λ (t : Bool). cond t (Fails OldNumber) (Passes o)) e) ∙ judged-live l
+    pub judged-new : is_live (status_of state) ≡ true → (is_old_by r n o) ≡ false → Ok o ≡ judged_update state r n o
+    judged-new l e = sym (ap (λ (t : Bool). cond t (Err OldNumber) (Ok o)) e) ∙ judged-live l
 
 -- ---- checks 9, 12 and 16, one test at a time
 
@@ -93,11 +92,11 @@ module _ (kind : Kind) (replaced over crossed : Bool) where
 -- ---- checks 1 to 8, before 10 and 11
 
 module _ (settings : Settings) (x : Lifecycle) (n : ℕ) (s : List ℕ) where
-  pub judged-shut : is_shut (status_of x.state) ≡ true → Fails answer·.Shut ≡ judged settings x n s
+  pub judged-shut : is_shut (status_of x.state) ≡ true → Err answer·.Shut ≡ judged settings x n s
   unfolding judged
   judged-shut u = sym (rw (u, judged))
 
-  pub judged-open : is_shut (status_of x.state) ≡ false → (v : Verdict) → verdict_of s (checked (config_of settings) s) ≡ v
+  pub judged-open : is_shut (status_of x.state) ≡ false → (v : Result Outline Answer) → verdict_of s (checked (config_of settings) s) ≡ v
       → after_text x.state (rules_of settings.dialect) n v ≡ judged settings x n s
   unfolding judged
   judged-open u v h = sym (rw (u, judged, h))

@@ -1,5 +1,5 @@
 -- How a book stands, in terms of the code. Assumes nothing: these are definitions.
-use Rattle.std.specs.Prelude.{ℕ, ◌≤◌, ◌≡◌, List, Bool, true, false, ◌&&◌, ◌||◌, not, cond, leb, eqb, length, Some}
+use Rattle.std.specs.Prelude.{ℕ, ◌≤◌, ◌≡◌, List, Bool, true, false, ◌&&◌, ◌||◌, not, cond, leb, eqb, length, Some, Err, Ok, Result}
 use Rattle.answer.specs.Answers.{leaves_status}
 use Rattle.answer.specs.declared.Answer.{Answer}
 use Rattle.answer.specs.declared.Answer.TheVariants.{Taken, PriceTwice, NoSnapshot, OldNumber, TooManyLevels, Crossed}
@@ -15,10 +15,8 @@ use Rattle.entries.specs.Tally.{Kept}
 use Rattle.layout.specs.Layout.{is_snapshot, Layout}
 use Rattle.layout.specs.declared.Kind.{Kind}
 use Rattle.layout.specs.declared.Outline.{Outline}
-use Rattle.message.specs.Meaning.{passes, checked}
+use Rattle.message.specs.Meaning.{checked}
 use Rattle.message.specs.Verdict.{verdict_of}
-use Rattle.message.specs.declared.Verdict.{Verdict}
-use Rattle.message.specs.declared.Verdict.TheVariants.{Fails, Passes}
 use Rattle.reference.specs.Reference.{Status, shut, waiting, live, is_shut, is_live}
 use Rattle.reference.specs.declared.Scope.{Scope}
 use Rattle.reference.specs.declared.Scope.TheVariants.{Current, LastGood}
@@ -69,12 +67,12 @@ unfoldable pub is_old_by : Rules → ℕ → Outline → Bool
 is_old_by r number o = r.numbered && (leb o.number number || (r.linked && not (eqb o.previous number)))
 
 -- Checks 10 and 11.
-unfoldable pub judged_update : State → Rules → ℕ → Outline → Verdict
+unfoldable pub judged_update : State → Rules → ℕ → Outline → Result Outline Answer
 judged_update state r number o =
-    cond (is_snapshot o.kind) (Passes o)
+    cond (is_snapshot o.kind) (Ok o)
     (cond (is_live (status_of state))
-    (cond (is_old_by r number o) (Fails OldNumber) (Passes o))
-    (Fails NoSnapshot))
+    (cond (is_old_by r number o) (Err OldNumber) (Ok o))
+    (Err NoSnapshot))
 
 -- Checks 9, 12 and 16, by what its entries make of the sides.
 unfoldable pub judged_sides : Kind → Bool → Bool → Bool → Answer
@@ -90,16 +88,16 @@ pub record Ruled (settings : Settings) (now : Lifecycle) : Type 0 where
   pub config : is_shut (status_of now.state) ≡ false → good (config_of settings) ≡ true
 
 -- Checks 1 to 8, 10 and 11.
-unfoldable pub after_text : State → Rules → ℕ → Verdict → Verdict
-after_text state r number (Fails a) = Fails a
-after_text state r number (Passes o) = judged_update state r number o
+unfoldable pub after_text : State → Rules → ℕ → Result Outline Answer → Result Outline Answer
+after_text state r number (Err a) = Err a
+after_text state r number (Ok o) = judged_update state r number o
 
-unfoldable pub judged : Settings → Lifecycle → ℕ → List ℕ → Verdict
+unfoldable pub judged : Settings → Lifecycle → ℕ → List ℕ → Result Outline Answer
 judged settings now number s =
-    cond (is_shut (status_of now.state)) (Fails answer·.Shut)
+    cond (is_shut (status_of now.state)) (Err answer·.Shut)
     (after_text now.state (rules_of settings.dialect) number (verdict_of s (checked (config_of settings) s)))
 
 -- What `judge` promises: the verdict, and that the buffer has the entries of a message that passes.
-pub record JudgedAs (settings : Settings) (now : Lifecycle) (number : ℕ) (s buffer : List ℕ) (r : Verdict) : Type 0 where
+pub record JudgedAs (settings : Settings) (now : Lifecycle) (number : ℕ) (s buffer : List ℕ) (r : Result Outline Answer) : Type 0 where
   pub told : r ≡ judged settings now number s
-  pub kept : is_shut (status_of now.state) ≡ false → (l : Layout) → checked (config_of settings) s ≡ passes l → Kept s (Some l.entries) buffer
+  pub kept : is_shut (status_of now.state) ≡ false → (l : Layout) → checked (config_of settings) s ≡ Ok l → Kept s (Some l.entries) buffer

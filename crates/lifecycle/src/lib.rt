@@ -11,7 +11,6 @@ ghost use Rattle.edit.specs.Buffer.{buffer_words};
 use answer::{Answer, leaves_state};
 use edit::BUFFER_WORDS;
 use layout::{Kind, Outline, is_snapshot};
-use message::Verdict;
 use reference::Scope;
 use settings::{Dialect, Rules, Settings, rules_of};
 use text::{both, either};
@@ -120,43 +119,38 @@ pub fn judge(
     number: u64,
     s: &[u8],
     buffer: &mut [u64; BUFFER_WORDS],
-) -> Verdict
+) -> Result<Outline, Answer>
     requires { Ruled settings lifecycle × (length buffer.old ≡ buffer_words) }
     ensures { JudgedAs settings lifecycle number s.now buffer.new result }
 {
     let state = lifecycle.state;
     if is_shut(state) {
-        return Verdict::Fails(Answer::Shut);
+        return Err(Answer::Shut);
     }
     let dialect = settings.dialect;
     let depth = settings.depth;
     let name = settings.name;
     let n = settings.length;
-    match message::read_open(dialect, depth, &name[..n], s, buffer) {
-        Verdict::Fails(answer) => Verdict::Fails(answer),
-        Verdict::Passes(outline) => {
-            let rules = rules_of(dialect);
-            judge_update(state, rules, number, outline)
-        }
-    }
+    let outline = message::read_open(dialect, depth, &name[..n], s, buffer)?;
+    judge_update(state, rules_of(dialect), number, outline)
 }
 
 // Checks 10 and 11, of a message that passes those of its text, to a book that has this sequence number.
-fn judge_update(state: State, rules: Rules, number: u64, outline: Outline) -> Verdict
+fn judge_update(state: State, rules: Rules, number: u64, outline: Outline) -> Result<Outline, Answer>
     ensures { result ≡ judged_update state rules number outline }
 {
     let kind = outline.kind;
     if is_snapshot(kind) {
-        return Verdict::Passes(outline);
+        return Ok(outline);
     }
     match state {
-        State::Shut => Verdict::Fails(Answer::NoSnapshot),
-        State::Waiting => Verdict::Fails(Answer::NoSnapshot),
+        State::Shut => Err(Answer::NoSnapshot),
+        State::Waiting => Err(Answer::NoSnapshot),
         State::Live => {
             if is_old(rules, number, outline) {
-                return Verdict::Fails(Answer::OldNumber);
+                return Err(Answer::OldNumber);
             }
-            Verdict::Passes(outline)
+            Ok(outline)
         }
     }
 }

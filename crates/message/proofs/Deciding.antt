@@ -1,6 +1,6 @@
 -- The checks by what one walk over a message tells are the checks of the message.
 -- Assumes nothing.
-use Rattle.std.specs.Prelude.{None, Option, Some, ℕ}
+use Rattle.std.specs.Prelude.{None, Option, Some, ℕ, Err, Ok, Result}
 use mathlib.Core.Path.{◌≡◌, refl, sym, ap, ap₂, ◌∙◌}
 use mathlib.Core.List.{List, [], ◌∷◌}
 use mathlib.Core.Bool.{Bool, true, false, ◌||◌, cond}
@@ -22,37 +22,37 @@ use Rattle.entries.specs.declared.Tally.{Tally}
 use Rattle.entries.proofs.Tallies.{tally-bids, tally-asks}
 use Rattle.layout.proofs.Laws.{outline-is, outline-reads}
 use Rattle.entries.proofs.Claims.{AllHere, bad_at, bad-none, none-bad, FirstBad, first-bad}
+use Rattle.answer.specs.declared.Answer.{Answer}
 use Rattle.layout.specs.Layout.{is_snapshot, Layout, Envelope}
 use Rattle.layout.specs.Scan.{bad_at as layout_bad, is_printed, sum_of, outline_of, scan_of, scan_at}
 use Rattle.layout.specs.declared.Outline.{Outline}
 use Rattle.layout.specs.declared.Scan.{Scan}
-use Rattle.message.specs.Meaning.{fails, passes, bad, decimals, entries_for, too_many, counted, laid_out, addressed}
+use Rattle.message.specs.Meaning.{bad, decimals, entries_for, too_many, counted, laid_out, addressed}
 use Rattle.message.specs.Verdict.{verdict_of}
 use Rattle.message.specs.Deciding.{laid_outline, addressed_scan, decided}
 use Rattle.answer.specs.declared.Answer.TheVariants.{NotJson, NotOurs, BadLayout, TooManyEntries, BadDecimal}
-use Rattle.message.specs.declared.Verdict.TheVariants.{Fails, Passes}
 
 -- ---- one test at a time
 module _ (most : ℕ) (o : Outline) where
-  pub outline-unfair : o.well_formed ≡ false → Fails BadLayout ≡ laid_outline most o
+  pub outline-unfair : o.well_formed ≡ false → Err BadLayout ≡ laid_outline most o
   unfolding laid_outline
   outline-unfair h = sym (rw (h, laid_outline))
 
   module _ (h : o.well_formed ≡ true) where
-    pub outline-many-bids : ltb most o.bids ≡ true → Fails TooManyEntries ≡ laid_outline most o
+    pub outline-many-bids : ltb most o.bids ≡ true → Err TooManyEntries ≡ laid_outline most o
     unfolding laid_outline
     outline-many-bids g = sym (rw (h, g, laid_outline))
 
-    pub outline-many-asks : ltb most o.bids ≡ false → ltb most o.asks ≡ true → Fails TooManyEntries ≡ laid_outline most o
+    pub outline-many-asks : ltb most o.bids ≡ false → ltb most o.asks ≡ true → Err TooManyEntries ≡ laid_outline most o
     unfolding laid_outline
     outline-many-asks g k = sym (rw (h, g, k, laid_outline))
 
-    pub outline-passes : ltb most o.bids ≡ false → ltb most o.asks ≡ false → Passes o ≡ laid_outline most o
+    pub outline-passes : ltb most o.bids ≡ false → ltb most o.asks ≡ false → Ok o ≡ laid_outline most o
     unfolding laid_outline
     outline-passes g k = sym (rw (h, g, k, laid_outline))
 
 module _ (most : ℕ) (t : Scan) where
-  pub address-no-frame : t.framed ≡ false → Fails NotOurs ≡ addressed_scan most t
+  pub address-no-frame : t.framed ≡ false → Err NotOurs ≡ addressed_scan most t
   unfolding addressed_scan
   address-no-frame h = sym (rw (h, addressed_scan))
 
@@ -61,11 +61,11 @@ module _ (most : ℕ) (t : Scan) where
     unfolding addressed_scan
     address-ours k = sym (rw (h, k, addressed_scan))
 
-    pub address-other : t.ours ≡ false → Fails NotOurs ≡ addressed_scan most t
+    pub address-other : t.ours ≡ false → Err NotOurs ≡ addressed_scan most t
     unfolding addressed_scan
     address-other k = sym (rw (h, k, addressed_scan))
 
-  pub decided-broken : (b : Bool) → t.end ≡ 0 → Fails NotJson ≡ decided most t b
+  pub decided-broken : (b : Bool) → t.end ≡ 0 → Err NotJson ≡ decided most t b
   unfolding decided
   decided-broken b h = let e = eq-eqb t.end 0 h in sym (rw (e, decided))
 
@@ -74,7 +74,7 @@ module _ (most : ℕ) (t : Scan) where
     unfolding decided
     decided-ended g = let e = ne_eqb t.end 0 h in sym (rw (e, g, decided))
 
-    pub decided-more : b ≡ false → Fails NotJson ≡ decided most t b
+    pub decided-more : b ≡ false → Err NotJson ≡ decided most t b
     unfolding decided
     decided-more g = let e = ne_eqb t.end 0 h in sym (rw (e, g, decided))
 
@@ -113,11 +113,11 @@ module _ (s : List ℕ) (l : Layout) where
 
 -- check 7, by the counts
 few-entries : (most : ℕ) (o : Outline) (b a : ℕ) → o.well_formed ≡ true → o.bids ≡ b → o.asks ≡ a
-    → laid_outline most o ≡ cond (ltb most b || ltb most a) (Fails TooManyEntries) (Passes o)
+    → laid_outline most o ≡ cond (ltb most b || ltb most a) (Err TooManyEntries) (Ok o)
 unfolding laid_outline
 few-entries most o b a h p q =
-    ap (λ (x : Bool). cond x (cond (ltb most o.bids || ltb most o.asks) (Fails TooManyEntries) (Passes o)) (Fails BadLayout)) h
-    ∙ ap₂ (λ (x y : ℕ). cond (ltb most x || ltb most y) (Fails TooManyEntries) (Passes o)) p q
+    ap (λ (x : Bool). cond x (cond (ltb most o.bids || ltb most o.asks) (Err TooManyEntries) (Ok o)) (Err BadLayout)) h
+    ∙ ap₂ (λ (x y : ℕ). cond (ltb most x || ltb most y) (Err TooManyEntries) (Ok o)) p q
 
 refused-laid : (most : ℕ) (s : List ℕ) → laid_outline most (outline_of s None) ≡ verdict_of s (laid_out most None)
 unfolding laid_outline outline_of laid_out verdict_of
@@ -129,7 +129,7 @@ laid-is most s (Some l) =
     few-entries most (outline_of s (Some l)) (length (entries_for Bids l)) (length (entries_for Asks l)) (outline-reads s l) (outline-bids s l) (outline-asks s l)
     ∙ at (ltb most (length (entries_for Bids l)) || ltb most (length (entries_for Asks l)))
   where
-    at : (b : Bool) → cond b (Fails TooManyEntries) (Passes (outline_of s (Some l))) ≡ verdict_of s (cond b (fails TooManyEntries) (passes l))
+    at : (b : Bool) → cond b (Err TooManyEntries) (Ok (outline_of s (Some l))) ≡ verdict_of s (cond b (Err TooManyEntries) (Ok l))
     at true = refl
     at false = refl
 laid-is most s None = refused-laid most s
@@ -139,8 +139,8 @@ unfolding addressed_scan scan_of addressed verdict_of
 address_is most s e (Some h) = at h.ours (laid-is most s h.layout)
   where
     at : (y : Bool) → laid_outline most (outline_of s h.layout) ≡ verdict_of s (laid_out most h.layout)
-        → cond y (laid_outline most (outline_of s h.layout)) (Fails NotOurs)
-        ≡ verdict_of s (cond y (laid_out most h.layout) (fails NotOurs))
+        → cond y (laid_outline most (outline_of s h.layout)) (Err NotOurs)
+        ≡ verdict_of s (cond y (laid_out most h.layout) (Err NotOurs))
     at true k = k
     at false k = refl
 address_is most s e None = refl
@@ -151,7 +151,7 @@ told-end s e (Some h) = refl
 told-end s e None = refl
 
 -- a value that ends at e, past which nothing stands, or something
-over : (most : ℕ) (s : List ℕ) (e : ℕ) (h : Option Envelope) → (e ≡ 0 → ⊥) → (b : Bool) → decided most (scan_of s e h) b ≡ verdict_of s (cond b (addressed most h) (fails NotJson))
+over : (most : ℕ) (s : List ℕ) (e : ℕ) (h : Option Envelope) → (e ≡ 0 → ⊥) → (b : Bool) → decided most (scan_of s e h) b ≡ verdict_of s (cond b (addressed most h) (Err NotJson))
 unfolding verdict_of
 over most s e h n true = sym (decided-ended most (scan_of s e h) (λ z. n (sym (told-end s e h) ∙ z)) true refl) ∙ address_is most s e h
 over most s e h n false = sym (decided-more most (scan_of s e h) (λ z. n (sym (told-end s e h) ∙ z)) false refl)
@@ -173,7 +173,7 @@ module _ (most : ℕ) (hear : List ℕ → Span → Option Envelope) (s : List �
     unfolding top
     top-at = rw (v, top)
 
-    decided-at : decided most here (ended s here.end) ≡ verdict_of s (cond (text s) (addressed most (hear s (top s))) (fails NotJson))
+    decided-at : decided most here (ended s here.end) ≡ verdict_of s (cond (text s) (addressed most (hear s (top s))) (Err NotJson))
     unfolding scan_of
     decided-at =
         let b = bounds e (value_in 16 s (blanks s 0)) v in
@@ -181,15 +181,15 @@ module _ (most : ℕ) (hear : List ℕ → Span → Option Envelope) (s : List �
         let d = told-end s e (hear s a) in
         rw (told_at, text_at, top-at, d) (over most s e (hear s a) (λ z. omega arith) (ended s e))
 
-  decided-none : value 16 s (blanks s 0) ≡ None → decided most here (ended s here.end) ≡ verdict_of s (cond (text s) (addressed most (hear s (top s))) (fails NotJson))
+  decided-none : value 16 s (blanks s 0) ≡ None → decided most here (ended s here.end) ≡ verdict_of s (cond (text s) (addressed most (hear s (top s))) (Err NotJson))
   unfolding scan_at scan_of text decided verdict_of
   decided-none v = rw (v, scan_at, text, scan_of, decided, verdict_of)
 
   -- checks 3 to 7, from what is told of the value that the text begins with
-  pub decided-is : decided most here (ended s here.end) ≡ verdict_of s (cond (text s) (addressed most (hear s (top s))) (fails NotJson))
+  pub decided-is : decided most here (ended s here.end) ≡ verdict_of s (cond (text s) (addressed most (hear s (top s))) (Err NotJson))
   decided-is = go (value 16 s (blanks s 0)) refl
     where
-      go : (x : Option ℕ) → value 16 s (blanks s 0) ≡ x → decided most here (ended s here.end) ≡ verdict_of s (cond (text s) (addressed most (hear s (top s))) (fails NotJson))
+      go : (x : Option ℕ) → value 16 s (blanks s 0) ≡ x → decided most here (ended s here.end) ≡ verdict_of s (cond (text s) (addressed most (hear s (top s))) (Err NotJson))
       go (Some e) v = decided-at e v
       go None v = decided-none v
 
@@ -203,15 +203,15 @@ module _ (form : Form) (s : List ℕ) (l : Layout) (stand : AllHere form 13 s l.
   unfolding bad
   no-bad h = none-bad (is_snapshot l.kind) s form 13 l.entries stand (sym (outline-bad s l) ∙ h)
 
-  pub none-decimals : at ≡ 0 → decimals s l ≡ passes l
+  pub none-decimals : at ≡ 0 → decimals s l ≡ Ok l
   unfolding decimals
-  none-decimals h = ap (λ (u : List Span). elim u [ [] ↦ passes l | a ∷ rest ↦ fails BadDecimal ]) (no-bad h)
+  none-decimals h = ap (λ (u : List Span). elim u [ [] ↦ Ok l | a ∷ rest ↦ Err BadDecimal ]) (no-bad h)
 
-  pub some-decimals : (at ≡ 0 → ⊥) → decimals s l ≡ fails BadDecimal
+  pub some-decimals : (at ≡ 0 → ⊥) → decimals s l ≡ Err BadDecimal
   unfolding decimals bad
   some-decimals n = go (bad_texts (is_snapshot l.kind) s l.entries) refl
     where
-      go : (u : List Span) → bad_texts (is_snapshot l.kind) s l.entries ≡ u → elim u [ [] ↦ passes l | a ∷ rest ↦ fails BadDecimal ] ≡ fails BadDecimal
+      go : (u : List Span) → bad_texts (is_snapshot l.kind) s l.entries ≡ u → ◌≡◌ {A = Result Layout Answer} (elim u [ [] ↦ Ok l | a ∷ rest ↦ Err BadDecimal ]) (Err BadDecimal)
       go (a ∷ u) p = refl
       go [] p = absurd (n (outline-bad s l ∙ bad-none (is_snapshot l.kind) s form 13 l.entries stand p))
 

@@ -1,6 +1,6 @@
 -- The first bad text of a message, from where the first bad entry begins.
 -- Assumes nothing.
-use Rattle.std.specs.Prelude.{Some}
+use Rattle.std.specs.Prelude.{Some, Err, Ok, Result}
 use mathlib.Core.Path.{◌≡◌, refl, sym, ap, ◌∙◌}
 use mathlib.Core.List.{List, []}
 use mathlib.Core.Bool.{Bool, true, false, cond}
@@ -18,12 +18,10 @@ use Rattle.entries.proofs.Claims.{AllHere, FirstBad}
 use Rattle.layout.specs.Layout.{is_snapshot, Layout}
 use Rattle.layout.specs.Scan.{outline_of}
 use Rattle.layout.specs.declared.Outline.{Outline}
-use Rattle.message.specs.Meaning.{Checked, fails, passes, framed, bad, first_bad, first_bad_of, bad_decimal}
+use Rattle.message.specs.Meaning.{framed, bad, first_bad, first_bad_of, bad_decimal}
 use Rattle.message.specs.Verdict.{verdict_of}
 use Rattle.message.specs.Bad.{part_of, form_of, bad_of, bad_in, Within, PartIs}
 use Rattle.answer.specs.declared.Answer.{Answer}
-use Rattle.message.specs.declared.Verdict.{Verdict}
-use Rattle.message.specs.declared.Verdict.TheVariants.{Fails, Passes}
 use Rattle.message.proofs.Deciding.{no-bad, first-text}
 use Rattle.message.proofs.Where.{framed-lies}
 
@@ -67,23 +65,23 @@ text-bad form s l stand n q = go (eqb n 0) refl
 
 -- ---- the message
 
-module _ (t : Config) (s : List ℕ) (h : good t ≡ true) (v : Verdict) (is : v ≡ verdict_of s (framed t s)) where
-  pub frame-fails : (a : Answer) → v ≡ Fails a → PartIs s (part_of (first_bad_of s (framed t s))) (record { from = 0; to = 0 })
+module _ (t : Config) (s : List ℕ) (h : good t ≡ true) (v : Result Outline Answer) (is : v ≡ verdict_of s (framed t s)) where
+  pub frame-fails : (a : Answer) → v ≡ Err a → PartIs s (part_of (first_bad_of s (framed t s))) (record { from = 0; to = 0 })
   unfolding verdict_of first_bad_of part_of
   frame-fails a g = record { is = go (framed t s) (sym is ∙ g); within = record { order = omega arith; inside = omega arith } }
     where
-      go : (x : Checked) → verdict_of s x ≡ Fails a → record { from = 0; to = 0 } ≡ part_of (first_bad_of s x)
-      go (fails b) k = refl
-      go (passes l) k = let z : ◌≡◌ {A = ℕ} 0 1 = cc in absurd (omega arith)
+      go : (x : Result Layout Answer) → verdict_of s x ≡ Err a → record { from = 0; to = 0 } ≡ part_of (first_bad_of s x)
+      go (Err b) k = refl
+      go (Ok l) k = let z : ◌≡◌ {A = ℕ} 0 1 = cc in absurd (omega arith)
 
-  module _ (o : Outline) (g : v ≡ Passes o) where
-    passed : (l : Layout) × (framed t s ≡ passes l) × (o ≡ outline_of s (Some l))
+  module _ (o : Outline) (g : v ≡ Ok o) where
+    passed : (l : Layout) × (framed t s ≡ Ok l) × (o ≡ outline_of s (Some l))
     unfolding verdict_of
     passed = go (framed t s) (sym is ∙ g)
       where
-        go : (x : Checked) → verdict_of s x ≡ Passes o → (l : Layout) × (x ≡ passes l) × (o ≡ outline_of s (Some l))
-        go (fails b) k = let z : ◌≡◌ {A = ℕ} 0 1 = cc in absurd (omega arith)
-        go (passes l) k = let e : outline_of s (Some l) ≡ o = cc in (l, refl, sym e)
+        go : (x : Result Layout Answer) → verdict_of s x ≡ Ok o → (l : Layout) × (x ≡ Ok l) × (o ≡ outline_of s (Some l))
+        go (Err b) k = let z : ◌≡◌ {A = ℕ} 0 1 = cc in absurd (omega arith)
+        go (Ok l) k = let e : outline_of s (Some l) ≡ o = cc in (l, refl, sym e)
 
     pub frame-placed : (form : Form) → form ≡ form_of t.dialect → (o.bad_at ≡ 0 → ⊥) → Placed s (entry_place_at form 13 s o.bad_at)
     frame-placed form q n =

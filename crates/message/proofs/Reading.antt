@@ -1,6 +1,6 @@
 -- The reader's answers, step by step.
 -- Assumes nothing.
-use Rattle.std.specs.Prelude.{None, Option, Some, ℕ}
+use Rattle.std.specs.Prelude.{None, Option, Some, ℕ, Err, Ok, Result}
 use mathlib.Core.Path.{◌≡◌, refl, sym, ap, ◌∙◌, subst}
 use mathlib.Core.List.{List}
 use mathlib.Core.Bool.{Bool, true, false, true≢false, ◌&&◌, cond}
@@ -22,14 +22,12 @@ use Rattle.layout.specs.Scan.{not_framed, outline_of, scan_of, scan_at, Scanned}
 use Rattle.layout.specs.Layout.{Layout, Envelope}
 use Rattle.layout.specs.declared.Outline.{Outline}
 use Rattle.layout.specs.declared.Scan.{Scan}
-use Rattle.message.specs.Meaning.{Checked, fails, passes, too_many, counted, laid_out, addressed, also_decimals, envelope_in, framed, checked}
+use Rattle.message.specs.Meaning.{too_many, counted, laid_out, addressed, also_decimals, envelope_in, framed, checked}
 use Rattle.message.specs.Verdict.{judged}
 use Rattle.message.specs.Verdict.{verdict_of}
 use Rattle.message.specs.Deciding.{decided}
 use Rattle.answer.specs.declared.Answer.{Answer}
 use Rattle.answer.specs.declared.Answer.TheVariants.{Shut, TooLong, NotJson, NotOurs, BadLayout, TooManyEntries, BadDecimal}
-use Rattle.message.specs.declared.Verdict.{Verdict}
-use Rattle.message.specs.declared.Verdict.TheVariants.{Fails, Passes}
 use Rattle.message.specs.Bad.{form_of}
 use Rattle.message.proofs.Deciding.{decided-is, none-decimals, some-decimals}
 use Rattle.message.proofs.Where.{framed-lies}
@@ -56,7 +54,7 @@ module _ (t : Config) (s : List ℕ) where
   unfolding judged
   judged-good h = sym (ap (verdict_of s) (rw (h, judged)))
 
-  pub judged-shut : good t ≡ false → Fails Shut ≡ verdict_of s (judged t s)
+  pub judged-shut : good t ≡ false → Err Shut ≡ verdict_of s (judged t s)
   unfolding judged verdict_of
   judged-shut h = sym (rw (h, judged, verdict_of))
 
@@ -70,11 +68,11 @@ module _ (t : Config) (s : List ℕ) where
     longest : r.longest ≡ (rules_of t.dialect).longest
     longest = ap (λ (x : Rules). x.longest) same
 
-    pub frame-long : r.longest < length s → Fails TooLong ≡ verdict_of s (framed t s)
+    pub frame-long : r.longest < length s → Err TooLong ≡ verdict_of s (framed t s)
     unfolding framed verdict_of
     frame-long h = let e = lt-ltb (rules_of t.dialect).longest (length s) (subst (λ (n : ℕ). n < length s) longest h) in sym (rw (e, framed, verdict_of))
 
-    pub long_kept : r.longest < length s → (l : Layout) → {A : Type 0} → framed t s ≡ passes l → A
+    pub long_kept : r.longest < length s → (l : Layout) → {A : Type 0} → framed t s ≡ Ok l → A
     unfolding framed
     long_kept h l g = let e = lt-ltb (rules_of t.dialect).longest (length s) (subst (λ (n : ℕ). n < length s) longest h) in no-pass TooLong l (rw e at g)
 
@@ -89,78 +87,78 @@ module _ (t : Config) (s : List ℕ) where
 
   -- ---- check 8
 
-  module _ (v : Verdict) (h : v ≡ verdict_of s (framed t s)) where
-    pub open-fails : (a : Answer) → v ≡ Fails a → Fails a ≡ verdict_of s (checked t s)
+  module _ (v : Result Outline Answer) (h : v ≡ verdict_of s (framed t s)) where
+    pub open-fails : (a : Answer) → v ≡ Err a → Err a ≡ verdict_of s (checked t s)
     unfolding checked also_decimals verdict_of
     open-fails a g = go (framed t s) (sym h ∙ g)
       where
-        go : (x : Checked) → verdict_of s x ≡ Fails a → Fails a ≡ verdict_of s (also_decimals s x)
-        go (fails b) k = sym k
-        go (passes l) k = let z : ◌≡◌ {A = ℕ} 0 1 = cc in absurd (omega arith)
+        go : (x : Result Layout Answer) → verdict_of s x ≡ Err a → Err a ≡ verdict_of s (also_decimals s x)
+        go (Err b) k = sym k
+        go (Ok l) k = let z : ◌≡◌ {A = ℕ} 0 1 = cc in absurd (omega arith)
 
-    pub open-bad : (o : Outline) → v ≡ Passes o → (o.bad_at ≡ 0 → ⊥) → Fails BadDecimal ≡ verdict_of s (checked t s)
+    pub open-bad : (o : Outline) → v ≡ Ok o → (o.bad_at ≡ 0 → ⊥) → Err BadDecimal ≡ verdict_of s (checked t s)
     unfolding checked also_decimals verdict_of
     open-bad o g b = go (framed t s) refl (sym h ∙ g)
       where
-        go : (x : Checked) → framed t s ≡ x → verdict_of s x ≡ Passes o → Fails BadDecimal ≡ verdict_of s (also_decimals s x)
-        go (fails a) q k = let z : ◌≡◌ {A = ℕ} 0 1 = cc in absurd (omega arith)
-        go (passes l) q k =
+        go : (x : Result Layout Answer) → framed t s ≡ x → verdict_of s x ≡ Ok o → Err BadDecimal ≡ verdict_of s (also_decimals s x)
+        go (Err a) q k = let z : ◌≡◌ {A = ℕ} 0 1 = cc in absurd (omega arith)
+        go (Ok l) q k =
             let e : outline_of s (Some l) ≡ o = cc in
             sym (ap (verdict_of s) (some-decimals (form_of t.dialect) s l (framed-lies t s l q).entries (λ z. b (sym (ap (λ (x : Outline). x.bad_at) e) ∙ z))))
 
-    pub open-passes : (o : Outline) → v ≡ Passes o → o.bad_at ≡ 0 → Passes o ≡ verdict_of s (checked t s)
+    pub open-passes : (o : Outline) → v ≡ Ok o → o.bad_at ≡ 0 → Ok o ≡ verdict_of s (checked t s)
     unfolding checked also_decimals verdict_of
     open-passes o g b = go (framed t s) refl (sym h ∙ g)
       where
-        go : (x : Checked) → framed t s ≡ x → verdict_of s x ≡ Passes o → Passes o ≡ verdict_of s (also_decimals s x)
-        go (fails a) q k = let z : ◌≡◌ {A = ℕ} 0 1 = cc in absurd (omega arith)
-        go (passes l) q k =
+        go : (x : Result Layout Answer) → framed t s ≡ x → verdict_of s x ≡ Ok o → Ok o ≡ verdict_of s (also_decimals s x)
+        go (Err a) q k = let z : ◌≡◌ {A = ℕ} 0 1 = cc in absurd (omega arith)
+        go (Ok l) q k =
             let e : outline_of s (Some l) ≡ o = cc in
             sym k ∙ sym (ap (verdict_of s) (none-decimals (form_of t.dialect) s l (framed-lies t s l q).entries (ap (λ (x : Outline). x.bad_at) e ∙ b)))
 
 -- ---- the buffer
 
-refused-address : (most : ℕ) → fails NotOurs ≡ addressed most None
+refused-address : (most : ℕ) → Err NotOurs ≡ addressed most None
 unfolding addressed
 refused-address most = refl
 
-kept-laid : (most : ℕ) (s : List ℕ) (x : Option Layout) (l : Layout) → laid_out most x ≡ passes l → x ≡ Some l
+kept-laid : (most : ℕ) (s : List ℕ) (x : Option Layout) (l : Layout) → laid_out most x ≡ Ok l → x ≡ Some l
 unfolding laid_out counted
 kept-laid most s (Some k) l g = at (too_many most k) g
   where
-    at : (b : Bool) → cond b (fails TooManyEntries) (passes k) ≡ passes l → Some k ≡ Some l
+    at : (b : Bool) → cond b (Err TooManyEntries) (Ok k) ≡ Ok l → Some k ≡ Some l
     at true h = no-pass TooManyEntries l h
     at false h = let e : k ≡ l = cc in ap Some e
 kept-laid most s None l g = no-pass BadLayout l g
 
-kept-address : {A : Layout → Type 0} (most : ℕ) (s : List ℕ) (x : Envelope) (l : Layout) → addressed most (Some x) ≡ passes l → (x.ours ≡ true → (y : Layout) → x.layout ≡ Some y → A y) → A l
+kept-address : {A : Layout → Type 0} (most : ℕ) (s : List ℕ) (x : Envelope) (l : Layout) → addressed most (Some x) ≡ Ok l → (x.ours ≡ true → (y : Layout) → x.layout ≡ Some y → A y) → A l
 unfolding addressed
 kept-address {A} most s x l g f = at x.ours refl g
   where
-    at : (b : Bool) → x.ours ≡ b → cond b (laid_out most x.layout) (fails NotOurs) ≡ passes l → A l
+    at : (b : Bool) → x.ours ≡ b → cond b (laid_out most x.layout) (Err NotOurs) ≡ Ok l → A l
     at true q h = f q l (kept-laid most s x.layout l h)
     at false q h = no-pass NotOurs l h
 
 -- a message that passes checks 2 to 7 is this book's, and has a layout
-pub framed_kept : (t : Config) (s buffer : List ℕ) (r : Scan) → Scanned (envelope_in t.dialect t) s (blanks s 0) buffer r → (l : Layout) → framed t s ≡ passes l → Kept s (Some l.entries) buffer
+pub framed_kept : (t : Config) (s buffer : List ℕ) (r : Scan) → Scanned (envelope_in t.dialect t) s (blanks s 0) buffer r → (l : Layout) → framed t s ≡ Ok l → Kept s (Some l.entries) buffer
 unfolding framed text top
 framed_kept t s buffer r w l h = first (ltb (rules_of t.dialect).longest (length s)) (value 16 s (blanks s 0)) refl h
   where
     most : ℕ
     most = (rules_of t.dialect).entries
 
-    laid_kept : (e : ℕ) → value 16 s (blanks s 0) ≡ Some e → (x : Option Envelope) → envelope_in t.dialect t s (record { from = blanks s 0; to = e }) ≡ x → addressed most x ≡ passes l → Kept s (Some l.entries) buffer
+    laid_kept : (e : ℕ) → value 16 s (blanks s 0) ≡ Some e → (x : Option Envelope) → envelope_in t.dialect t s (record { from = blanks s 0; to = e }) ≡ x → addressed most x ≡ Ok l → Kept s (Some l.entries) buffer
     laid_kept e v (Some x) q g = kept-address {A = λ y. Kept s (Some y.entries) buffer} most s x l g (λ o y k. w.kept e v x q o y k)
     laid_kept e v None q g = no-pass NotOurs l (refused-address most ∙ g)
 
     first : (a : Bool) (x : Option ℕ) → value 16 s (blanks s 0) ≡ x
-        → cond a (fails TooLong) (cond (elim x [ Some e ↦ ended s e | None ↦ false ]) (addressed most (envelope_in t.dialect t s (elim x [ Some e ↦ record { from = blanks s 0; to = e } | None ↦ record { from = 0; to = 0 } ]))) (fails NotJson)) ≡ passes l
+        → cond a (Err TooLong) (cond (elim x [ Some e ↦ ended s e | None ↦ false ]) (addressed most (envelope_in t.dialect t s (elim x [ Some e ↦ record { from = blanks s 0; to = e } | None ↦ record { from = 0; to = 0 } ]))) (Err NotJson)) ≡ Ok l
         → Kept s (Some l.entries) buffer
     first true x v g = no-pass TooLong l g
     first false None v g = no-pass NotJson l g
     first false (Some e) v g = at (ended s e) g
       where
-        at : (b : Bool) → cond b (addressed most (envelope_in t.dialect t s (record { from = blanks s 0; to = e }))) (fails NotJson) ≡ passes l → Kept s (Some l.entries) buffer
+        at : (b : Bool) → cond b (addressed most (envelope_in t.dialect t s (record { from = blanks s 0; to = e }))) (Err NotJson) ≡ Ok l → Kept s (Some l.entries) buffer
         at true k = laid_kept e v (envelope_in t.dialect t s (record { from = blanks s 0; to = e })) refl k
         at false k = no-pass NotJson l k
 

@@ -1,6 +1,6 @@
 -- The entries of a message that passes the checks of its text stand in it; its numbers keep their bounds.
 -- Assumes nothing.
-use Rattle.std.specs.Prelude.{None, Option, Some}
+use Rattle.std.specs.Prelude.{None, Option, Some, Err, Ok}
 use mathlib.Core.Path.{◌≡◌, refl, sym, ap, ◌∙◌, subst}
 use mathlib.Core.List.{List, [], ◌∷◌}
 use mathlib.Core.Bool.{Bool, true, false, true≢false, ◌&&◌, not, cond}
@@ -35,7 +35,7 @@ use lib.Dec.{leb, ltb, eqb, lit<}
 use lib.ListN.{length, get_or}
 use Rattle.message.specs.Bad.{form_of}
 use Rattle.message.proofs.Members.{Follow, Collected, object-follows, objects-follow, array-objects}
-use Rattle.message.specs.Meaning.{fails, passes, too_many, counted, laid_out, addressed, envelope_in, framed}
+use Rattle.message.specs.Meaning.{too_many, counted, laid_out, addressed, envelope_in, framed}
 use Rattle.answer.specs.declared.Answer.{Answer}
 use Rattle.answer.specs.declared.Answer.TheVariants.{TooLong, NotJson, NotOurs, BadLayout, TooManyEntries}
 
@@ -206,25 +206,25 @@ module _ (s : List ℕ) where
           rw (sym (reads_same q.1)) (record { entries = w.entries; collected = w.collected; small = w.small; low = w.low })
 
 -- ---- the whole: a message that passes checks 2 to 7, and one that passes 8 too
-no-pass : {A : Type 0} (a : Answer) (l : Layout) → fails a ≡ passes l → A
+no-pass : {A : Type 0} (a : Answer) (l : Layout) → Err a ≡ Ok l → A
 no-pass a l h = let z : ◌≡◌ {A = ℕ} 0 1 = cc in absurd (omega arith)
 
 module _ (form : Form) (s : List ℕ) where
-  counted-lies : (most : ℕ) (r : Option Layout) → ((x : Layout) → r ≡ Some x → LieIn form s x) → (l : Layout) → laid_out most r ≡ passes l → LieIn form s l
+  counted-lies : (most : ℕ) (r : Option Layout) → ((x : Layout) → r ≡ Some x → LieIn form s x) → (l : Layout) → laid_out most r ≡ Ok l → LieIn form s l
   unfolding laid_out counted
   counted-lies most (Some x) f l h = at (too_many most x) h
     where
-      at : (b : Bool) → cond b (fails TooManyEntries) (passes x) ≡ passes l → LieIn form s l
+      at : (b : Bool) → cond b (Err TooManyEntries) (Ok x) ≡ Ok l → LieIn form s l
       at true g = no-pass TooManyEntries l g
       at false g = let e : l ≡ x = cc in rw e (f x refl)
   counted-lies most None f l h = no-pass BadLayout l h
 
   addressed-lies : (most : ℕ) (r : Option Envelope) → ((x : Envelope) → r ≡ Some x → (y : Layout) → x.layout ≡ Some y → LieIn form s y)
-      → (l : Layout) → addressed most r ≡ passes l → LieIn form s l
+      → (l : Layout) → addressed most r ≡ Ok l → LieIn form s l
   unfolding addressed
   addressed-lies most (Some x) f l h = at x.ours h
     where
-      at : (b : Bool) → cond b (laid_out most x.layout) (fails NotOurs) ≡ passes l → LieIn form s l
+      at : (b : Bool) → cond b (laid_out most x.layout) (Err NotOurs) ≡ Ok l → LieIn form s l
       at true g = counted-lies most x.layout (f x refl) l g
       at false g = no-pass NotOurs l g
   addressed-lies most None f l h = no-pass NotOurs l h
@@ -242,11 +242,11 @@ heard-lies (M v) t s a x h y g =
     linked-lies s (is_linked v) f.0 y (ap (λ (z : Envelope). z.layout) e ∙ g)
 heard-lies Unknown t s a x h y g = no-reading h
 
-pub framed-lies : (t : Config) (s : List ℕ) (l : Layout) → framed t s ≡ passes l → LieIn (form_of t.dialect) s l
+pub framed-lies : (t : Config) (s : List ℕ) (l : Layout) → framed t s ≡ Ok l → LieIn (form_of t.dialect) s l
 unfolding framed
 framed-lies t s l h = at (ltb (rules_of t.dialect).longest (length s)) (text s) h
   where
-    at : (a b : Bool) → cond a (fails TooLong) (cond b (addressed (rules_of t.dialect).entries (envelope_in t.dialect t s (top s))) (fails NotJson)) ≡ passes l → LieIn (form_of t.dialect) s l
+    at : (a b : Bool) → cond a (Err TooLong) (cond b (addressed (rules_of t.dialect).entries (envelope_in t.dialect t s (top s))) (Err NotJson)) ≡ Ok l → LieIn (form_of t.dialect) s l
     at true b g = no-pass TooLong l g
     at false true g = addressed-lies (form_of t.dialect) s (rules_of t.dialect).entries (envelope_in t.dialect t s (top s)) (heard-lies t.dialect t s (top s)) l g
     at false false g = no-pass NotJson l g

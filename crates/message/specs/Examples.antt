@@ -1,12 +1,13 @@
 -- Worked examples: settings and a message, with the number of the first refusal that fits by document 01's table, or 0. Assumes nothing.
-use Rattle.std.specs.Prelude.{◌≡◌, refl, List, [], ◌∷◌, ℕ}
+use Rattle.answer.specs.declared.Answer.{Answer}
+use Rattle.std.specs.Prelude.{◌≡◌, refl, List, [], ◌∷◌, ℕ, Err, Ok, Result}
 use Prim.Native.String.{String}
 use Rattle.text.specs.Text.{ascii}
 use Rattle.settings.specs.declared.Dialect.TheVariants.{K, M}
 use Rattle.settings.specs.declared.Edition.TheVariants.{M1, M2}
 use Rattle.settings.specs.Settings.{Config}
 use Rattle.answer.specs.Answers.{answer_number}
-use Rattle.message.specs.Meaning.{Decoded, refuses, decodes, decode}
+use Rattle.message.specs.Meaning.{decode, Message}
 use Rattle.text.specs.Text as x·
 use Rattle.decimal.specs.Digits as d·
 use Rattle.decimal.specs.Decimal as d2·
@@ -34,9 +35,9 @@ k_book : Config
 k_book = record { dialect = K; depth = 10; name = ascii "XBT/USD" }
 
 -- the number of a refusal, and 0 of a message that says something
-number_of : Decoded → ℕ
-number_of (refuses a) = answer_number a
-number_of (decodes m) = 0
+number_of : Result Message Answer → ℕ
+number_of (Err a) = answer_number a
+number_of (Ok m) = 0
 
 -- settings, a message, and the number
 pub data Case : Type 0 where

@@ -1,6 +1,7 @@
 -- What a message says, from the settings and the text alone: a refusal among 2 to 8, or its kind and what it carries. The checks are those of document
--- 01's table, in its order, each over the whole message before the next one begins. Assumes nothing: these are definitions.
-use Rattle.std.specs.Prelude.{ℕ, Bool, ◌||◌, cond, List, [], ◌∷◌, map, ltb, length, None, Option, Some}
+-- 01's table, in its order, each over the whole message before the next one begins. A result is the layout of a message that fails none of them, or the answer
+-- to one that fails. Assumes nothing: these are definitions.
+use Rattle.std.specs.Prelude.{ℕ, Bool, ◌||◌, cond, List, [], ◌∷◌, map, ltb, length, None, Option, Some, Err, Ok, Result}
 use Rattle.edit.specs.Edit.{PriceLevel, Edit, Numbers, edit_of, for_side}
 use Rattle.edit.specs.declared.Side.{Side}
 use Rattle.edit.specs.declared.Side.TheVariants.{Bids, Asks}
@@ -18,11 +19,6 @@ use Rattle.answer.specs.declared.Answer.TheVariants.{TooLong, NotJson, NotOurs, 
 use Rattle.settings.specs.declared.Dialect.{Dialect}
 use Rattle.settings.specs.declared.Dialect.TheVariants.{K, M, Unknown}
 
--- The answer to a message that fails a check, or the layout of one that fails none.
-pub data Checked : Type 0 where
-  fails : Answer → Checked
-  passes : Layout → Checked
-
 -- ---- check 7: too many entries on one side
 
 abbrev pub entries_for : Side → Layout → List Entry
@@ -31,19 +27,19 @@ entries_for side l = for_side (λ (e : Entry). e.side) side l.entries
 unfoldable pub too_many : ℕ → Layout → Bool
 too_many most l = ltb most (length (entries_for Bids l)) || ltb most (length (entries_for Asks l))
 
-unfoldable pub counted : ℕ → Layout → Checked
-counted most l = cond (too_many most l) (fails TooManyEntries) (passes l)
+unfoldable pub counted : ℕ → Layout → Result Layout Answer
+counted most l = cond (too_many most l) (Err TooManyEntries) (Ok l)
 
 -- ---- checks 5 and 6
 
-unfoldable pub laid_out : ℕ → Option Layout → Checked
+unfoldable pub laid_out : ℕ → Option Layout → Result Layout Answer
 laid_out most (Some l) = counted most l
-laid_out most None = fails BadLayout
+laid_out most None = Err BadLayout
 
 -- What is no message of the dialect's outer form is not this book's.
-unfoldable pub addressed : ℕ → Option Envelope → Checked
-addressed most (Some h) = cond h.ours (laid_out most h.layout) (fails NotOurs)
-addressed most None = fails NotOurs
+unfoldable pub addressed : ℕ → Option Envelope → Result Layout Answer
+addressed most (Some h) = cond h.ours (laid_out most h.layout) (Err NotOurs)
+addressed most None = Err NotOurs
 
 unfoldable pub envelope_in : Dialect → Config → List ℕ → Span → Option Envelope
 envelope_in K t = envelope_k t.depth t.name
@@ -52,10 +48,10 @@ envelope_in Unknown t = λ s a. None
 
 -- ---- checks 2 and 3
 
-unfoldable pub framed : Config → List ℕ → Checked
+unfoldable pub framed : Config → List ℕ → Result Layout Answer
 framed t s =
-    cond (ltb (rules_of t.dialect).longest (length s)) (fails TooLong)
-    (cond (text s) (addressed (rules_of t.dialect).entries (envelope_in t.dialect t s (top s))) (fails NotJson))
+    cond (ltb (rules_of t.dialect).longest (length s)) (Err TooLong)
+    (cond (text s) (addressed (rules_of t.dialect).entries (envelope_in t.dialect t s (top s))) (Err NotJson))
 
 -- ---- check 8: a decimal rule broken, price zero, or size zero in a snapshot
 
@@ -63,16 +59,16 @@ framed t s =
 unfoldable pub bad : List ℕ → Layout → List Span
 bad s l = bad_texts (is_snapshot l.kind) s l.entries
 
-unfoldable pub decimals : List ℕ → Layout → Checked
-decimals s l = elim (bad s l) [ [] ↦ passes l | a ∷ rest ↦ fails BadDecimal ]
+unfoldable pub decimals : List ℕ → Layout → Result Layout Answer
+decimals s l = elim (bad s l) [ [] ↦ Ok l | a ∷ rest ↦ Err BadDecimal ]
 
-unfoldable pub also_decimals : List ℕ → Checked → Checked
-also_decimals s (fails a) = fails a
-also_decimals s (passes l) = decimals s l
+unfoldable pub also_decimals : List ℕ → Result Layout Answer → Result Layout Answer
+also_decimals s (Err a) = Err a
+also_decimals s (Ok l) = decimals s l
 
 -- ---- checks 2 to 8, of a book that is not shut
 
-unfoldable pub checked : Config → List ℕ → Checked
+unfoldable pub checked : Config → List ℕ → Result Layout Answer
 checked t s = also_decimals s (framed t s)
 
 -- ---- what a message says that fails none of them
@@ -91,21 +87,17 @@ pub record Message : Type 0 where
   -- the sequence number before it, where one is named
   pub previous : ℕ
 
-pub data Decoded : Type 0 where
-  refuses : Answer → Decoded
-  decodes : Message → Decoded
-
 unfoldable pub sided_edit : Numbers → SidedEdit
 sided_edit e = record { side = e.side; edit = edit_of e }
 
 unfoldable pub message_of : List ℕ → Layout → Message
 message_of s l = record { kind = l.kind; edits = map sided_edit (map (numbers_at s) l.entries); checksum = l.checksum; number = l.number; previous = l.previous }
 
-unfoldable pub decoded_of : List ℕ → Checked → Decoded
-decoded_of s (fails a) = refuses a
-decoded_of s (passes l) = decodes (message_of s l)
+unfoldable pub decoded_of : List ℕ → Result Layout Answer → Result Message Answer
+decoded_of s (Err a) = Err a
+decoded_of s (Ok l) = Ok (message_of s l)
 
-unfoldable pub decode : Config → List ℕ → Decoded
+unfoldable pub decode : Config → List ℕ → Result Message Answer
 decode t s = decoded_of s (checked t s)
 
 -- ---- the question for the first bad decimal
@@ -113,9 +105,9 @@ decode t s = decoded_of s (checked t s)
 unfoldable pub first_bad : List ℕ → Layout → Span
 first_bad s l = first_of (bad s l)
 
-unfoldable pub first_bad_of : List ℕ → Checked → Span
-first_bad_of s (fails a) = record { from = 0; to = 0 }
-first_bad_of s (passes l) = first_bad s l
+unfoldable pub first_bad_of : List ℕ → Result Layout Answer → Span
+first_bad_of s (Err a) = record { from = 0; to = 0 }
+first_bad_of s (Ok l) = first_bad s l
 
 -- The first text that breaks check 8, in message order, quotes included; if settings are bad or checks 2 to 7 refuse or nothing breaks, the empty part
 -- at the start.

@@ -1,23 +1,23 @@
 -- What the reader of a message answers. Assumes nothing: these are definitions.
-use Rattle.std.specs.Prelude.{◌≡◌, cond, List, ℕ, Some}
+use Rattle.layout.specs.declared.Outline.{Outline}
+use Rattle.answer.specs.declared.Answer.{Answer}
+use Rattle.std.specs.Prelude.{◌≡◌, cond, List, ℕ, Some, Err, Ok, Result}
 use Rattle.settings.specs.Settings.{Config, good}
 use Rattle.entries.specs.Tally.{Kept}
 use Rattle.layout.specs.Layout.{Layout}
 use Rattle.layout.specs.Scan.{outline_of}
 use Rattle.answer.specs.declared.Answer.TheVariants.{Shut}
-use Rattle.message.specs.Meaning.{Checked, fails, passes, checked}
-use Rattle.message.specs.declared.Verdict.{Verdict}
-use Rattle.message.specs.declared.Verdict.TheVariants.{Fails, Passes}
+use Rattle.message.specs.Meaning.{checked}
 
 -- Checks 1 to 8: of the settings, and then of the text.
-unfoldable pub judged : Config → List ℕ → Checked
-judged t s = cond (good t) (checked t s) (fails Shut)
+unfoldable pub judged : Config → List ℕ → Result Layout Answer
+judged t s = cond (good t) (checked t s) (Err Shut)
 
-unfoldable pub verdict_of : List ℕ → Checked → Verdict
-verdict_of s (fails a) = Fails a
-verdict_of s (passes l) = Passes (outline_of s (Some l))
+unfoldable pub verdict_of : List ℕ → Result Layout Answer → Result Outline Answer
+verdict_of s (Err a) = Err a
+verdict_of s (Ok l) = Ok (outline_of s (Some l))
 
 -- What its reader promises: the verdict, and that the buffer has the entries of a message that passes.
-pub record Judged (s : List ℕ) (c : Checked) (buffer : List ℕ) (r : Verdict) : Type 0 where
+pub record Judged (s : List ℕ) (c : Result Layout Answer) (buffer : List ℕ) (r : Result Outline Answer) : Type 0 where
   pub told : r ≡ verdict_of s c
-  pub kept : (l : Layout) → c ≡ passes l → Kept s (Some l.entries) buffer
+  pub kept : (l : Layout) → c ≡ Ok l → Kept s (Some l.entries) buffer

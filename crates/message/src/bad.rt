@@ -6,7 +6,7 @@ ghost use Rattle.entries.specs.Found.{entry_depth, entry_place_at, Placed};
 ghost use Rattle.message.specs.Meaning.{bad_decimal, first_bad_of, framed};
 ghost use Rattle.message.specs.Bad.{part_of, form_of, bad_in, PartIs};
 
-use crate::{Part, Verdict, read_frame};
+use crate::{Part, read_frame};
 use edit::BUFFER_WORDS;
 use entries::{ENTRY_DEPTH, Form, entry_at, is_bad_price, parse_quoted};
 use settings::Dialect;
@@ -38,8 +38,8 @@ fn bad_in_frame(dialect: Dialect, depth: usize, name: &[u8], s: &[u8]) -> Part
 {
     let mut buffer = [0; BUFFER_WORDS];
     match read_frame(dialect, depth, name, s, &mut buffer) {
-        Verdict::Fails(_) => Part { from: 0, to: 0 },
-        Verdict::Passes(outline) => bad_in(s, form_of(dialect), outline.bad_at),
+        Err(_) => Part { from: 0, to: 0 },
+        Ok(outline) => bad_in(s, form_of(dialect), outline.bad_at),
     }
 }
 

@@ -25,12 +25,6 @@ use settings::{Dialect, is_linked, rules_of};
 // The longest message of any dialect.
 pub const MAX_MESSAGE: usize = 32768;
 
-#[derive(Clone, Copy)]
-pub enum Verdict {
-    Fails(Answer),
-    Passes(Outline),
-}
-
 // A part of a message: its first position, and the position past it.
 #[derive(Clone, Copy)]
 pub struct Part {
@@ -38,15 +32,15 @@ pub struct Part {
     pub to: usize,
 }
 
-// Checks 1 to 8, for who asks of a message alone.
-pub fn read(dialect: Dialect, depth: usize, name: &[u8], s: &[u8]) -> Verdict
+// Checks 1 to 8, for who asks of a message alone: what the message says, or the answer to one that fails a check.
+pub fn read(dialect: Dialect, depth: usize, name: &[u8], s: &[u8]) -> Result<Outline, Answer>
     ensures { result ≡ verdict_of s.now (judged (record { dialect = dialect; depth = depth; name = name.now }) s.now) }
 {
     if settings::is_good(dialect, depth, name) {
         let mut buffer = [0; BUFFER_WORDS];
         return read_open(dialect, depth, name, s, &mut buffer);
     }
-    Verdict::Fails(Answer::Shut)
+    Err(Answer::Shut)
 }
 
 // Checks 2 to 8, of a book that is not shut. The buffer has the entries of a message that passes, and is free after a refusal.
@@ -56,19 +50,15 @@ pub fn read_open(
     name: &[u8],
     s: &[u8],
     buffer: &mut [u64; BUFFER_WORDS],
-) -> Verdict
+) -> Result<Outline, Answer>
     requires { (good (record { dialect = dialect; depth = depth; name = name.now }) ≡ true) × (length buffer.old ≡ buffer_words) }
     ensures { Judged s.now (checked (record { dialect = dialect; depth = depth; name = name.now }) s.now) buffer.new result }
 {
-    match read_frame(dialect, depth, name, s, buffer) {
-        Verdict::Fails(answer) => Verdict::Fails(answer),
-        Verdict::Passes(outline) => {
-            if outline.bad_at != 0 {
-                return Verdict::Fails(Answer::BadDecimal);
-            }
-            Verdict::Passes(outline)
-        }
+    let outline = read_frame(dialect, depth, name, s, buffer)?;
+    if outline.bad_at != 0 {
+        return Err(Answer::BadDecimal);
     }
+    Ok(outline)
 }
 
 // Checks 2 to 7, of a book that is not shut; the buffer as above.
@@ -78,13 +68,13 @@ pub fn read_frame(
     name: &[u8],
     s: &[u8],
     buffer: &mut [u64; BUFFER_WORDS],
-) -> Verdict
+) -> Result<Outline, Answer>
     requires { (good (record { dialect = dialect; depth = depth; name = name.now }) ≡ true) × (length buffer.old ≡ buffer_words) }
     ensures { Judged s.now (framed (record { dialect = dialect; depth = depth; name = name.now }) s.now) buffer.new result }
 {
     let rules = rules_of(dialect);
     if rules.longest < s.len() {
-        return Verdict::Fails(Answer::TooLong);
+        return Err(Answer::TooLong);
     }
     let scan = scan_at(dialect, depth, name, s, skip_blanks(s, 0), buffer);
     let ended = is_ended(s, scan.end);
@@ -112,43 +102,43 @@ fn scan_at(
 
 // The first of checks 3 to 7 that fails, by what was told of the message; `ended` says that nothing stands past its value, and `most`
 // how many entries a side may have.
-fn decide(most: usize, scan: Scan, ended: bool) -> Verdict
+fn decide(most: usize, scan: Scan, ended: bool) -> Result<Outline, Answer>
     ensures { result ≡ decided most scan ended }
 {
     if scan.end == 0 {
-        return Verdict::Fails(Answer::NotJson);
+        return Err(Answer::NotJson);
     }
     if ended {
         return decide_address(most, scan);
     }
-    Verdict::Fails(Answer::NotJson)
+    Err(Answer::NotJson)
 }
 
 // Checks 5 to 7.
-fn decide_address(most: usize, scan: Scan) -> Verdict
+fn decide_address(most: usize, scan: Scan) -> Result<Outline, Answer>
     ensures { result ≡ addressed_scan most scan }
 {
     if scan.framed {
         if scan.ours {
             return decide_layout(most, scan.outline);
         }
-        return Verdict::Fails(Answer::NotOurs);
+        return Err(Answer::NotOurs);
     }
-    Verdict::Fails(Answer::NotOurs)
+    Err(Answer::NotOurs)
 }
 
 // Checks 6 and 7.
-fn decide_layout(most: usize, outline: Outline) -> Verdict
+fn decide_layout(most: usize, outline: Outline) -> Result<Outline, Answer>
     ensures { result ≡ laid_outline most outline }
 {
     if outline.well_formed {
         if most < outline.bids {
-            return Verdict::Fails(Answer::TooManyEntries);
+            return Err(Answer::TooManyEntries);
         }
         if most < outline.asks {
-            return Verdict::Fails(Answer::TooManyEntries);
+            return Err(Answer::TooManyEntries);
         }
-        return Verdict::Passes(outline);
+        return Ok(outline);
     }
-    Verdict::Fails(Answer::BadLayout)
+    Err(Answer::BadLayout)
 }

@@ -19,7 +19,6 @@ use edit::{BUFFER_WORDS, MAX_BUFFERED, Side};
 use layout::{Outline, is_snapshot};
 use line_text::read_settings;
 use lines::{LINE_END, find};
-use message::Verdict;
 use reading::read_full;
 use settings::Dialect;
 use std::io;
@@ -186,8 +185,8 @@ fn tell(
     text: &[u8],
 ) -> io::Result<()> {
     match message::read(dialect, depth, name, text) {
-        Verdict::Fails(answer) => write_number(out, number_of(answer))?,
-        Verdict::Passes(outline) => tell_outline(out, outline, is_linked(dialect))?,
+        Err(answer) => write_number(out, number_of(answer))?,
+        Ok(outline) => tell_outline(out, outline, is_linked(dialect))?,
     }
     tell_entries(out, dialect, depth, name, text)?;
     tell_bad(out, dialect, depth, name, text)
@@ -204,8 +203,8 @@ fn tell_entries(
     if settings::is_good(dialect, depth, name) {
         let mut buffer = [0; BUFFER_WORDS];
         match message::read_open(dialect, depth, name, text, &mut buffer) {
-            Verdict::Fails(_) => {}
-            Verdict::Passes(outline) => tell_both(out, &buffer, outline.bids, outline.asks)?,
+            Err(_) => {}
+            Ok(outline) => tell_both(out, &buffer, outline.bids, outline.asks)?,
         }
     }
     Ok(())

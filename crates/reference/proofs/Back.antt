@@ -1,6 +1,7 @@
 -- The round trip: what every side that is reached has, and what a new book makes of a snapshot of it.
 -- Assumes nothing.
-use Rattle.std.specs.Prelude.{None, Option, Some}
+use Rattle.answer.specs.declared.Answer.{Answer}
+use Rattle.std.specs.Prelude.{None, Option, Some, Err, Ok, Result}
 use mathlib.Core.Path.{◌≡◌, refl, sym, ap, ap₂, ◌∙◌, subst}
 use mathlib.Core.List.{List, [], ◌∷◌, ◌++◌, map, append_assoc, append-nil}
 use mathlib.Core.Bool.{Bool, true, false, true≢false, cond}
@@ -35,8 +36,8 @@ use Rattle.crc32_spec.specs.Crc.{crc, run}
 use Rattle.writer.specs.Snapshot.{k_snapshot, m_snapshot}
 use Rattle.checksum.specs.Text.{interleaved, colon_joined, m_checksum_text}
 use Rattle.layout.specs.declared.Kind.TheVariants.{Snapshot}
-use Rattle.layout.specs.Layout.{is_snapshot, Printed, printed, unprinted}
-use Rattle.message.specs.Meaning.{SidedEdit, sided_edit, Message, message_of, Checked, fails, passes, bad, checked, decoded_of, decode, decodes}
+use Rattle.layout.specs.Layout.{is_snapshot, Printed, printed, unprinted, Layout}
+use Rattle.message.specs.Meaning.{SidedEdit, sided_edit, Message, message_of, bad, checked, decoded_of, decode}
 use Rattle.message.proofs.Where.{framed-lies}
 use Rattle.message.proofs.Entering.{Readable, is-k, is_m, good-readable, also-framed}
 use Rattle.round_trip.specs.Claims.{setting, Positive, ValidLevel, Each, each_none, each_more, Valid}
@@ -164,13 +165,13 @@ pub record Understood (m : Message) : Type 0 where
   pub small : m.number < 10 ^ 19
   pub low : (n : ℕ) → m.checksum ≡ printed n → n ≤ 4294967295
 
-understood : (t : Config) (s : List ℕ) (m : Message) → decode t s ≡ decodes m → Understood m
+understood : (t : Config) (s : List ℕ) (m : Message) → decode t s ≡ Ok m → Understood m
 unfolding decode decoded_of message_of bad edits_for for_one
 understood t s m h = go (checked t s) refl h
   where
-    go : (x : Checked) → checked t s ≡ x → decoded_of s x ≡ decodes m → Understood m
-    go (fails a) q g = let z : ◌≡◌ {A = ℕ} 0 1 = cc in absurd (omega arith)
-    go (passes l) q g =
+    go : (x : Result Layout Answer) → checked t s ≡ x → decoded_of s x ≡ Ok m → Understood m
+    go (Err a) q g = let z : ◌≡◌ {A = ℕ} 0 1 = cc in absurd (omega arith)
+    go (Ok l) q g =
         let e : message_of s l ≡ m = cc in
         let f = also-framed t s l q in
         let w = framed-lies t s l f.0 in
@@ -229,7 +230,7 @@ sane-opened t = record { bids = empty-sane Bids (kept t).depth; asks = empty-san
     none-low M1 = let e : checksum_of (rules_of (M M1)) (record { bids = []; asks = [] }) ≡ 0 = refl in omega arith
     none-low M2 = let e : checksum_of (rules_of (M M2)) (record { bids = []; asks = [] }) ≡ 0 = refl in omega arith
 
-module _ (p : Reference) (s : List ℕ) (m : Message) (q : decode p.config s ≡ decodes m) (a : Acceptable p m) (g : good p.config ≡ true) (h : Sane p) where
+module _ (p : Reference) (s : List ℕ) (m : Message) (q : decode p.config s ≡ Ok m) (a : Acceptable p m) (g : good p.config ≡ true) (h : Sane p) where
   u : Understood m
   u = understood p.config s m q
 
@@ -410,10 +411,10 @@ module _ (t : Config) (p : Reference) (r : Reached t p) (h : Sane p) (g : good t
         open-status : (opened t).status ≡ waiting
         open-status = rw g
 
-    read_back : decode t (snapshot_text p) ≡ decodes (snapshot_of p edits c) → Agrees c (checksum_of (rules_of t.dialect) p.last.sides) → ReadsBack t p
+    read_back : decode t (snapshot_text p) ≡ Ok (snapshot_of p edits c) → Agrees c (checksum_of (rules_of t.dialect) p.last.sides) → ReadsBack t p
     unfolding taken snapshot_of is_snapshot
     read_back q x =
-        let q' : decode (opened t).config (snapshot_text p) ≡ decodes (snapshot_of p edits c) = subst (λ (y : Config). decode y (snapshot_text p) ≡ decodes (snapshot_of p edits c)) (sym open-terms) q in
+        let q' : decode (opened t).config (snapshot_text p) ≡ Ok (snapshot_of p edits c) = subst (λ (y : Config). decode y (snapshot_text p) ≡ Ok (snapshot_of p edits c)) (sym open-terms) q in
         let e = acceptable-taken (opened t) (snapshot_text p) (snapshot_of p edits c) q' (acceptable-back x) in
         record {
           answer = ap (λ (y : After). y.answer) e;
@@ -442,7 +443,7 @@ module _ (t : Config) (p : Reference) (r : Reached t p) (h : Sane p) (g : good t
       let w = k-round-trip t.depth t.name p.last.sides.bids p.last.sides.asks g' (back-fine t g Bids p.last.sides.bids at-bids) (back-fine t g Asks p.last.sides.asks at-asks) in
       let n : p.last.number ≡ 0 = r.number (ap (λ (x : Config). x.dialect) (sym r.config ∙ same-terms) ∙ e) in
       let x : snapshot_text p ≡ k_snapshot t.depth t.name p.last.sides.bids p.last.sides.asks = text-in K e ∙ ap (λ (y : Config). k_snapshot y.depth y.name p.last.sides.bids p.last.sides.asks) same-terms in
-      let q : decode t (snapshot_text p) ≡ decodes (snapshot_of p (map (setting Asks) asks ++ map (setting Bids) bids) unprinted) = ap₂ decode (sym i) x ∙ w ∙ rw n in
+      let q : decode t (snapshot_text p) ≡ Ok (snapshot_of p (map (setting Asks) asks ++ map (setting Bids) bids) unprinted) = ap₂ decode (sym i) x ∙ w ∙ rw n in
       read_back (map (setting Asks) asks ++ map (setting Bids) bids) (asks-first bids asks) unprinted q (carries_none refl)
 
   m-back : (v : Edition) → t.dialect ≡ M v → ReadsBack t p
@@ -458,7 +459,7 @@ module _ (t : Config) (p : Reference) (r : Reached t p) (h : Sane p) (g : good t
       let low = h.low v (ap (λ (x : Config). x.dialect) same-terms ∙ e) in
       let w = m-round-trip v t.name p.last.sides.bids p.last.sides.asks sum p.last.number g' (back-fine t g Bids p.last.sides.bids at-bids) (back-fine t g Asks p.last.sides.asks at-asks) low h.small in
       let x : snapshot_text p ≡ m_snapshot t.name p.last.sides.bids p.last.sides.asks sum p.last.number = text-in (M v) e ∙ ap (λ (y : Config). m_snapshot y.name p.last.sides.bids p.last.sides.asks sum p.last.number) same-terms in
-      let q : decode t (snapshot_text p) ≡ decodes (snapshot_of p (map (setting Bids) bids ++ map (setting Asks) asks) (printed sum)) = ap₂ decode (sym j) x ∙ w in
+      let q : decode t (snapshot_text p) ≡ Ok (snapshot_of p (map (setting Bids) bids ++ map (setting Asks) asks) (printed sum)) = ap₂ decode (sym j) x ∙ w in
       read_back (map (setting Bids) bids ++ map (setting Asks) asks) (bids-first bids asks) (printed sum) q (the_same (ap (λ (x : Dialect). printed (checksum_of (rules_of x) p.last.sides)) (sym e)))
 
   pub either-back : ReadsBack t p

@@ -1,6 +1,7 @@
 -- What a message carries: every message but a snapshot of K's a checksum, and none of K's a sequence number.
 -- Assumes nothing.
-use Rattle.std.specs.Prelude.{None, Option, Some}
+use Rattle.answer.specs.declared.Answer.{Answer}
+use Rattle.std.specs.Prelude.{None, Option, Some, Err, Ok, Result}
 use mathlib.Core.Path.{◌≡◌, refl}
 use mathlib.Core.List.{List}
 use mathlib.Core.Bool.{Bool, true, false, cond}
@@ -22,7 +23,7 @@ use Rattle.layout.specs.declared.Kind.TheVariants.{Snapshot, Update}
 use Rattle.layout.specs.Layout.{is_snapshot as is_snapshot_l, Printed, printed, unprinted, Layout, Envelope, entries_in, laid}
 use Rattle.message_k.specs.LayoutK.{Frame, frame_of, together, is_snapshot, is_update, entries_k, objects_layout, layout_k, envelope_k}
 use Rattle.message_m.specs.LayoutM.{kind_at, layout_m, linked_to, layout_in, envelope_m}
-use Rattle.message.specs.Meaning.{Message, decodes, decode, Checked, fails, passes, envelope_in, checked, decoded_of, message_of}
+use Rattle.message.specs.Meaning.{Message, decode, envelope_in, checked, decoded_of, message_of}
 use Rattle.reference.specs.Claims.{Carries}
 use Rattle.reference.proofs.Checks.{Refusals, Read, Either, checked-either}
 
@@ -124,13 +125,13 @@ heard-carries Unknown t s a = tt
 
 -- ---- the message
 
-pub said-carries : (t : Config) (s : List ℕ) (m : Message) → decode t s ≡ decodes m → Carries t.dialect m.kind m.checksum m.number
+pub said-carries : (t : Config) (s : List ℕ) (m : Message) → decode t s ≡ Ok m → Carries t.dialect m.kind m.checksum m.number
 unfolding decode decoded_of message_of
 said-carries t s m h = go (checked t s) (checked-either (λ a. Unit {0}) (Carrying t.dialect) none t s (heard-carries t.dialect t s (top s))) h
   where
     none : Refusals (λ a. Unit {0})
     none = record { long = tt; not-json = tt; not_ours = tt; layout = tt; entries = tt; decimal = tt }
 
-    go : (x : Checked) → Either (λ a. Unit {0}) (Carrying t.dialect) x → decoded_of s x ≡ decodes m → Carries t.dialect m.kind m.checksum m.number
-    go (passes l) r g = let e : message_of s l ≡ m = cc in rw (← e) r
-    go (fails a) r g = let z : ◌≡◌ {A = ℕ} 0 1 = cc in absurd (omega arith)
+    go : (x : Result Layout Answer) → Either (λ a. Unit {0}) (Carrying t.dialect) x → decoded_of s x ≡ Ok m → Carries t.dialect m.kind m.checksum m.number
+    go (Ok l) r g = let e : message_of s l ≡ m = cc in rw (← e) r
+    go (Err a) r g = let z : ◌≡◌ {A = ℕ} 0 1 = cc in absurd (omega arith)

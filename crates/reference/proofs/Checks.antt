@@ -1,6 +1,6 @@
 -- What holds of every answer of the checks 2 to 8, and of every layout that passes them, holds of what they give.
 -- Assumes nothing.
-use Rattle.std.specs.Prelude.{None, Option, Some}
+use Rattle.std.specs.Prelude.{None, Option, Some, Err, Ok, Result}
 use mathlib.Core.List.{List, [], ◌∷◌}
 use mathlib.Core.Bool.{Bool, true, false, cond}
 use Prim.Native.Nat.{ℕ}
@@ -11,7 +11,7 @@ use Rattle.settings.specs.Settings.{Config}
 use Rattle.settings.specs.Rules.{rules_of}
 use Rattle.entries.specs.Places.{top}
 use Rattle.layout.specs.Layout.{Layout, Envelope}
-use Rattle.message.specs.Meaning.{Checked, fails, passes, too_many, counted, laid_out, addressed, envelope_in, framed, bad, decimals, also_decimals, checked}
+use Rattle.message.specs.Meaning.{too_many, counted, laid_out, addressed, envelope_in, framed, bad, decimals, also_decimals, checked}
 use Rattle.answer.specs.declared.Answer.{Answer}
 use Rattle.answer.specs.declared.Answer.TheVariants.{TooLong, NotJson, NotOurs, BadLayout, TooManyEntries, BadDecimal}
 
@@ -28,16 +28,16 @@ abbrev pub Read : {A : Type 0} → (A → Type 0) → Option A → Type 0
 Read P (Some a) = P a
 Read P None = Unit {0}
 
-abbrev pub Either : (Answer → Type 0) → (Layout → Type 0) → Checked → Type 0
-Either F P (fails a) = F a
-Either F P (passes l) = P l
+abbrev pub Either : (Answer → Type 0) → (Layout → Type 0) → Result Layout Answer → Type 0
+Either F P (Err a) = F a
+Either F P (Ok l) = P l
 
 module _ (F : Answer → Type 0) (P : Layout → Type 0) (f : Refusals F) where
   laid-either : (most : ℕ) (x : Option Layout) → Read P x → Either F P (laid_out most x)
   unfolding laid_out counted
   laid-either most (Some l) h = at (too_many most l)
     where
-      at : (b : Bool) → Either F P (cond b (fails TooManyEntries) (passes l))
+      at : (b : Bool) → Either F P (cond b (Err TooManyEntries) (Ok l))
       at true = f.entries
       at false = h
   laid-either most None h = f.layout
@@ -46,7 +46,7 @@ module _ (F : Answer → Type 0) (P : Layout → Type 0) (f : Refusals F) where
   unfolding addressed
   addressed-either most (Some h) r = at h.ours
     where
-      at : (b : Bool) → Either F P (cond b (laid_out most h.layout) (fails NotOurs))
+      at : (b : Bool) → Either F P (cond b (laid_out most h.layout) (Err NotOurs))
       at true = laid-either most h.layout r
       at false = f.not_ours
   addressed-either most None r = f.not_ours
@@ -55,17 +55,17 @@ module _ (F : Answer → Type 0) (P : Layout → Type 0) (f : Refusals F) where
   unfolding framed
   framed-either t s r = at (ltb (rules_of t.dialect).longest (length s)) (text s)
     where
-      at : (a b : Bool) → Either F P (cond a (fails TooLong) (cond b (addressed (rules_of t.dialect).entries (envelope_in t.dialect t s (top s))) (fails NotJson)))
+      at : (a b : Bool) → Either F P (cond a (Err TooLong) (cond b (addressed (rules_of t.dialect).entries (envelope_in t.dialect t s (top s))) (Err NotJson)))
       at true b = f.long
       at false true = addressed-either (rules_of t.dialect).entries (envelope_in t.dialect t s (top s)) r
       at false false = f.not-json
 
-  decimals-either : (s : List ℕ) (x : Checked) → Either F P x → Either F P (also_decimals s x)
+  decimals-either : (s : List ℕ) (x : Result Layout Answer) → Either F P x → Either F P (also_decimals s x)
   unfolding also_decimals decimals
-  decimals-either s (fails a) h = h
-  decimals-either s (passes l) h = at (bad s l)
+  decimals-either s (Err a) h = h
+  decimals-either s (Ok l) h = at (bad s l)
     where
-      at : (x : List Span) → Either F P (elim x [ [] ↦ passes l | a ∷ rest ↦ fails BadDecimal ])
+      at : (x : List Span) → Either F P (elim x [ [] ↦ Ok l | a ∷ rest ↦ Err BadDecimal ])
       at [] = h
       at (a ∷ x) = f.decimal
 

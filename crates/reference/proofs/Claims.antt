@@ -1,5 +1,6 @@
 -- The claims that `specs/Claims` states, under the same names.
 -- Assumes nothing.
+use Rattle.std.specs.Prelude.{Ok}
 use mathlib.Core.Path.{◌≡◌, refl, sym, ap, ap₂, ◌∙◌}
 use mathlib.Core.List.{List, [], ◌∷◌, ◌++◌}
 use mathlib.Core.Bool.{Bool, true, false, true≢false, cond, or-false}
@@ -7,7 +8,7 @@ use Prim.Native.Nat.{ℕ}
 use Rattle.settings.specs.Settings.{Config, kept, good}
 use Rattle.answer.specs.Answers.{answer_number, one_of, to_messages, to_questions, is_taken, leaves_status}
 use Rattle.answer.proofs.Laws.{not_taken, other-answer}
-use Rattle.message.specs.Meaning.{Message, decodes, decode}
+use Rattle.message.specs.Meaning.{Message, decode}
 use Rattle.answer.specs.declared.Answer.TheVariants.{Taken}
 use Rattle.reference.specs.Reference.{Status, shut, waiting, live, is_shut, is_live, Reference, opened, taken_by, After, amount, receive, Question, how_many, level_at, which_number, how_many_updates, write, zeros, Response, respond, refusal, replied, Reply, Ask, message, question, does, Call, replies_to, final, with_status}
 use lib.ListN.{length}
@@ -114,11 +115,11 @@ demand-2 p s =
       moved = λ m q h. ap (λ (x : After). x.moved) (taken_then m q h (outcome p s));
     }
   where
-    taken-when : (receive p s).answer ≡ Taken → Outcome p s → (m : Message) × (decode p.config s ≡ decodes m) × Acceptable p m
+    taken-when : (receive p s).answer ≡ Taken → Outcome p s → (m : Message) × (decode p.config s ≡ Ok m) × Acceptable p m
     taken-when h (is-refused n l k e none) = absurd (not_taken (receive p s).answer n h)
     taken-when h (is-accepted m q a e) = (m, q, a)
 
-    taken_then : (m : Message) → decode p.config s ≡ decodes m → (receive p s).answer ≡ Taken → Outcome p s → receive p s ≡ taken_by p m
+    taken_then : (m : Message) → decode p.config s ≡ Ok m → (receive p s).answer ≡ Taken → Outcome p s → receive p s ≡ taken_by p m
     taken_then m q h (is-refused n l k e none) = absurd (not_taken (receive p s).answer n h)
     taken_then m q h (is-accepted n r a e) = let same : n ≡ m = cc in e ∙ ap (taken_by p) same
 
@@ -135,7 +136,7 @@ opened-ready t m u k = restarts (at (good t) u) k
     at true h = refl
     at false h = absurd (true≢false h)
 
-module _ (t : Config) (p : Reference) (r : Reached t p) (s : List ℕ) (m : Message) (q : decode (kept t) s ≡ decodes m) (k : m.kind ≡ Snapshot) where
+module _ (t : Config) (p : Reference) (r : Reached t p) (s : List ℕ) (m : Message) (q : decode (kept t) s ≡ Ok m) (k : m.kind ≡ Snapshot) where
   hear-new : Acceptable p m → receive p s ≡ receive (opened t) s
   unfolding opened
   hear-new a =
@@ -153,7 +154,7 @@ module _ (t : Config) (p : Reference) (r : Reached t p) (s : List ℕ) (m : Mess
       go (is-accepted n d a e) = let same : n ≡ m = cc (sym r.config) in hear-new (rw same at a)
 
 -- the replies from the snapshot on are a new book's
-pub fresh-replies : (t : Config) (cs ds : List Call) (s buffer : List ℕ) (m : Message) → decode (kept t) s ≡ decodes m → m.kind ≡ Snapshot
+pub fresh-replies : (t : Config) (cs ds : List Call) (s buffer : List ℕ) (m : Message) → decode (kept t) s ≡ Ok m → m.kind ≡ Snapshot
     → (receive (final (opened t) cs) s).answer ≡ Taken → replies_to (final (opened t) cs) (call (message s) buffer ∷ ds) ≡ replies_to (opened t) (call (message s) buffer ∷ ds)
 unfolding replies_to does
 fresh-replies t cs ds s buffer m q k h = rw (hear-fresh t (final (opened t) cs) (reached t cs) s m q k h)
@@ -218,7 +219,7 @@ needs-snapshot p m h a = go a.ready
     go (when_live e) = absurd (true≢false (sym (is-live-true p.status e) ∙ h))
     go (restarts e k) = k
 
-no-update : (p : Reference) (s : List ℕ) (m : Message) → is_live p.status ≡ false → decode p.config s ≡ decodes m → m.kind ≡ Update → (receive p s).answer ≡ Taken → ⊥
+no-update : (p : Reference) (s : List ℕ) (m : Message) → is_live p.status ≡ false → decode p.config s ≡ Ok m → m.kind ≡ Update → (receive p s).answer ≡ Taken → ⊥
 no-update p s m h q k t = go (outcome p s)
   where
     go : Outcome p s → ⊥

@@ -1,6 +1,6 @@
 -- What a reference book does with a message: it refuses it and keeps all but its status, or takes it, and takes it exactly when it is acceptable.
 -- Assumes nothing.
-use Rattle.std.specs.Prelude.{None, Option, Some}
+use Rattle.std.specs.Prelude.{None, Option, Some, Err, Ok, Result}
 use mathlib.Core.Path.{◌≡◌, refl, sym, ap, ap₂, ◌∙◌}
 use mathlib.Core.List.{List, [], ◌∷◌}
 use mathlib.Core.Bool.{Bool, true, false, true≢false, false≢true, ◌&&◌, ◌||◌, not, cond}
@@ -18,7 +18,7 @@ use Rattle.entries.specs.Places.{top}
 use Rattle.layout.specs.declared.Kind.TheVariants.{Update}
 use Rattle.layout.specs.Layout.{is_snapshot, Printed, printed, unprinted, Layout, Envelope}
 use Rattle.answer.specs.Answers.{answer_number, one_of, to_messages, is_taken, leaves_status}
-use Rattle.message.specs.Meaning.{Message, Decoded, refuses, decodes, decode, Checked, fails, passes, envelope_in, checked, decoded_of}
+use Rattle.message.specs.Meaning.{Message, decode, envelope_in, checked, decoded_of}
 use Rattle.answer.specs.declared.Answer.{Answer}
 use Rattle.answer.specs.declared.Answer.TheVariants.{Taken, Shut, PriceTwice, NoSnapshot, OldNumber, TooManyLevels, WrongChecksum, Crossed}
 use Rattle.reference.specs.Reference.{Status, shut, waiting, live, is_shut, is_live, Sides, Reference, rules, checksum_of, edits_for, prices_of, names_price_twice, lacks_snapshot, is_old, has_too_many, has_crossed, differs, has_wrong_checksum, sides_after, verdict, with_status, taken_by, refused_by, answered, received, receive}
@@ -32,7 +32,7 @@ use Rattle.reference.specs.Claims.{Ready, when_live, restarts, Agrees, carries_n
 refusal : Answer → Bool
 refusal a = not (is_taken a) && one_of to_messages (answer_number a)
 
-said-refusal : (t : Config) (s : List ℕ) (a : Answer) → decode t s ≡ refuses a → refusal a ≡ true
+said-refusal : (t : Config) (s : List ℕ) (a : Answer) → decode t s ≡ Err a → refusal a ≡ true
 unfolding decode decoded_of refusal is_taken answer_number one_of
 said-refusal t s a h = go (checked t s) (checked-either F (λ l. Unit {0}) every t s (any (envelope_in t.dialect t s (top s)))) h
   where
@@ -50,9 +50,9 @@ said-refusal t s a h = go (checked t s) (checked-either F (λ l. Unit {0}) every
     any (Some k) = any-layout k.layout
     any None = tt
 
-    go : (x : Checked) → Either F (λ l. Unit {0}) x → decoded_of s x ≡ refuses a → refusal a ≡ true
-    go (fails b) r g = let e : b ≡ a = cc in rw e at r
-    go (passes l) r g = let z : ◌≡◌ {A = ℕ} 0 1 = cc in absurd (omega arith)
+    go : (x : Result Layout Answer) → Either F (λ l. Unit {0}) x → decoded_of s x ≡ Err a → refusal a ≡ true
+    go (Err b) r g = let e : b ≡ a = cc in rw e at r
+    go (Ok l) r g = let z : ◌≡◌ {A = ℕ} 0 1 = cc in absurd (omega arith)
 
 refusal-other : (a : Answer) → refusal a ≡ true → is_taken a ≡ false
 unfolding refusal
@@ -224,7 +224,7 @@ status_after a status = cond (leaves_status a) status waiting
 pub data Outcome (p : Reference) (s : List ℕ) : Type 0 where
   is-refused : is_taken (receive p s).answer ≡ false → one_of to_messages (answer_number (receive p s).answer) ≡ true → is_shut (status_after (receive p s).answer p.status) ≡ is_shut p.status
       → (receive p s).book ≡ with_status (status_after (receive p s).answer p.status) p → (receive p s).moved ≡ 0 → Outcome p s
-  is-accepted : (m : Message) → decode p.config s ≡ decodes m → Acceptable p m → receive p s ≡ taken_by p m → Outcome p s
+  is-accepted : (m : Message) → decode p.config s ≡ Ok m → Acceptable p m → receive p s ≡ taken_by p m → Outcome p s
 
 refused-book : (p : Reference) (a : Answer) → (refused_by p a).book ≡ with_status (status_after a p.status) p
 unfolding refused_by with_status status_after
@@ -247,7 +247,7 @@ module _ (p : Reference) (s : List ℕ) where
   unfolding refused_by
   refusing a h k e = is-refused (rw e (refusal-other a h)) (rw e (refusal-number a h)) (rw e k) (rw e (refused-book p a)) (rw e)
 
-  pub acceptable-taken : (m : Message) → decode p.config s ≡ decodes m → Acceptable p m → receive p s ≡ taken_by p m
+  pub acceptable-taken : (m : Message) → decode p.config s ≡ Ok m → Acceptable p m → receive p s ≡ taken_by p m
   unfolding receive received answered is_taken answer_number
   acceptable-taken m q a = rw (ready-open p m a.ready, q, receive, received, acceptable-verdict p m a, answered, is_taken, answer_number)
 
@@ -259,13 +259,13 @@ module _ (p : Reference) (s : List ℕ) where
   unfolding receive received answered
   outcome = open-or-shut (is_shut p.status) refl
     where
-      weighed : (m : Message) → is_shut p.status ≡ false → decode p.config s ≡ decodes m → (b : Bool) → is_taken (verdict p m) ≡ b → Outcome p s
+      weighed : (m : Message) → is_shut p.status ≡ false → decode p.config s ≡ Ok m → (b : Bool) → is_taken (verdict p m) ≡ b → Outcome p s
       weighed m u q true h = let a = verdict-acceptable p m u h in is-accepted m q a (acceptable-taken m q a)
       weighed m u q false h = refusing (verdict p m) (verdict-refusal p m h) (stays_open (verdict p m) p.status u) (rw (u, q, receive, received, answered, h))
 
-      by-text : is_shut p.status ≡ false → (x : Decoded) → decode p.config s ≡ x → Outcome p s
-      by-text u (refuses a) q = refusing a (said-refusal p.config s a q) (stays_open a p.status u) (rw (u, q, receive, received))
-      by-text u (decodes m) q = weighed m u q (is_taken (verdict p m)) refl
+      by-text : is_shut p.status ≡ false → (x : Result Message Answer) → decode p.config s ≡ x → Outcome p s
+      by-text u (Err a) q = refusing a (said-refusal p.config s a q) (stays_open a p.status u) (rw (u, q, receive, received))
+      by-text u (Ok m) q = weighed m u q (is_taken (verdict p m)) refl
 
       open-or-shut : (b : Bool) → is_shut p.status ≡ b → Outcome p s
       open-or-shut true u = shut_out u

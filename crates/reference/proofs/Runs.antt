@@ -1,5 +1,6 @@
 -- Lists of calls on a reference book: what every book that is reached has, and which messages made it.
 -- Assumes nothing.
+use Rattle.std.specs.Prelude.{Err, Ok, Result}
 use mathlib.Core.Path.{◌≡◌, refl, sym, ap, ◌∙◌}
 use mathlib.Core.List.{List, [], ◌∷◌, ◌++◌}
 use mathlib.Core.Bool.{Bool, true, false, true≢false, false≢true, ◌||◌, cond, or-true, or_assoc, or_comm}
@@ -9,7 +10,7 @@ use Rattle.answer.proofs.Laws.{is-taken}
 use Rattle.settings.specs.Settings.{Config, kept, good}
 use Rattle.settings.specs.declared.Dialect.TheVariants.{K}
 use Rattle.answer.specs.Answers.{is_taken, leaves_status}
-use Rattle.message.specs.Meaning.{Message, Decoded, refuses, decodes, decode}
+use Rattle.message.specs.Meaning.{Message, decode}
 use Rattle.answer.specs.declared.Answer.{Answer}
 use Rattle.answer.specs.declared.Answer.TheVariants.{Taken}
 use Rattle.reference.specs.Reference.{Status, shut, waiting, live, is_shut, is_live, Reference, opened, sides_after, levels_moved, taken, After, receive, Reply, Ask, message, question, does, replied, Call, replies_to, final, with_status}
@@ -25,17 +26,17 @@ use Rattle.reference.proofs.Outcome.{status_after, Outcome, is-refused, is-accep
 pub data Steps (p : Reference) (ask : Ask) : Reference → Type 0 where
   stays : {q : Reference} (status : Status) → is_shut status ≡ is_shut p.status → (is_live status ≡ true → is_live p.status ≡ true)
       → taken_in p ask ≡ [] → q ≡ with_status status p → Steps p ask q
-  moves : {q : Reference} (s : List ℕ) (m : Message) → decode p.config s ≡ decodes m → Acceptable p m → taken_in p ask ≡ m ∷ [] → q ≡ taken p m → Steps p ask q
+  moves : {q : Reference} (s : List ℕ) (m : Message) → decode p.config s ≡ Ok m → Acceptable p m → taken_in p ask ≡ m ∷ [] → q ≡ taken p m → Steps p ask q
 
 refused-live : (b : Bool) (s : Status) → is_live (cond b s waiting) ≡ true → is_live s ≡ true
 unfolding is_live
 refused-live true s h = h
 refused-live false s h = absurd (false≢true h)
 
-none-taken : (a : Answer) (x : Decoded) → is_taken a ≡ false → if_answered a x ≡ []
+none-taken : (a : Answer) (x : Result Message Answer) → is_taken a ≡ false → if_answered a x ≡ []
 unfolding if_answered
-none-taken a (refuses b) h = refl
-none-taken a (decodes m) h = rw h
+none-taken a (Err b) h = refl
+none-taken a (Ok m) h = rw h
 
 pub steps : (p : Reference) (ask : Ask) (buffer : List ℕ) → Steps p ask (does p ask buffer).after
 unfolding does replied taken_in with_status status_after if_answered is_taken
@@ -56,7 +57,7 @@ pub record Reached (t : Config) (p : Reference) : Type 0 where
   pub uncrossed : Uncrossed p.last.sides
   pub number : (kept t).dialect ≡ K → p.last.number ≡ 0
 
-reached-taken : (t : Config) (p : Reference) (s : List ℕ) (m : Message) → decode p.config s ≡ decodes m → Acceptable p m → Reached t p → Reached t (taken p m)
+reached-taken : (t : Config) (p : Reference) (s : List ℕ) (m : Message) → decode p.config s ≡ Ok m → Acceptable p m → Reached t p → Reached t (taken p m)
 unfolding taken is_shut is_live
 reached-taken t p s m q a r =
     record {

@@ -1,5 +1,5 @@
 -- A shut book answers 1 to every call, and no other book ever does. Assumes nothing.
-use Rattle.std.specs.Prelude.{None, Option, Some}
+use Rattle.std.specs.Prelude.{None, Option, Some, Err, Ok, Result}
 use mathlib.Core.Path.{◌≡◌, refl, sym, ap, ◌∙◌}
 use mathlib.Core.List.{List}
 use mathlib.Core.Bool.{Bool, true, false, true≢false, cond}
@@ -11,7 +11,7 @@ use Rattle.settings.specs.Settings.{Config}
 use Rattle.entries.specs.Places.{top}
 use Rattle.layout.specs.Layout.{Layout, Envelope}
 use Rattle.answer.specs.Answers.{answer_number, is_taken}
-use Rattle.message.specs.Meaning.{Message, Decoded, refuses, decodes, decode, Checked, fails, passes, envelope_in, checked, decoded_of}
+use Rattle.message.specs.Meaning.{Message, decode, envelope_in, checked, decoded_of}
 use Rattle.answer.specs.declared.Answer.{Answer}
 use Rattle.answer.specs.declared.Answer.TheVariants.{Taken, Shut, PriceTwice, NoSnapshot, OldNumber, TooManyLevels, WrongChecksum, Crossed}
 use Rattle.reference.specs.Reference.{is_shut, Reference, opened, names_price_twice, lacks_snapshot, is_old, has_too_many, has_crossed, has_wrong_checksum, verdict, taken_by, refused_by, answered, received, receive, stands, Response, respond, refusal, replied, Ask, message, question, does, final}
@@ -37,7 +37,7 @@ shut-answers p (question q) buffer u = rw u
 
 -- ---- one that is not
 
-decoded-other : (t : Config) (s : List ℕ) (a : Answer) → decode t s ≡ refuses a → Other a
+decoded-other : (t : Config) (s : List ℕ) (a : Answer) → decode t s ≡ Err a → Other a
 unfolding decode decoded_of Other answer_number
 decoded-other t s a h = go (checked t s) (checked-either Other (λ l. Unit {0}) every t s (any (envelope_in t.dialect t s (top s)))) h
   where
@@ -52,9 +52,9 @@ decoded-other t s a h = go (checked t s) (checked-either Other (λ l. Unit {0}) 
     any (Some k) = any-layout k.layout
     any None = tt
 
-    go : (x : Checked) → Either Other (λ l. Unit {0}) x → decoded_of s x ≡ refuses a → Other a
-    go (fails b) r g = let e : b ≡ a = cc in rw e at r
-    go (passes l) r g = let z : ◌≡◌ {A = ℕ} 0 1 = cc in absurd (omega arith)
+    go : (x : Result Layout Answer) → Either Other (λ l. Unit {0}) x → decoded_of s x ≡ Err a → Other a
+    go (Err b) r g = let e : b ≡ a = cc in rw e at r
+    go (Ok l) r g = let z : ◌≡◌ {A = ℕ} 0 1 = cc in absurd (omega arith)
 
 verdict-other : (p : Reference) (m : Message) → Other (verdict p m)
 unfolding verdict Other answer_number
@@ -73,9 +73,9 @@ received-other : (p : Reference) (s : List ℕ) → is_shut p.status ≡ false �
 unfolding receive received answered refused_by Other answer_number
 received-other p s u = rw (u, receive) (go (decode p.config s) refl)
   where
-    go : (x : Decoded) → decode p.config s ≡ x → Other (received p x).answer
-    go (refuses a) q = decoded-other p.config s a q
-    go (decodes m) q = at m (is_taken (verdict p m))
+    go : (x : Result Message Answer) → decode p.config s ≡ x → Other (received p x).answer
+    go (Err a) q = decoded-other p.config s a q
+    go (Ok m) q = at m (is_taken (verdict p m))
       where
         at : (m : Message) (b : Bool) → Other (cond b (taken_by p m) (refused_by p (verdict p m))).answer
         at m true = refl

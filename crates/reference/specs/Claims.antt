@@ -1,6 +1,6 @@
 -- What is claimed of reference books, as statements; `proofs/Claims` proves each under its own name. No code enters here: the contracts say that the
 -- code's book shows a reference book at every step. Assumes nothing: these are definitions.
-use Rattle.std.specs.Prelude.{ℕ, ◌≤◌, ◌<◌, ◌≡◌, Bool, true, false, ◌&&◌, ◌||◌, cond, List, [], ◌∷◌, ◌++◌, length}
+use Rattle.std.specs.Prelude.{ℕ, ◌≤◌, ◌<◌, ◌≡◌, Bool, true, false, ◌&&◌, ◌||◌, cond, List, [], ◌∷◌, ◌++◌, length, Err, Ok, Result}
 use Rattle.decimal.specs.Decimal.{value}
 use Rattle.settings.specs.Settings.{Config, good, kept}
 use Rattle.settings.specs.declared.Dialect.{Dialect}
@@ -12,7 +12,7 @@ use Rattle.layout.specs.Layout.{is_snapshot, Printed, printed, unprinted}
 use Rattle.layout.specs.declared.Kind.{Kind}
 use Rattle.layout.specs.declared.Kind.TheVariants.{Snapshot, Update}
 use Rattle.answer.specs.Answers.{answer_number as number_of, one_of, to_messages, to_questions, is_taken, leaves_status}
-use Rattle.message.specs.Meaning.{Message, Decoded, refuses, decodes, decode}
+use Rattle.message.specs.Meaning.{Message, decode}
 use Rattle.answer.specs.declared.Answer.{Answer}
 use Rattle.answer.specs.declared.Answer.TheVariants.{Taken, Shut, NoSnapshot}
 use Rattle.reference.specs.Reference.{waiting, live, with_status, Sides, Reference, rules, is_shut, is_live, opened, edits_for, sides_after, levels_moved, prices_of, checksum_of, taken, receive, Question, write, zeros, respond, Reply, Ask, message, question, does, Call, replies_to, final, snapshot_text}
@@ -83,11 +83,11 @@ pub record Acceptable (p : Reference) (m : Message) : Type 0 where
   pub checksum : Agrees m.checksum (checksum_of (rules p) (sides_after p m))
 
 pub record Demand2 (p : Reference) (s : List ℕ) : Type 0 where
-  pub only_when : (receive p s).answer ≡ Taken → (m : Message) × (decode p.config s ≡ decodes m) × Acceptable p m
-  pub when : (m : Message) → decode p.config s ≡ decodes m → Acceptable p m → (receive p s).answer ≡ Taken
-  pub then : (m : Message) → decode p.config s ≡ decodes m → (receive p s).answer ≡ Taken → (receive p s).book ≡ taken p m
+  pub only_when : (receive p s).answer ≡ Taken → (m : Message) × (decode p.config s ≡ Ok m) × Acceptable p m
+  pub when : (m : Message) → decode p.config s ≡ Ok m → Acceptable p m → (receive p s).answer ≡ Taken
+  pub then : (m : Message) → decode p.config s ≡ Ok m → (receive p s).answer ≡ Taken → (receive p s).book ≡ taken p m
   -- It moved as many levels as its entries do.
-  pub moved : (m : Message) → decode p.config s ≡ decodes m → (receive p s).answer ≡ Taken → (receive p s).moved ≡ levels_moved p m
+  pub moved : (m : Message) → decode p.config s ≡ Ok m → (receive p s).answer ≡ Taken → (receive p s).moved ≡ levels_moved p m
 
 abbrev pub SecondDemand : Type 0
 SecondDemand = (p : Reference) (s : List ℕ) → Demand2 p s
@@ -99,7 +99,7 @@ pub record Carries (d : Dialect) (kind : Kind) (checksum : Printed) (sequence : 
   pub number : d ≡ K → sequence ≡ 0
 
 abbrev pub AllCompared : Type 0
-AllCompared = (t : Config) (s : List ℕ) (m : Message) → decode t s ≡ decodes m → Carries t.dialect m.kind m.checksum m.number
+AllCompared = (t : Config) (s : List ℕ) (m : Message) → decode t s ≡ Ok m → Carries t.dialect m.kind m.checksum m.number
 
 -- ---- demand 3, of lists of calls
 
@@ -109,14 +109,14 @@ call ask buffer = record { ask = ask; buffer = buffer }
 -- From any taken snapshot on, every reply, with every byte of buffer and the whole book afterwards, is what a new book with the same settings gives,
 -- handed that snapshot and what followed. Rules out a past that shows through a snapshot: an old level, number, count or gsn.
 abbrev pub FromSnapshot : Type 0
-FromSnapshot = (t : Config) (cs ds : List Call) (s buffer : List ℕ) (m : Message) → decode (kept t) s ≡ decodes m → m.kind ≡ Snapshot
+FromSnapshot = (t : Config) (cs ds : List Call) (s buffer : List ℕ) (m : Message) → decode (kept t) s ≡ Ok m → m.kind ≡ Snapshot
     → (receive (final (opened t) cs) s).answer ≡ Taken
     → replies_to (opened t) (cs ++ (call (message s) buffer ∷ ds)) ≡ replies_to (opened t) cs ++ replies_to (opened t) (call (message s) buffer ∷ ds)
 
 -- The messages that a list of calls has taken, in their order.
-unfoldable pub if_answered : Answer → Decoded → List Message
-if_answered a (refuses b) = []
-if_answered a (decodes m) = cond (is_taken a) (m ∷ []) []
+unfoldable pub if_answered : Answer → Result Message Answer → List Message
+if_answered a (Err b) = []
+if_answered a (Ok m) = cond (is_taken a) (m ∷ []) []
 
 unfoldable pub taken_in : Reference → Ask → List Message
 taken_in p (message s) = if_answered (receive p s).answer (decode p.config s)
@@ -185,7 +185,7 @@ prices p (c ∷ cs) =
 -- Rules out a price from a book that the venue's checksum, or anything else, has put in doubt.
 pub record NoPrice : Type 0 where
   -- A book that is not live takes no update.
-  pub update : (p : Reference) (s : List ℕ) (m : Message) → is_live p.status ≡ false → decode p.config s ≡ decodes m → m.kind ≡ Update
+  pub update : (p : Reference) (s : List ℕ) (m : Message) → is_live p.status ≡ false → decode p.config s ≡ Ok m → m.kind ≡ Update
       → (receive p s).answer ≡ Taken → ⊥
   pub not_live : (p : Reference) (cs : List Call) → is_live p.status ≡ false → any_snapshot (taken_of p cs) ≡ false → prices p cs ≡ []
   -- "Asked for one it answers 'no snapshot', or the refusal that the question's own order of checks puts before it."

@@ -1,6 +1,6 @@
 -- The reference book (document 01: "the plain book"): from the settings and what each call is given, what the book is and what it answers.
 -- Assumes nothing: these are definitions.
-use Rattle.std.specs.Prelude.{ℕ, ◌+◌, Bool, true, false, ◌&&◌, ◌||◌, not, cond, List, [], ◌∷◌, map, leb, ltb, eqb, length, take, get_or}
+use Rattle.std.specs.Prelude.{ℕ, ◌+◌, Bool, true, false, ◌&&◌, ◌||◌, not, cond, List, [], ◌∷◌, map, leb, ltb, eqb, length, take, get_or, Err, Ok, Result}
 use Rattle.decimal.specs.Decimal.{Number}
 use Rattle.decimal.specs.Buffer.{overlaid}
 use Rattle.settings.specs.Settings.{Config, good, kept}
@@ -20,7 +20,7 @@ use Rattle.crc32_spec.specs.Crc.{crc}
 use Rattle.checksum.specs.Text.{k_checksum_text, m_checksum_text}
 use Rattle.layout.specs.Layout.{is_snapshot, Printed, printed, unprinted}
 use Rattle.answer.specs.Answers.{is_taken, leaves_status}
-use Rattle.message.specs.Meaning.{SidedEdit, Message, Decoded, refuses, decodes, decode}
+use Rattle.message.specs.Meaning.{SidedEdit, Message, decode}
 use Rattle.answer.specs.declared.Answer.{Answer}
 use Rattle.answer.specs.declared.Answer.TheVariants.{Taken, Shut, PriceTwice, NoSnapshot, OldNumber, TooManyLevels, WrongChecksum, NoLevel, NoRoom, Crossed}
 use Rattle.writer.specs.Snapshot.{k_snapshot, m_snapshot}
@@ -182,9 +182,9 @@ taken_by p m = record { book = taken p m; answer = Taken; moved = levels_moved p
 unfoldable pub answered : Reference → Message → Answer → After
 answered p m a = cond (is_taken a) (taken_by p m) (refused_by p a)
 
-unfoldable pub received : Reference → Decoded → After
-received p (refuses a) = refused_by p a
-received p (decodes m) = answered p m (verdict p m)
+unfoldable pub received : Reference → Result Message Answer → After
+received p (Err a) = refused_by p a
+received p (Ok m) = answered p m (verdict p m)
 
 unfoldable pub receive : Reference → List ℕ → After
 receive p s = cond (is_shut p.status) (record { book = p; answer = Shut; moved = 0 }) (received p (decode p.config s))

@@ -1,13 +1,13 @@
 -- What is claimed of scripts, as statements; `proofs/Claims` proves each under its own name. The contract of `replay` is about the list of calls that
 -- a script stands for: these say that no list of calls is left out. Assumes nothing: these are definitions.
-use Rattle.std.specs.Prelude.{ℕ, ◌<◌, ◌^◌, ◌≡◌, List, [], ◌∷◌, ◌++◌, length}
+use Rattle.std.specs.Prelude.{ℕ, ◌<◌, ◌^◌, ◌≡◌, List, [], ◌∷◌, ◌++◌, length, Ok}
 use Rattle.crc32_spec.specs.Text.{Bytes}
 use Rattle.settings.specs.Settings.{Config, kept}
 use Rattle.level.specs.Ranked.{All}
 use Rattle.edit.specs.declared.Side.{Side}
 use Rattle.edit.specs.declared.Side.TheVariants.{Bids, Asks}
 use Rattle.layout.specs.declared.Kind.TheVariants.{Snapshot}
-use Rattle.message.specs.Meaning.{Message, decodes, decode}
+use Rattle.message.specs.Meaning.{Message, decode}
 use Rattle.answer.specs.declared.Answer.TheVariants.{Taken}
 use Rattle.reference.specs.declared.Scope.{Scope}
 use Rattle.reference.specs.declared.Scope.TheVariants.{Current, LastGood}
@@ -107,7 +107,7 @@ ReplayedList = (t : Config) (cs : List Call) (after : List ℕ) (calls : ℕ) �
 -- From a taken snapshot on, the replies are those of a book that was opened just before it.
 abbrev pub ReplayedSnapshot : Type 0
 ReplayedSnapshot = (t : Config) (cs ds : List Call) (s buffer : List ℕ) (m : Message) (after : List ℕ) (calls : ℕ) →
-    All Holds (cs ++ (call (message s) buffer ∷ ds)) → decode (kept t) s ≡ decodes m → m.kind ≡ Snapshot → (receive (final (opened t) cs) s).answer ≡ Taken →
+    All Holds (cs ++ (call (message s) buffer ∷ ds)) → decode (kept t) s ≡ Ok m → m.kind ≡ Snapshot → (receive (final (opened t) cs) s).answer ≡ Taken →
     Replayed t (script_of (cs ++ (call (message s) buffer ∷ ds))) (out_of (cs ++ (call (message s) buffer ∷ ds))) after calls →
     after ≡
     laid_in (replies_to (opened t) cs ++ replies_to (opened t) (call (message s) buffer ∷ ds)) (out_of (cs ++ (call (message s) buffer ∷ ds)))

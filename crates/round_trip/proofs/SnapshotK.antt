@@ -1,5 +1,5 @@
 -- K's snapshot is read back: its text is an array of four values, the second of which is an object with the two sides. Assumes nothing.
-use Rattle.std.specs.Prelude.{Some}
+use Rattle.std.specs.Prelude.{Some, Ok}
 use Prim.Native.Nat.{ℕ, ◌≤◌}
 use mathlib.Core.Path.{◌≡◌, refl, ap, ◌∙◌}
 use mathlib.Core.Bool.{true}
@@ -20,7 +20,7 @@ use Rattle.settings.specs.Rules.{rules_of}
 use Rattle.layout.specs.Layout.{unprinted, member_entries, entries_in, laid}
 use Rattle.layout.specs.declared.Kind.TheVariants.{Snapshot}
 use Rattle.message_k.specs.LayoutK.{Frame, frame_of, ours_k, times, together, is_snapshot, entries_k, objects_layout, layout_k, envelope_k}
-use Rattle.message.specs.Meaning.{SidedEdit, envelope_in, decode, decodes}
+use Rattle.message.specs.Meaning.{SidedEdit, envelope_in, decode}
 use Rattle.settings.specs.Settings.{Config, good}
 use Rattle.settings.specs.declared.Dialect.TheVariants.{K}
 use Rattle.edit.specs.Edit.{PriceLevel}
@@ -190,7 +190,7 @@ module _ (depth : ℕ) (name : List ℕ) (bids asks : List PriceLevel) (g : good
       (omega (arith, length-quoted name, name-short terms g))
 
   pub said-k : decode terms (k_snapshot depth name bids asks)
-      ≡ decodes (record { kind = Snapshot; edits = map (setting Asks) asks ++ map (setting Bids) bids; checksum = unprinted; number = 0; previous = 0 })
+      ≡ Ok (record { kind = Snapshot; edits = map (setting Asks) asks ++ map (setting Bids) bids; checksum = unprinted; number = 0; previous = 0 })
   unfolding envelope_in rules_of
   said-k =
       ap (decode terms) snapshot-spelled

@@ -1,5 +1,5 @@
 -- M's snapshot is read back: its text is an object of six members, one of which is an object with the two sides. Assumes nothing.
-use Rattle.std.specs.Prelude.{Some}
+use Rattle.std.specs.Prelude.{Some, Ok}
 use Prim.Native.Nat.{ℕ, ◌^◌, ◌≤◌, ◌<◌}
 use mathlib.Core.Path.{◌≡◌, refl, ap, ◌∙◌}
 use mathlib.Core.Bool.{true, false, Bool}
@@ -21,7 +21,7 @@ use Rattle.settings.specs.Rules.{is_linked, rules_of}
 use Rattle.layout.specs.Layout.{is_snapshot, printed, member_entries, entries_in, laid}
 use Rattle.layout.specs.declared.Kind.TheVariants.{Snapshot}
 use Rattle.message_m.specs.LayoutM.{some_means, ours_m, kind_at, layout_m, linked_to, layout_in, envelope_m}
-use Rattle.message.specs.Meaning.{SidedEdit, envelope_in, decode, decodes}
+use Rattle.message.specs.Meaning.{SidedEdit, envelope_in, decode}
 use Rattle.settings.specs.Settings.{Config, good}
 use Rattle.settings.specs.declared.Dialect.TheVariants.{M}
 use Rattle.settings.specs.declared.Edition.{Edition}
@@ -252,7 +252,7 @@ module _ (e : Edition) (name : List ℕ) (bids asks : List PriceLevel) (checksum
       (length-written 18 number few)
 
   pub said-m : decode terms (m_snapshot name bids asks checksum number)
-      ≡ decodes (record { kind = Snapshot; edits = map (setting Bids) bids ++ map (setting Asks) asks; checksum = printed checksum; number = number; previous = 0 })
+      ≡ Ok (record { kind = Snapshot; edits = map (setting Bids) bids ++ map (setting Asks) asks; checksum = printed checksum; number = number; previous = 0 })
   unfolding envelope_in rules_of
   said-m =
       ap (decode terms) snapshot-spelled

@@ -1,5 +1,5 @@
 -- A text that is one value as the writer writes it, heard as a snapshot of these levels, says this snapshot. Assumes nothing.
-use Rattle.std.specs.Prelude.{Option, Some}
+use Rattle.std.specs.Prelude.{Option, Some, Err, Ok}
 use Prim.Native.Nat.{ℕ, ◌+◌, ◌≤◌}
 use mathlib.Core.Path.{◌≡◌, refl, sym, ap, ◌∙◌, subst}
 use mathlib.Core.Bool.{Bool, true, false, cond}
@@ -20,7 +20,7 @@ use Rattle.entries.specs.Places.{top}
 use Rattle.entries.specs.Rows.{Entry}
 use Rattle.layout.specs.Layout.{is_snapshot, Printed, Layout, Envelope}
 use Rattle.layout.specs.declared.Kind.TheVariants.{Snapshot}
-use Rattle.message.specs.Meaning.{SidedEdit, fails, passes, decodes, too_many, counted, laid_out, addressed, envelope_in, framed, bad, decimals, also_decimals, checked, message_of, decoded_of, decode}
+use Rattle.message.specs.Meaning.{SidedEdit, too_many, counted, laid_out, addressed, envelope_in, framed, bad, decimals, also_decimals, checked, message_of, decoded_of, decode}
 use Rattle.answer.specs.declared.Answer.TheVariants.{TooManyEntries}
 use Rattle.edit.specs.Edit.{PriceLevel, is_same, for_side}
 use Rattle.edit.specs.declared.Side.{Side}
@@ -97,26 +97,26 @@ module _ (t : Config) (s : List ℕ) (short : length s ≤ (rules_of t.dialect).
   unfolding too_many l
   not-many = rw (few-for Bids, few-for Asks)
 
-  is_framed : framed t s ≡ passes l
+  is_framed : framed t s ≡ Ok l
   unfolding framed addressed laid_out counted l
-  is_framed = rw (le-ltb (rules_of t.dialect).longest (length s) short, text-yes s r) (ap (addressed (rules_of t.dialect).entries) h.is-heard ∙ ap (λ (b : Bool). cond b (fails TooManyEntries) (passes l)) not-many)
+  is_framed = rw (le-ltb (rules_of t.dialect).longest (length s) short, text-yes s r) (ap (addressed (rules_of t.dialect).entries) h.is-heard ∙ ap (λ (b : Bool). cond b (Err TooManyEntries) (Ok l)) not-many)
 
   no-bad : bad s l ≡ []
   unfolding bad l is_snapshot
   no-bad = none-bad h.carries
 
-  is-checked : checked t s ≡ passes l
+  is-checked : checked t s ≡ Ok l
   unfolding checked also_decimals decimals
   is-checked = ap (also_decimals s) is_framed ∙ rw (no-bad, decimals)
 
-  says-them : decode t s ≡ decodes (record { kind = Snapshot; edits = edits; checksum = sum; number = number; previous = 0 })
+  says-them : decode t s ≡ Ok (record { kind = Snapshot; edits = edits; checksum = sum; number = number; previous = 0 })
   unfolding decode decoded_of message_of l
   says-them = ap (decoded_of s) is-checked ∙ rw (edits-are h.carries)
 
 -- the same of a text that is a tree of values
 pub says-tree : (t : Config) (s tree : List ℕ) → s ≡ tree → length s ≤ (rules_of t.dialect).longest → Reads 16 tree → (edits : List SidedEdit) (sum : Printed) (number : ℕ)
     → ((a : Span) → Is s a tree → HeardAs s edits sum number (envelope_in t.dialect t s a)) → Few (rules_of t.dialect).entries edits
-    → decode t s ≡ decodes (record { kind = Snapshot; edits = edits; checksum = sum; number = number; previous = 0 })
+    → decode t s ≡ Ok (record { kind = Snapshot; edits = edits; checksum = sum; number = number; previous = 0 })
 says-tree t s tree e short r edits sum number h few =
     let q : Reads 16 s = subst (Reads 16) (sym e) r in
     says-them t s short q edits sum number (h (top s) (subst (Is s (top s)) e (top-is s q))) few

@@ -9,7 +9,6 @@ ghost use Rattle.std.specs.Prelude.{◌≤◌, length, IfOk};
 
 use answer::number_of;
 use lines::{LINE_END, find, move_to_front};
-use message::Verdict;
 use settings::{Dialect, Settings};
 use std::io;
 use std::io::Read;
@@ -157,8 +156,8 @@ fn tell_refusal(
 // The number of the first of checks 1 to 8 that fails, or 0.
 fn refusal(dialect: Dialect, depth: usize, name: &[u8], text: &[u8]) -> u64 {
     match message::read(dialect, depth, name, text) {
-        Verdict::Fails(answer) => number_of(answer),
-        Verdict::Passes(_) => 0,
+        Err(answer) => number_of(answer),
+        Ok(_) => 0,
     }
 }
 

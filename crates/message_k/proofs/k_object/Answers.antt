@@ -1,7 +1,7 @@
 -- `k_object` meets its contract: wherever the loop stands, what was told with what the members left will add is the answer, and the buffer has the
 -- entries of those that were read.
 -- Assumes nothing.
-use Rattle.std.specs.Prelude.{Some}
+use Rattle.std.specs.Prelude.{Option, Some}
 use mathlib.Core.Path.{◌≡◌, sym, ap, ◌∙◌, subst}
 use mathlib.Core.List.{List}
 use Prim.Native.Nat.{ℕ, ◌+◌}

@@ -1,8 +1,8 @@
 -- `receive` meets its contract: a message that is judged to pass is taken or refused by what it has entries for.
+use Rattle.std.specs.Prelude.{Ok}
 use Prim.Native.Nat.{ℕ}
 use mathlib.Core.Path.{refl, sym, subst}
 use mathlib.Core.List.{List}
-use Rattle.message.specs.declared.Verdict.TheVariants.{Passes}
 use Rattle.reference.specs.Reference.{After}
 use Rattle.book.specs.Shown.{book_of, ReceivedAs, ReceivedIn}
 use Rattle.book.specs.Taking.{Judged, Ready, after_in, refused_step}
@@ -51,14 +51,14 @@ module _ (c : In-Passes) where
   abbrev book : Book
   book = book_at (start_of at)
 
-  passed : Judged book (text_at (start_of at)) (buffer_at at) (Passes c.in-Passes.outline)
-  passed = subst (Judged book (text_at (start_of at)) (buffer_at at)) c.in-Passes.is (judged at)
+  passed : Judged book (text_at (start_of at)) (buffer_at at) (Ok c.in-Ok.outline)
+  passed = subst (Judged book (text_at (start_of at)) (buffer_at at)) c.in-Ok.is (judged at)
 
-  ready : Ready book c.in-Passes.outline (buffer_at at)
+  ready : Ready book c.in-Ok.outline (buffer_at at)
   unfolding Judged
   ready = passed.0
 
-  answered : (bids asks : List ℕ) (r : Answered) → ReceivedAs book (after_in book c.in-Passes.outline (buffer_at at)) bids asks r → ReceivedIn book (text_at (start_of at)) bids asks r
+  answered : (bids asks : List ℕ) (r : Answered) → ReceivedAs book (after_in book c.in-Ok.outline (buffer_at at)) bids asks r → ReceivedIn book (text_at (start_of at)) bids asks r
   unfolding Judged
   answered bids asks r h = subst (λ (a : After). ReceivedAs book a bids asks r) (sym passed.1) h
 
@@ -81,16 +81,16 @@ pub returns-else-outline-eq0-2 : goal.returns-else-outline-eq0-2
 returns-else-outline-eq0-2 c = answered c.before.before.before.before.before.before.before.before.before _ _ c.take_both.result c.take_both.ensures
 
 -- ---- a refusal
-pub returns-in-Fails : goal.returns-in-Fails
+pub returns-in-Err : goal.returns-in-Err
 unfolding Judged refused_step
-returns-in-Fails c =
+returns-in-Err c =
     let j = c.before.before.before in
     let s = start_of j in
     let b = book_at s in
-    let x = c.in-Fails.refusal in
+    let x = c.in-Err.refusal in
     subst (λ (r : Answered). ReceivedIn b (text_at s) s.args.bids.now s.args.asks.now r) (sym c.refuse.ensures)
     (record {
-      received = subst (Judged b (text_at s) (buffer_at j)) c.in-Fails.is (judged j);
+      received = subst (Judged b (text_at s) (buffer_at j)) c.in-Err.is (judged j);
       settings = refl;
       bids_past = λ y. refl;
       asks_past = λ y. refl;

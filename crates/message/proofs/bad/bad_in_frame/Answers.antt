@@ -15,20 +15,20 @@ bad_in-requires c =
     let b = c in
     let a = b.args in
     let f = c.read_frame in
-    λ n. frame-placed (record { dialect = a.dialect; depth = a.depth; name = a.name.now }) a.s.now b.requires f.result f.ensures.told c.in-Passes.outline c.in-Passes.is c.form_of.result c.form_of.ensures n
+    λ n. frame-placed (record { dialect = a.dialect; depth = a.depth; name = a.name.now }) a.s.now b.requires f.result f.ensures.told c.in-Ok.outline c.in-Ok.is c.form_of.result c.form_of.ensures n
 
-pub returns-in-Fails : goal.returns-in-Fails
-returns-in-Fails c =
+pub returns-in-Err : goal.returns-in-Err
+returns-in-Err c =
     let b = c in
     let a = b.args in
     let f = c.read_frame in
-    frame-fails (record { dialect = a.dialect; depth = a.depth; name = a.name.now }) a.s.now b.requires f.result f.ensures.told c.in-Fails.field-0 c.in-Fails.is
+    frame-fails (record { dialect = a.dialect; depth = a.depth; name = a.name.now }) a.s.now b.requires f.result f.ensures.told c.in-Err.field-0 c.in-Err.is
 
-pub returns-in-Passes : goal.returns-in-Passes
-returns-in-Passes c =
+pub returns-in-Ok : goal.returns-in-Ok
+returns-in-Ok c =
     let b = c in
     let a = b.args in
     let t : Config = record { dialect = a.dialect; depth = a.depth; name = a.name.now } in
     let f = c.read_frame in
     subst (λ (x : Part). PartIs a.s.now (part_of (first_bad_of a.s.now (framed t a.s.now))) x) (sym c.bad_in.ensures)
-    (frame-bad t a.s.now b.requires f.result f.ensures.told c.in-Passes.outline c.in-Passes.is c.form_of.result c.form_of.ensures)
+    (frame-bad t a.s.now b.requires f.result f.ensures.told c.in-Ok.outline c.in-Ok.is c.form_of.result c.form_of.ensures)

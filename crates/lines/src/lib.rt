@@ -34,6 +34,7 @@ fn is_in_block(s: &[u8], at: usize, b: u8) -> bool
 }
 
 // Past the blocks that do not have a byte, from a position on.
+// A `while`: over `chunks_exact` the position would be counted beside the blocks all the same.
 fn skip_blocks(s: &[u8], at: usize, b: u8) -> usize
     requires { at ≤ length s.now }
     ensures { (at ≤ result) × (result ≤ length s.now) × (result + bytes_before b (drop result s.now) ≡ at + bytes_before b (drop at s.now)) }

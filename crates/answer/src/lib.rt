@@ -4,92 +4,64 @@
 ghost use Rattle.std.specs.Prelude.{◌≡◌};
 ghost use Rattle.answer.specs.Answers.{answer_number, is_taken, leaves_status};
 
-#[derive(Clone, Copy)]
+#[derive(Clone, Copy, Debug, PartialEq, Eq)]
 pub enum Answer {
     // The message is taken, or the question is answered.
-    Taken,
+    Taken = 0,
     // The book has bad settings.
-    Shut,
+    Shut = 1,
     // The message is too long.
-    TooLong,
+    TooLong = 2,
     // It is not JSON, or nested too deep.
-    NotJson,
+    NotJson = 3,
     // Given no more: a name is compared by what it means, escapes included.
-    Escaped,
+    Escaped = 4,
     // It is not this book's.
-    NotOurs,
+    NotOurs = 5,
     // The layout is broken.
-    BadLayout,
+    BadLayout = 6,
     // Too many entries on one side.
-    TooManyEntries,
+    TooManyEntries = 7,
     // A price or a size is no decimal, or is zero where it must not be.
-    BadDecimal,
+    BadDecimal = 8,
     // A snapshot names one price twice on a side.
-    PriceTwice,
+    PriceTwice = 9,
     // There is no snapshot that could be spoken of.
-    NoSnapshot,
+    NoSnapshot = 10,
     // The sequence number of an update is not greater than the book's, or it does not name the book's as the one before.
-    OldNumber,
+    OldNumber = 11,
     // Too many levels on a side after the message.
-    TooManyLevels,
+    TooManyLevels = 12,
     // The checksum differs.
-    WrongChecksum,
+    WrongChecksum = 13,
     // The level asked for is not there.
-    NoLevel,
+    NoLevel = 14,
     // The lent buffer is too small.
-    NoRoom,
+    NoRoom = 15,
     // The best bid would not be below the best ask.
-    Crossed,
+    Crossed = 16,
 }
 
 // The number of an answer.
 pub fn number_of(answer: Answer) -> u64
     ensures { result ≡ answer_number answer }
 {
-    match answer {
-        Answer::Taken => 0,
-        Answer::Shut => 1,
-        Answer::TooLong => 2,
-        Answer::NotJson => 3,
-        Answer::Escaped => 4,
-        Answer::NotOurs => 5,
-        Answer::BadLayout => 6,
-        Answer::TooManyEntries => 7,
-        Answer::BadDecimal => 8,
-        Answer::PriceTwice => 9,
-        Answer::NoSnapshot => 10,
-        Answer::OldNumber => 11,
-        Answer::TooManyLevels => 12,
-        Answer::WrongChecksum => 13,
-        Answer::NoLevel => 14,
-        Answer::NoRoom => 15,
-        Answer::Crossed => 16,
-    }
+    answer as u64
 }
 
 // Whether the message is taken, or the question is answered.
 pub fn is_taken(answer: Answer) -> bool
     ensures { result ≡ is_taken answer }
 {
-    number_of(answer) == 0
+    answer == Answer::Taken
 }
 
 // Whether a refusal leaves the book as it is; any other sets it waiting.
 pub fn leaves_state(answer: Answer) -> bool
     ensures { result ≡ leaves_status answer }
 {
-    let n = number_of(answer);
-    if n == 1 {
-        return true;
-    }
-    if n == 5 {
-        return true;
-    }
-    if n == 10 {
-        return true;
-    }
-    if n == 14 {
-        return true;
-    }
-    n == 15
+    matches!(
+        answer,
+        Answer::Shut | Answer::NotOurs | Answer::NoSnapshot | Answer::NoLevel | Answer::NoRoom
+    )
 }

@@ -14,14 +14,11 @@ pub fn find(s: &[u8], at: usize, b: u8) -> usize
     requires { at ≤ length s.now }
     ensures { (at ≤ result) × (result ≤ length s.now) × (result ≡ at + bytes_before b (drop at s.now)) }
 {
-    let mut i = skip_blocks(s, at, b);
-    while i < s.len() {
-        if s[i] == b {
-            return i;
-        }
-        i += 1;
+    let i = skip_blocks(s, at, b);
+    match s[i..].iter().position(|c| *c == b) {
+        Some(k) => i + k,
+        None => s.len(),
     }
-    i
 }
 
 // How many bytes are tested together.
@@ -33,18 +30,11 @@ fn is_in_block(s: &[u8], at: usize, b: u8) -> bool
     ensures { result ≡ ltb (bytes_before b (drop at s.now)) 16 }
 {
     let end = at + BLOCK;
-    let mut found = false;
-    let mut k = at;
-    while k < end {
-        if s[k] == b {
-            found = true;
-        }
-        k += 1;
-    }
-    found
+    s[at..end].iter().fold(false, |found, c| found | (*c == b))
 }
 
 // Past the blocks that do not have a byte, from a position on.
+// A `while`: over `chunks_exact` the position would be counted beside the blocks all the same.
 fn skip_blocks(s: &[u8], at: usize, b: u8) -> usize
     requires { at ≤ length s.now }
     ensures { (at ≤ result) × (result ≤ length s.now) × (result + bytes_before b (drop result s.now) ≡ at + bytes_before b (drop at s.now)) }
@@ -64,17 +54,7 @@ pub fn move_to_front(buffer: &mut [u8], from: usize, to: usize, most: usize) -> 
     requires { (from ≤ to) × (to ≤ length buffer.old) }
     ensures { (result ≡ min (to - from) most) × (buffer.new ≡ paste buffer.old 0 (drop from buffer.old) result) }
 {
-    let n = least(to - from, most);
-    let mut i = 0;
-    while i < n {
-        buffer[i] = buffer[from + i];
-        i += 1;
-    }
+    let n = (to - from).min(most);
+    buffer.copy_within(from..from + n, 0);
     n
-}
-
-fn least(a: usize, b: usize) -> usize
-    ensures { result ≡ min a b }
-{
-    if a < b { a } else { b }
 }

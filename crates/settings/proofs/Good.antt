@@ -1,16 +1,14 @@
 -- Laws of good settings: each case of the tests. Assumes nothing.
-use Prim.Native.Nat.{ℕ, suc, ◌+◌, ◌-◌, ◌≤◌, ◌<◌}
-use mathlib.Core.Path.{◌≡◌, refl, sym, ap, ap₂, ◌∙◌}
-use mathlib.Core.Bool.{Bool, true, false, ◌&&◌, not}
-use mathlib.Core.List.{List, [], ◌∷◌, ◌++◌}
+use Prim.Native.Nat.{ℕ, ◌≤◌, ◌<◌}
+use mathlib.Core.Path.{◌≡◌, refl, sym, ap, ◌∙◌}
+use mathlib.Core.Bool.{Bool, true, false, ◌&&◌, not, and_assoc}
+use mathlib.Core.List.{List}
 use native.Mathlib.Omega.{arith}
-use native.Mathlib.Numerals.{add-one}
-use borrow.Author.Tests.{leb-true, leb-false, le-leb, lt-leb, eq-eqb, ne_eqb}
+use Rattle.std.specs.Char.{is_ascii_graphic}
+use borrow.Author.Tests.{leb-true, leb-false, le-leb, lt-leb}
 use lib.Dec.{leb, eqb}
-use lib.ListN.{length, get_or, take, drop, set, replicate, drop_of_length-le, take-append-drop}
-use lib.Seq.{drop-cons, take-suc, take-suc-set, drop-set-lt, drop-drop}
+use lib.ListN.{length}
 use Rattle.settings.specs.Settings.{Config, good_depth, name_byte, name_bytes, good_name, good, kept, shut}
-use Rattle.settings.specs.Kept.{padded}
 use Rattle.settings.specs.declared.Dialect.TheVariants.{K, M, Unknown}
 use Rattle.settings.specs.declared.Edition.{Edition}
 
@@ -32,21 +30,9 @@ no-depth depth = refl
 
 -- ---- bytes of a name
 
-pub low_byte : (c : ℕ) → c < 33 → name_byte c ≡ false
+pub graphic-byte : (c : ℕ) (r : Bool) → r ≡ is_ascii_graphic c → name_byte c ≡ r && (not (eqb c 34) && not (eqb c 92))
 unfolding name_byte
-low_byte c h = rw (lt-leb 33 c h)
-
-pub high_byte : (c : ℕ) → 33 ≤ c → 126 < c → name_byte c ≡ false
-unfolding name_byte
-high_byte c l h = rw (le-leb 33 c l, lt-leb c 126 h)
-
-pub quote-byte : (c : ℕ) → 33 ≤ c → c ≤ 126 → c ≡ 34 → name_byte c ≡ false
-unfolding name_byte
-quote-byte c l h e = rw (le-leb 33 c l, le-leb c 126 h, eq-eqb c 34 e)
-
-pub other_byte : (c : ℕ) → 33 ≤ c → c ≤ 126 → (c ≡ 34 → ⊥) → name_byte c ≡ not (eqb c 92)
-unfolding name_byte
-other_byte c l h n = rw (le-leb 33 c l, le-leb c 126 h, ne_eqb c 34 n)
+graphic-byte c r e = sym (and_assoc (leb 33 c) (leb c 126) (not (eqb c 34) && not (eqb c 92))) ∙ ap (λ (b : Bool). b && (not (eqb c 34) && not (eqb c 92))) (sym e)
 
 -- ---- a name
 
@@ -61,39 +47,6 @@ long-name name l h = rw (le-leb 1 (length name) l, lt-leb (length name) 16 h)
 pub name-bytes : (name : List ℕ) → 1 ≤ length name → length name ≤ 16 → good_name name ≡ name_bytes name
 unfolding good_name
 name-bytes name l h = rw (le-leb 1 (length name) l, le-leb (length name) 16 h)
-
-here : (name : List ℕ) (i : ℕ) → i < length name → drop i name ≡ get_or name i 0 ∷ drop (i + 1) name
-here name i h = drop-cons name i 0 h ∙ ap (λ (n : ℕ). get_or name i 0 ∷ drop n name) (sym (add-one i))
-
-pub byte-passes : (name : List ℕ) (i : ℕ) → i < length name → name_byte (get_or name i 0) ≡ true → name_bytes (drop (i + 1) name) ≡ name_bytes (drop i name)
-unfolding name_bytes
-byte-passes name i h e = sym (ap name_bytes (here name i h) ∙ ap (λ (b : Bool). b && name_bytes (drop (i + 1) name)) e)
-
-pub byte-fails : (name : List ℕ) (i : ℕ) → i < length name → name_byte (get_or name i 0) ≡ false → name_bytes (drop i name) ≡ false
-unfolding name_bytes
-byte-fails name i h e = ap name_bytes (here name i h) ∙ ap (λ (b : Bool). b && name_bytes (drop (i + 1) name)) e
-
-pub bytes-done : (name : List ℕ) (i : ℕ) → length name ≤ i → name_bytes (drop i name) ≡ true
-unfolding name_bytes
-bytes-done name i h = ap name_bytes (drop_of_length-le name {i = i} h)
-
--- one byte more of a copy
-pub copied_more : (name copy : List ℕ) (i : ℕ) → i < length name → i < length copy → take i copy ≡ take i name → take (i + 1) (set copy i (get_or name i 0)) ≡ take (i + 1) name
-copied_more name copy i h k e =
-    ap (λ (n : ℕ). take n (set copy i (get_or name i 0))) (add-one i)
-    ∙ take-suc-set copy i (get_or name i 0) k
-    ∙ ap (λ (l : List ℕ). l ++ (get_or name i 0 ∷ [])) e
-    ∙ sym (ap (λ (n : ℕ). take n name) (add-one i) ∙ take-suc name i 0 h)
-
--- and the bytes past it are 0 still
-pub zeros-more : (copy : List ℕ) (i v : ℕ) → i < 16 → drop i copy ≡ replicate (16 - i) 0 → drop (i + 1) (set copy i v) ≡ replicate (16 - (i + 1)) 0
-zeros-more copy i v h e =
-    let k : 16 - i ≡ suc (16 - (i + 1)) = omega arith in
-    drop-set-lt (i + 1) copy i v (omega arith) ∙ sym (drop-drop 1 i copy) ∙ ap (drop 1) (e ∙ ap (λ (n : ℕ). replicate n 0) k)
-
-pub padded-whole : (name copy : List ℕ) → take (length name) copy ≡ name → drop (length name) copy ≡ replicate (16 - length name) 0 → copy ≡ padded name
-unfolding padded
-padded-whole name copy e f = sym (take-append-drop (length name) copy) ∙ ap₂ (λ (x y : List ℕ). x ++ y) e f
 
 -- ---- settings
 

@@ -14,7 +14,7 @@ ghost use Rattle.settings.specs.Kept.{Chosen, Copied};
 // The longest name.
 pub const MAX_NAME: usize = 16;
 
-#[derive(Clone, Copy)]
+#[derive(Clone, Copy, Debug, PartialEq, Eq)]
 pub enum Dialect {
     K,
     M(Edition),
@@ -22,7 +22,7 @@ pub enum Dialect {
 }
 
 // What a venue that speaks M's messages sums, and how its updates follow one another.
-#[derive(Clone, Copy)]
+#[derive(Clone, Copy, Debug, PartialEq, Eq)]
 pub enum Edition {
     // All levels; an update's sequence number is greater than the book's. Plain `M` means this one.
     M1,
@@ -31,7 +31,7 @@ pub enum Edition {
 }
 
 // Which text a checksum is made of.
-#[derive(Clone, Copy)]
+#[derive(Clone, Copy, Debug, PartialEq, Eq)]
 pub enum SumText {
     // The asks and then the bids, digits without a point and leading zeros.
     Stripped,
@@ -59,7 +59,7 @@ pub struct Rules {
     pub linked: bool,
 }
 
-// The name is the first `length` bytes of `name`.
+// The name is the first `length` bytes of `name`: 16 bytes in place and a count, since there is no heap.
 #[derive(Clone, Copy)]
 pub struct Settings {
     pub dialect: Dialect,
@@ -73,8 +73,8 @@ pub fn choose(dialect: Dialect, depth: usize, name: &[u8]) -> Settings
 {
     if is_good(dialect, depth, name) {
         return Settings {
-            dialect: dialect,
-            depth: depth,
+            dialect,
+            depth,
             name: copy_name(name),
             length: name.len(),
         };
@@ -90,10 +90,7 @@ pub fn choose(dialect: Dialect, depth: usize, name: &[u8]) -> Settings
 pub fn is_good(dialect: Dialect, depth: usize, name: &[u8]) -> bool
     ensures { result ≡ good (record { dialect = dialect; depth = depth; name = name.now }) }
 {
-    if is_good_depth(dialect, depth) {
-        return is_good_name(name);
-    }
-    false
+    is_good_depth(dialect, depth) && is_good_name(name)
 }
 
 pub fn rules_of(dialect: Dialect) -> Rules
@@ -147,22 +144,14 @@ fn summed_in(edition: Edition) -> usize
 pub fn is_linked(edition: Edition) -> bool
     ensures { result ≡ is_linked edition }
 {
-    match edition {
-        Edition::M1 => false,
-        Edition::M2 => true,
-    }
+    edition == Edition::M2
 }
 
 fn is_good_depth(dialect: Dialect, depth: usize) -> bool
     ensures { result ≡ good_depth dialect depth }
 {
     match dialect {
-        Dialect::K => {
-            if depth < 10 {
-                return false;
-            }
-            depth <= 100
-        }
+        Dialect::K => 10 <= depth && depth <= 100,
         Dialect::M(_) => depth == 100,
         Dialect::Unknown => false,
     }
@@ -171,44 +160,21 @@ fn is_good_depth(dialect: Dialect, depth: usize) -> bool
 fn is_good_name(name: &[u8]) -> bool
     ensures { result ≡ good_name name.now }
 {
-    if name.len() < 1 {
-        return false;
-    }
-    if MAX_NAME < name.len() {
-        return false;
-    }
-    are_name_bytes(name)
+    1 <= name.len() && name.len() <= MAX_NAME && are_name_bytes(name)
 }
 
 // Whether each of these bytes may stand in a name.
 pub fn are_name_bytes(name: &[u8]) -> bool
     ensures { result ≡ name_bytes name.now }
 {
-    let mut i = 0;
-    while i < name.len() {
-        if is_name_byte(name[i]) {
-            i += 1;
-        } else {
-            return false;
-        }
-    }
-    true
+    name.iter().all(|c| is_name_byte(*c))
 }
 
 // A byte from 33 to 126 but for the quote and the backslash.
 fn is_name_byte(c: u8) -> bool
     ensures { result ≡ name_byte c }
 {
-    if c < 33 {
-        return false;
-    }
-    if 126 < c {
-        return false;
-    }
-    if c == 34 {
-        return false;
-    }
-    c != 92
+    c.is_ascii_graphic() && c != b'"' && c != b'\\'
 }
 
 fn copy_name(name: &[u8]) -> [u8; 16]
@@ -216,10 +182,6 @@ fn copy_name(name: &[u8]) -> [u8; 16]
     ensures { Copied name.now result }
 {
     let mut copy = [0; 16];
-    let mut i = 0;
-    while i < name.len() {
-        copy[i] = name[i];
-        i += 1;
-    }
+    copy[..name.len()].copy_from_slice(name);
     copy
 }

@@ -1,34 +1,22 @@
--- `is_in_block` meets its contract: at each turn the answer is whether the byte stands before the turn's position.
-use Prim.Native.Nat.{◌<◌, ◌-◌}
-use mathlib.Core.Path.{◌≡◌, sym, ap, ◌∙◌}
+-- `is_in_block` meets its contract: whether one of the block's bytes is the one asked for.
+use Prim.Native.Nat.{ℕ, ◌+◌, ◌-◌}
+use mathlib.Core.Path.{◌≡◌, ap, ◌∙◌}
+use mathlib.Core.Bool.{Bool, false, ◌||◌}
 use native.Mathlib.Omega.{arith}
-use borrow.Author.Tests.{le-ltb}
-use lib.Dec.{ltb}
-use lib.ListN.{length, drop}
+use lib.Dec.{eqb, ltb}
+use lib.ListN.{drop, length-drop}
+use Rattle.std.proofs.Common.{rules, tests}
+use Rattle.std.proofs.lemmas.Iterator.{YieldsList-from_slice}
+use Rattle.std.proofs.lemmas.Iterator.Consumers.{fold_from_yields_List}
 use Rattle.lines.specs.Lines.{bytes_before}
-use Rattle.lines.proofs.Before.{hit, missed}
+use Rattle.lines.proofs.Before.{among-first}
 use Rattle.lines.proofs.is_in_block.Goals as goal
-use Rattle.lines.proofs.is_in_block.Goals.{then-s-k, else-s-k}
-
-pub loop-k-init : goal.loop-k-init
-loop-k-init c =
-    let a = c.args in
-    (omega arith, omega arith, sym (le-ltb (bytes_before a.b (drop a.at a.s.now)) (a.at - a.at) (omega arith)))
-
-pub loop-k-preserved : goal.loop-k-preserved
-loop-k-preserved c =
-    let a = c.args in
-    let s = a.s.now in
-    let l = c.loop-k in
-    let inside : l.k < length s = omega arith in
-    elim c.if-s-k.branch [
-      | then-s-k w ↦ (omega arith, omega arith, w.found-is ∙ sym (hit s a.at l.k a.b l.invariant.0 inside w.if-s-k.true))
-      | else-s-k w ↦ (omega arith, omega arith, w.found-is ∙ l.invariant.2 ∙ missed s a.at l.k a.b l.invariant.0 inside w.if-s-k.false)
-    ]
 
 pub returns : goal.returns
 returns c =
-    let a = c.args in
-    let l = c.loop-k in
-    let e : l.k - a.at ≡ 16 = omega arith in
-    l.invariant.2 ∙ ap (ltb (bytes_before a.b (drop a.at a.s.now))) e
+    let rest = drop c.args.at c.args.s.now in
+    let b = c.args.b in
+    let l = length-drop c.args.at c.args.s.now in
+    let found = fold_from_yields_List _ (λ (t : Bool) (x : ℕ). t || eqb x b) false c.fold.result c.fold.ensures.ran (YieldsList-from_slice _ c.iter.ensures.rest) (λ t x u q k. search (rules, tests)) in
+    let n : c.args.at + 16 - c.args.at ≡ 16 = omega arith in
+    found ∙ among-first b (c.args.at + 16 - c.args.at) rest false (omega arith) ∙ ap (ltb (bytes_before b rest)) n

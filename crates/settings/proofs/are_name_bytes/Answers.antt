@@ -1,18 +1,22 @@
--- `are_name_bytes` meets its contract: what is left of the bytes is good as all of them are.
-use Prim.Native.Nat.{zero-le}
-use mathlib.Core.Path.{refl, sym, ◌∙◌}
-use native.Mathlib.Omega.{arith}
-use Rattle.settings.proofs.Good.{byte-passes, byte-fails, bytes-done}
+-- `are_name_bytes` meets its contract: its definition is that all bytes pass.
+use Prim.Native.Nat.{ℕ}
+use mathlib.Core.Path.{◌≡◌, refl, ap, ◌∙◌}
+use mathlib.Core.Bool.{Bool, ◌&&◌}
+use mathlib.Core.List.{List, [], ◌∷◌}
+use Rattle.std.proofs.Common.{rules, tests}
+use Rattle.std.proofs.lemmas.Iterator.{YieldsList-from_slice}
+use Rattle.std.proofs.lemmas.Iterator.Search.{all_from_yields_List}
+use Rattle.std.specs.List.{list_all}
+use Rattle.settings.specs.Settings.{name_byte, name_bytes}
 use Rattle.settings.proofs.are_name_bytes.Goals as goal
 
-pub loop-i-init : goal.loop-i-init
-loop-i-init c = (refl, zero-le)
-
-pub loop-i-preserved : goal.loop-i-preserved
-loop-i-preserved c = (byte-passes c.args.name.now c.loop-i.i c.loop-i-test.true (sym c.is_name_byte.ensures ∙ c.if-is_name_byte.true) ∙ c.loop-i.invariant.0, let h = c.loop-i-test.true in omega arith)
-
-pub returns-else-is_name_byte : goal.returns-else-is_name_byte
-returns-else-is_name_byte c = sym (sym c.loop-i.invariant.0 ∙ byte-fails c.args.name.now c.loop-i.i c.loop-i-test.true (sym c.is_name_byte.ensures ∙ c.if-is_name_byte.false))
+all_pass : (name : List ℕ) → list_all name_byte name ≡ name_bytes name
+unfolding name_bytes
+all_pass [] = refl
+all_pass (c ∷ name) = ap (λ (b : Bool). name_byte c && b) (all_pass name)
 
 pub returns : goal.returns
-returns c = sym (sym c.loop-i.invariant.0 ∙ bytes-done c.args.name.now c.loop-i.i c.loop-i-test.false)
+returns c =
+    let name = c.args.name.now in
+    let passes = all_from_yields_List name_byte _ _ c.all.result c.all.ensures.ran (YieldsList-from_slice name cc) (λ x b q k. search (rules, tests)) in
+    passes ∙ all_pass name

@@ -1,34 +1,26 @@
--- `copy_name` meets its contract: each turn copies one byte more.
-use Prim.Native.Nat.{ℕ, ◌-◌, zero-le}
-use mathlib.Core.Path.{◌≡◌, refl, ◌∙◌, subst}
+-- `copy_name` meets its contract: the name's bytes, and past them those of an array of 0.
+use Prim.Native.Nat.{ℕ, ◌+◌, ◌-◌, ◌≤◌}
+use mathlib.Core.Path.{◌≡◌, ap, ◌∙◌}
+use mathlib.Core.List.{List, ◌++◌}
 use native.Mathlib.Omega.{arith}
-use lib.ListN.{length, get_or, take, drop, replicate, length-set}
-use lib.Seq.{take-length}
-use Rattle.settings.proofs.Good.{copied_more, zeros-more, padded-whole}
+use lib.ListN.{length, drop, replicate, length-append, length-replicate}
+use lib.Seq.{take-append_seam}
+use Rattle.std.proofs.lemmas.List.{drop-replicate}
+use Rattle.settings.specs.Kept.{Copied, padded}
 use Rattle.settings.proofs.copy_name.Goals as goal
 
-pub loop-i-init : goal.loop-i-init
-loop-i-init c = (refl, zero-le, refl, c.requires, refl)
-
-pub loop-i-preserved : goal.loop-i-preserved
-loop-i-preserved c =
-    let name = c.args.name.now in
-    let w = c.loop-i in
-    let inv = w.invariant in
-    let h = c.loop-i-test.true in
-    let v = get_or name w.i 0 in (
-      copied_more name w.copy w.i h (omega arith) inv.0,
-      omega arith,
-      length-set w.copy w.i v ∙ inv.2,
-      inv.3,
-      zeros-more w.copy w.i v (omega arith) inv.4,
-    )
+copied : (name copy : List ℕ) → length name ≤ 16 → copy ≡ name → Copied name (copy ++ drop (length name) (replicate 16 0))
+unfolding padded
+copied name copy h e =
+    let whole : length name + (16 - length name) ≡ 16 = omega arith in
+    let zeros = drop-replicate (length name) 16 0 in
+    let count = ap length zeros ∙ length-replicate (16 - length name) 0 in
+    rw e
+    record {
+      is = ap (λ (l : List ℕ). name ++ l) zeros;
+      room = length-append name (drop (length name) (replicate 16 0)) ∙ ap (λ (n : ℕ). length name + n) count ∙ whole;
+      front = take-append_seam name _;
+    }
 
 pub returns : goal.returns
-returns c =
-    let name = c.args.name.now in
-    let copy = c.loop-i.copy in
-    let inv = c.loop-i.invariant in
-    let e : c.loop-i.i ≡ length name = let h = c.loop-i-test.false in omega arith in
-    let front = subst (λ (n : ℕ). take n copy ≡ take n name) e inv.0 ∙ take-length name in
-    record { is = padded-whole name copy front (subst (λ (n : ℕ). drop n copy ≡ replicate (16 - n) 0) e inv.4); room = inv.2; front = front }
+returns c = copied c.args.name.now _ c.requires c.copy_from_slice.ensures.after

@@ -1,12 +1,16 @@
 -- `is_linked` meets its contract, by cases.
-use mathlib.Core.Path.{sym, ap}
+use mathlib.Core.Path.{◌≡◌, refl, ◌∙◌}
+use denote.Enum.Bare.{sameb}
 use Rattle.settings.specs.Rules.{is_linked}
+use Rattle.settings.specs.contracts.Edition.{the_type}
+use Rattle.settings.specs.declared.Edition.{Edition}
+use Rattle.settings.specs.declared.Edition.TheVariants.{M1, M2}
 use Rattle.settings.proofs.is_linked.Goals as goal
 
-pub returns-in-M1 : goal.returns-in-M1
+same : (e : Edition) → sameb the_type e M2 ≡ is_linked e
 unfolding is_linked
-returns-in-M1 c = sym (ap is_linked c.in-M1.is)
+same M1 = refl
+same M2 = refl
 
-pub returns-in-M2 : goal.returns-in-M2
-unfolding is_linked
-returns-in-M2 c = sym (ap is_linked c.in-M2.is)
+pub returns : goal.returns
+returns c = c.eq.ensures ∙ same c.args.edition

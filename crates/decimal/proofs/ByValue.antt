@@ -5,8 +5,8 @@ use borrow.Author.Tests.{eqb-false}
 use lib.Arith.{lt_of_le-ne}
 use Rattle.decimal.specs.Decimal.{Number, value, is_zero, near, max_decimals, max_whole}
 use Rattle.decimal.specs.Limits.{order_of, Within}
-use Rattle.decimal.specs.declared.Order.{Order}
-use Rattle.decimal.specs.declared.Order.TheVariants.{Less, Equal, Greater}
+use Rattle.std.specs.declared.cmp.Ordering.{Ordering}
+use Rattle.std.specs.declared.cmp.Ordering.TheVariants.{Less, Equal, Greater}
 use Rattle.decimal.proofs.Digits.{tens, tens-mono}
 
 -- ---- the three answers
@@ -104,7 +104,7 @@ value-ratio a b la lb = (to, from)
     from e = eq_of_mul-eq-mul_right (10 ^ a.decimals * 10 ^ b.decimals) pos _ _ (left ∙ ap (λ (n : ℕ). n * 10 ^ max_decimals) e ∙ sym right)
 
 -- what an answer says of two numbers
-abbrev pub Holds : Order → ℕ → ℕ → Type 0
+abbrev pub Holds : Ordering → ℕ → ℕ → Type 0
 Holds Less x y = x < y
 Holds Equal x y = x ≡ y
 Holds Greater x y = y < x
@@ -114,13 +114,13 @@ pub order-holds : (x y : ℕ) → Holds (order_of x y) x y
 order-holds x y = at (ltb x y) (eqb x y) refl refl
   where
     at : (s t : Bool) → ltb x y ≡ s → eqb x y ≡ t → Holds (order_of x y) x y
-    at true t e f = let l : x < y = ltb-true x y e in subst (λ (o : Order). Holds o x y) (sym (less x y l)) l
-    at false true e f = let q : x ≡ y = eqb-true x y f in subst (λ (o : Order). Holds o x y) (sym (equal x y q)) q
+    at true t e f = let l : x < y = ltb-true x y e in subst (λ (o : Ordering). Holds o x y) (sym (less x y l)) l
+    at false true e f = let q : x ≡ y = eqb-true x y f in subst (λ (o : Ordering). Holds o x y) (sym (equal x y q)) q
     at false false e f =
         let l : y ≤ x = ltb-false x y e in
         let n : x ≡ y → ⊥ = eqb-false x y f in
         let g : y < x = omega arith in
-        subst (λ (o : Order). Holds o x y) (sym (greater x y g)) g
+        subst (λ (o : Ordering). Holds o x y) (sym (greater x y g)) g
 
 -- a decimal is zero where its value is
 pub zero-value : (n : Number) → (is_zero n ≡ true) ↔ (value n ≡ 0)

@@ -87,7 +87,7 @@ past-tidied code tidy t l =
 
 module _ (t : Tail) where
   pub tail-past : 9 < t.past →
-      remaining t ≡ (front_of t.part t.digits t.decimals ++ past_first (t.past / 10)) ++ (digit (t.past % 10) ∷ [])
+      remaining t ≡ remaining (record { digits = t.digits; decimals = t.decimals; past = t.past / 10; part = t.part }) ++ (digit (t.past % 10) ∷ [])
   unfolding remaining
   tail-past h =
       ap (λ (l : List ℕ). front_of t.part t.digits t.decimals ++ l) (past-step t.past h)
@@ -98,19 +98,29 @@ module _ (t : Tail) where
   part-is p e h =
       none-past (front_of t.part t.digits t.decimals) t.past h ∙ ap (λ (q : Part). front_of q t.digits t.decimals) e
 
-  pub tail-point : t.part ≡ Fraction → t.past ≤ 9 → t.decimals ≡ 0 → remaining t ≡ written t.digits ++ (point ∷ [])
+  -- the tail with another part, other digits and other decimals
+  abbrev pub left : Part → ℕ → ℕ → Tail
+  left p n k = record { digits = n; decimals = k; past = t.past; part = p }
+
+  before : (p : Part) (n k b : ℕ) → t.past ≤ 9 → front_of p n k ++ (b ∷ []) ≡ remaining (left p n k) ++ (b ∷ [])
+  unfolding remaining
+  before p n k b h = ap (λ (l : List ℕ). l ++ (b ∷ [])) (sym (none-past (front_of p n k) t.past h))
+
+  pub tail-point : t.part ≡ Fraction → t.past ≤ 9 → t.decimals ≡ 0 → remaining t ≡ remaining (left Units t.digits t.decimals) ++ (point ∷ [])
   unfolding front_of fixed
   tail-point e h z =
       part-is Fraction e h
       ∙ ap (λ (k : ℕ). front_of Fraction t.digits k) z
       ∙ ap (λ (n : ℕ). written n ++ (point ∷ [])) (div-one t.digits)
+      ∙ before Units t.digits t.decimals point h
 
   pub tail-fraction : t.part ≡ Fraction → t.past ≤ 9 → (t.decimals ≡ 0 → ⊥) →
-      remaining t ≡ (front_of Fraction (t.digits / 10) (t.decimals - 1) ++ past_first 0) ++ (digit (t.digits % 10) ∷ [])
+      remaining t ≡ remaining (left t.part (t.digits / 10) (t.decimals - 1)) ++ (digit (t.digits % 10) ∷ [])
   tail-fraction e h n =
       part-is Fraction e h
       ∙ step t.digits t.decimals n
-      ∙ ap (λ (l : List ℕ). l ++ (digit (t.digits % 10) ∷ [])) (sym (none-past (front_of Fraction (t.digits / 10) (t.decimals - 1)) 0 zero-le))
+      ∙ before Fraction (t.digits / 10) (t.decimals - 1) (digit (t.digits % 10)) h
+      ∙ ap (λ (p : Part). remaining (left p (t.digits / 10) (t.decimals - 1)) ++ (digit (t.digits % 10) ∷ [])) (sym e)
     where
       step : (n k : ℕ) → (k ≡ 0 → ⊥) → front_of Fraction n k ≡ front_of Fraction (n / 10) (k - 1) ++ (digit (n % 10) ∷ [])
       step n zero h = absurd (h refl)
@@ -119,17 +129,22 @@ module _ (t : Tail) where
           same : k ≡ suc k - 1
           same = omega arith
 
-  pub tail-units : t.part ≡ Units → t.past ≤ 9 → remaining t ≡ significant (t.digits / 10) ++ (digit (t.digits % 10) ∷ [])
+  pub tail-units : t.part ≡ Units → t.past ≤ 9 → remaining t ≡ remaining (left Higher (t.digits / 10) t.decimals) ++ (digit (t.digits % 10) ∷ [])
   unfolding front_of written
-  tail-units e h = part-is Units e h
+  tail-units e h = part-is Units e h ∙ before Higher (t.digits / 10) t.decimals (digit (t.digits % 10)) h
 
   pub tail_none : t.part ≡ Higher → t.past ≤ 9 → t.digits ≡ 0 → remaining t ≡ []
   unfolding front_of
   tail_none e h z = part-is Higher e h ∙ ap significant z ∙ significant-zero
 
-  pub tail-higher : t.part ≡ Higher → t.past ≤ 9 → (t.digits ≡ 0 → ⊥) → remaining t ≡ significant (t.digits / 10) ++ (digit (t.digits % 10) ∷ [])
+  pub tail-higher : t.part ≡ Higher → t.past ≤ 9 → (t.digits ≡ 0 → ⊥) →
+      remaining t ≡ remaining (left t.part (t.digits / 10) t.decimals) ++ (digit (t.digits % 10) ∷ [])
   unfolding front_of
-  tail-higher e h n = part-is Higher e h ∙ significant-step t.digits (omega arith)
+  tail-higher e h n =
+      part-is Higher e h
+      ∙ significant-step t.digits (omega arith)
+      ∙ before Higher (t.digits / 10) t.decimals (digit (t.digits % 10)) h
+      ∙ ap (λ (p : Part). remaining (left p (t.digits / 10) t.decimals) ++ (digit (t.digits % 10) ∷ [])) (sym e)
 
 -- ---- the whole text
 

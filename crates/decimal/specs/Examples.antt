@@ -5,7 +5,7 @@ use Rattle.decimal.specs.Digits.{leading, value_from, fixed, significant_in, sig
 use Rattle.decimal.specs.Decimal.{Number, is_whole, fractional, pointed, prefix, read, text, after_point, without_point, without_zeros, stripped, value, number_of, far_of, past_of, decimals_of}
 use Rattle.decimal.specs.Limits.{order, order_of}
 use Rattle.text.specs.Text.{ascii}
-use Rattle.decimal.specs.declared.Order.TheVariants.{Less}
+use Rattle.std.specs.declared.cmp.Ordering.TheVariants.{Less}
 use Rattle.decimal.specs.Whole.{read_whole, at_most, read_checksum}
 
 -- 0.05120: 5120 with 5 decimals, and back

@@ -5,8 +5,8 @@
 // two words. Its text is also handed out from its last byte to its first, so that a checksum can be fed from it with no
 // text made on the way.
 //
-//     let Parsed::Number(price) = decimal::parse(text) else { return; };   // `0.05120`
-//     decimal::write(price, buffer, 0);                                    // `0.05120` again
+//     let Some(price) = decimal::parse(text) else { return; };   // `0.05120`
+//     decimal::write(price, buffer, 0);                          // `0.05120` again
 #![tactic(auto)]
 
 mod reading;
@@ -14,10 +14,11 @@ mod writing;
 
 ghost use Rattle.std.specs.Prelude.{◌≡◌, ◌/◌, ◌^◌, ◌≤◌};
 ghost use Rattle.decimal.specs.Decimal.{number, number_of, past_of, decimals_of, value, is_zero, near};
-ghost use Rattle.decimal.specs.Limits.{no_number, order, order_of, Within};
+ghost use Rattle.decimal.specs.Limits.{no_number, order, Within};
 ghost use Rattle.decimal.specs.Words.{lower_of, parts_of, split_of, Tidied};
 
 pub use reading::{parse, parse_at, parse_checksum, parse_whole};
+use std::cmp::Ordering;
 pub use writing::{
     stripped_tail, text_length, text_tail, whole_length, whole_tail, write, write_whole,
 };
@@ -48,43 +49,11 @@ pub struct Split {
     pub decimals: u64,
 }
 
-#[derive(Clone, Copy)]
-pub enum Parsed {
-    Number(Decimal),
-    Refused,
-}
-
 // A decimal at the front of a text, and the position past it.
 #[derive(Clone, Copy)]
-pub enum ParsedFront {
-    Number(Decimal, usize),
-    Refused,
-}
-
-#[derive(Clone, Copy)]
-pub enum ParsedWhole {
-    Number(u64),
-    Refused,
-}
-
-#[derive(Clone, Copy)]
-pub enum ParsedChecksum {
-    Number(u32),
-    Refused,
-}
-
-#[derive(Clone, Copy)]
-pub enum Order {
-    Less,
-    Equal,
-    Greater,
-}
-
-// Where a text that was laid into a buffer ends, or that the buffer has no room for it and is as it was.
-#[derive(Clone, Copy)]
-pub enum Written {
-    To(usize),
-    Full,
+pub struct Front {
+    pub decimal: Decimal,
+    pub end: usize,
 }
 
 // What comes next of a number's text, from its end: digits past the ninth decimal; digits after the point, then the point;
@@ -105,12 +74,6 @@ pub struct Tail {
     part: Part,
 }
 
-#[derive(Clone, Copy)]
-pub enum Step {
-    Byte(u8, Tail),
-    End,
-}
-
 // 0 with no decimals.
 pub fn zero() -> Decimal
     ensures { number result ≡ no_number }
@@ -119,28 +82,25 @@ pub fn zero() -> Decimal
 }
 
 // The order of two decimals by value.
-pub fn compare(a: Decimal, b: Decimal) -> Order
+pub fn compare(a: Decimal, b: Decimal) -> Ordering
     requires { Within (number a) × Within (number b) }
     ensures { result ≡ order (number a) (number b) }
 {
     if a.code == b.code {
-        return compare_numbers(a.digits, b.digits);
+        return a.digits.cmp(&b.digits);
     }
     let x = upper(a);
     let y = upper(b);
     if x == y {
-        return compare_numbers(lower(a.code), lower(b.code));
+        return lower(a.code).cmp(&lower(b.code));
     }
-    compare_numbers(x, y)
+    x.cmp(&y)
 }
 
 pub fn is_zero(a: Decimal) -> bool
     ensures { result ≡ is_zero (number a) }
 {
-    if a.digits == 0 {
-        return past(a.code) == 0;
-    }
-    false
+    a.digits == 0 && past(a.code) == 0
 }
 
 // The words of a decimal, and the decimal that words are. A code of `parts_of` is below 2,000, and `of_parts` takes any.
@@ -185,77 +145,48 @@ fn upper(a: Decimal) -> u64
 fn lower(code: u64) -> u64
     ensures { result ≡ lower_of code }
 {
-    if code < 10 {
-        return 0;
+    match code {
+        0..=9 => 0,
+        10..=99 => code % 10 * 100,
+        100..=999 => code % 100 * 10,
+        _ => code % 1_000,
     }
-    if code < 100 {
-        return code % 10 * 100;
-    }
-    if code < 1_000 {
-        return code % 100 * 10;
-    }
-    code % 1_000
 }
 
 // The digits that a code tells.
 fn past(code: u64) -> u64
     ensures { result ≡ past_of code }
 {
-    if code < 10 {
-        return 0;
+    match code {
+        0..=9 => 0,
+        10..=99 => code % 10,
+        100..=999 => code % 100,
+        _ => code % 1_000,
     }
-    if code < 100 {
-        return code % 10;
-    }
-    if code < 1_000 {
-        return code % 100;
-    }
-    code % 1_000
 }
 
 // How many decimals a code tells.
 fn decimals(code: u64) -> u64
     ensures { result ≡ decimals_of code }
 {
-    if code < 10 {
-        return code;
+    match code {
+        0..=9 => code,
+        10..=99 => 10,
+        100..=999 => 11,
+        _ => 12,
     }
-    if code < 100 {
-        return 10;
-    }
-    if code < 1_000 {
-        return 11;
-    }
-    12
 }
 
 // The code below 2,000 that tells the same, with a 1 before its digits.
 fn tidy(code: u64) -> u64
     ensures { Tidied code result }
 {
-    if code < 10 {
-        return code;
+    match code {
+        0..=9 => code,
+        10..=99 => 10 + code % 10,
+        100..=999 => 100 + code % 100,
+        _ => 1_000 + code % 1_000,
     }
-    if code < 100 {
-        return 10 + code % 10;
-    }
-    if code < 1_000 {
-        return 100 + code % 100;
-    }
-    1_000 + code % 1_000
-}
-
-// The order of two whole numbers.
-fn compare_numbers(x: u64, y: u64) -> Order
-    ensures { result ≡ order_of x y }
-{
-    if x < y {
-        return Order::Less;
-    }
-    if x == y {
-        return Order::Equal;
-    }
-    Order::Greater
 }
 
 // Ten to the k, for as many decimals as the digits may have.

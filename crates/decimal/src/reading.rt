@@ -2,9 +2,9 @@
 ghost use Rattle.std.specs.Prelude.{◌≡◌, ◌+◌, ◌-◌, ◌*◌, ◌^◌, ◌≤◌, ◌&&◌, length, drop, ◌==◌, nat_lt, slice_index};
 ghost use Rattle.decimal.specs.Decimal.{read, prefix};
 ghost use Rattle.decimal.specs.Whole.{read_whole, read_checksum};
-ghost use Rattle.decimal.specs.Reads.{parsed, parsed_front, parsed_whole, parsed_checksum, Ran, DigitOf};
+ghost use Rattle.decimal.specs.Reads.{parsed, parsed_front, Ran, DigitOf};
 
-use crate::{Decimal, Parsed, ParsedChecksum, ParsedFront, ParsedWhole};
+use crate::{Decimal, Front};
 use text::{byte_at, is_digit, wide};
 
 // Digits before the point, after it up to the ninth decimal and past that, and of a whole number; the largest checksum.
@@ -21,9 +21,9 @@ const MAX_CHECKSUM: u64 = 4_294_967_295;
 // The largest digit.
 const LAST_DIGIT: u64 = 9;
 
-const POINT: u8 = 46;
+const POINT: u8 = b'.';
 
-const ZERO: u8 = 48;
+const ZERO: u8 = b'0';
 
 // Digits that were read: the number that they stand for, and the position past them.
 #[derive(Clone, Copy)]
@@ -33,104 +33,80 @@ struct Run {
 }
 
 // The decimal that a text is.
-pub fn parse(s: &[u8]) -> Parsed
+pub fn parse(s: &[u8]) -> Option<Decimal>
     ensures { parsed result ≡ read s.now }
 {
-    match parse_at(s, 0) {
-        ParsedFront::Number(d, end) => {
-            if end == s.len() {
-                return Parsed::Number(d);
-            }
-            Parsed::Refused
-        }
-        ParsedFront::Refused => Parsed::Refused,
+    let front = parse_at(s, 0)?;
+    if front.end == s.len() {
+        Some(front.decimal)
+    } else {
+        None
     }
 }
 
 // The decimal that a text has from a position on, as far as it goes.
-pub fn parse_at(s: &[u8], at: usize) -> ParsedFront
+pub fn parse_at(s: &[u8], at: usize) -> Option<Front>
     ensures { parsed_front at result ≡ prefix (drop at s.now) }
 {
     let whole = digits_at(s, at, 0, MAX_WHOLE);
     let end = whole.end;
-    if end == at {
-        return ParsedFront::Refused;
-    }
-    if is_digit(byte_at(s, end)) {
-        return ParsedFront::Refused;
-    }
-    if needless_zero(s, at, end) {
-        return ParsedFront::Refused;
+    if end == at || is_digit(byte_at(s, end)) || needless_zero(s, at, end) {
+        return None;
     }
     if byte_at(s, end) != POINT {
-        return ParsedFront::Number(
-            Decimal {
-                digits: whole.value,
-                code: 0,
-            },
-            end,
-        );
+        let decimal = Decimal {
+            digits: whole.value,
+            code: 0,
+        };
+        return Some(Front { decimal, end });
     }
     let start = end + 1;
     let fraction = digits_at(s, start, whole.value, NEAR_DECIMALS);
     let stop = fraction.end;
     if stop == start {
-        return ParsedFront::Refused;
+        return None;
     }
     if is_digit(byte_at(s, stop)) {
         // a 1, then the digits past the ninth decimal: the code that tells them
         let past = digits_at(s, stop, 1, FAR_DECIMALS);
         let last = past.end;
         if is_digit(byte_at(s, last)) {
-            return ParsedFront::Refused;
+            return None;
         }
-        return ParsedFront::Number(
-            Decimal {
-                digits: fraction.value,
-                code: past.value,
-            },
-            last,
-        );
-    }
-    ParsedFront::Number(
-        Decimal {
+        let decimal = Decimal {
             digits: fraction.value,
-            code: (stop - start) as u64,
-        },
-        stop,
-    )
+            code: past.value,
+        };
+        return Some(Front { decimal, end: last });
+    }
+    let decimal = Decimal {
+        digits: fraction.value,
+        code: (stop - start) as u64,
+    };
+    Some(Front { decimal, end: stop })
 }
 
 // The whole number that a text is.
-pub fn parse_whole(s: &[u8]) -> ParsedWhole
-    ensures { parsed_whole result ≡ read_whole s.now }
+pub fn parse_whole(s: &[u8]) -> Option<u64>
+    ensures { result ≡ read_whole s.now }
 {
     let w = digits_at(s, 0, 0, MAX_WHOLE_NUMBER);
     let end = w.end;
-    if end == 0 {
-        return ParsedWhole::Refused;
+    if end == 0 || end < s.len() || needless_zero(s, 0, end) {
+        return None;
     }
-    if end < s.len() {
-        return ParsedWhole::Refused;
-    }
-    if needless_zero(s, 0, end) {
-        return ParsedWhole::Refused;
-    }
-    ParsedWhole::Number(w.value)
+    Some(w.value)
 }
 
 // The checksum that a text is.
-pub fn parse_checksum(s: &[u8]) -> ParsedChecksum
-    ensures { parsed_checksum result ≡ read_checksum s.now }
+pub fn parse_checksum(s: &[u8]) -> Option<u32>
+    ensures { result ≡ read_checksum s.now }
 {
-    match parse_whole(s) {
-        ParsedWhole::Number(n) => {
-            if n <= MAX_CHECKSUM {
-                return ParsedChecksum::Number(n as u32);
-            }
-            ParsedChecksum::Refused
-        }
-        ParsedWhole::Refused => ParsedChecksum::Refused,
+    let n = parse_whole(s)?;
+    if n <= MAX_CHECKSUM {
+        Some(n as u32)
+    } else {
+        None
     }
 }
 
@@ -141,15 +117,13 @@ fn digits_at(s: &[u8], at: usize, before: u64, most: usize) -> Run
 {
     let mut value = before;
     let mut end = at;
-    let mut left = most;
-    while 0 < left {
+    for _ in 0..most {
         let digit = digit_at(s, end);
         if LAST_DIGIT < digit {
             return Run { value, end };
         }
         value = value * 10 + digit;
         end += 1;
-        left -= 1;
     }
     Run { value, end }
 }
@@ -159,10 +133,7 @@ fn needless_zero(s: &[u8], at: usize, end: usize) -> bool
     requires { (at + 1 ≤ end) × (end ≤ length s.now) }
     ensures { result ≡ (nat_lt 1 (end - at) && (slice_index s.now at) == 48) }
 {
-    if end - at <= 1 {
-        return false;
-    }
-    s[at] == ZERO
+    end - at > 1 && s[at] == ZERO
 }
 
 // The value of the digit at a position, and 10 or more where there is none.
@@ -170,7 +141,7 @@ fn digit_at(s: &[u8], at: usize) -> u64
     ensures { DigitOf (slice_index s.now at) result }
 {
     if at < s.len() {
-        std::num::wrapping_sub_u64(wide(s[at]), ZERO as u64)
+        wide(s[at]).wrapping_sub(ZERO as u64)
     } else {
         10
     }

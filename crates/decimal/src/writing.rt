@@ -5,22 +5,25 @@ ghost use Rattle.decimal.specs.Decimal.{number, text, stripped};
 ghost use Rattle.decimal.specs.Limits.{Within};
 ghost use Rattle.decimal.specs.Buffer.{overlaid};
 ghost use Rattle.decimal.specs.Laying.{Laid};
-ghost use Rattle.decimal.specs.Tail.{remaining, front_of, past_first, Stepped};
+ghost use Rattle.decimal.specs.Tail.{remaining, Stepped};
 
-use crate::{Decimal, NEAR, Part, Step, Tail, Written, past, tidy};
+use crate::{Decimal, NEAR, Part, Tail, past, tidy};
 
-const POINT: u8 = 46;
+const POINT: u8 = b'.';
 
-// Lays the text of a decimal into a buffer at a position.
-pub fn write(a: Decimal, buffer: &mut [u8], at: usize) -> Written
+const ZERO: u8 = b'0';
+
+// Lays the text of a decimal into a buffer at a position: where the text ends, or none, where the buffer has no room for it and
+// stays as it was.
+pub fn write(a: Decimal, buffer: &mut [u8], at: usize) -> Option<usize>
     requires { Within (number a) }
     ensures { Laid buffer.old at (text (number a)) buffer.new result }
 {
     lay(text_tail(a), buffer, at)
 }
 
-// Lays the digits of a whole number into a buffer at a position.
-pub fn write_whole(n: u64, buffer: &mut [u8], at: usize) -> Written
+// Lays the digits of a whole number into a buffer at a position, as `write` does.
+pub fn write_whole(n: u64, buffer: &mut [u8], at: usize) -> Option<usize>
     ensures { Laid buffer.old at (written n) buffer.new result }
 {
     lay(whole_tail(n), buffer, at)
@@ -107,50 +110,33 @@ fn digits_tail(n: u64) -> Tail
 }
 
 impl Tail {
-    // The last byte, and the text before it.
-    pub fn step(self) -> Step
-        ensures { Stepped self result }
+    // Takes the last byte off the text.
+    pub fn pop(&mut self) -> Option<u8>
+        ensures { Stepped self.old result self.new }
     {
-        if 9 < self.past {
-            return Step::Byte(last_past(self.past), before_past(self));
+        if self.past > 9 {
+            let byte = last_past(self.past);
+            self.past /= 10;
+            return Some(byte);
         }
-        let part = self.part;
-        match part {
+        match self.part {
             Part::Fraction => {
                 if self.decimals == 0 {
-                    return Step::Byte(POINT, whole_tail(self.digits));
+                    self.part = Part::Units;
+                    return Some(POINT);
                 }
-                Step::Byte(
-                    last_digit(self.digits),
-                    Tail {
-                        digits: self.digits / 10,
-                        decimals: self.decimals - 1,
-                        past: 0,
-                        part: Part::Fraction,
-                    },
-                )
+                self.decimals -= 1;
             }
-            Part::Units => Step::Byte(last_digit(self.digits), digits_tail(self.digits / 10)),
+            Part::Units => self.part = Part::Higher,
             Part::Higher => {
                 if self.digits == 0 {
-                    return Step::End;
+                    return None;
                 }
-                Step::Byte(last_digit(self.digits), digits_tail(self.digits / 10))
             }
         }
-    }
-}
-
-// The text before the last of the digits past the ninth decimal.
-fn before_past(t: Tail) -> Tail
-    ensures { remaining result ≡ front_of t.part t.digits t.decimals ++ past_first (t.past / 10) }
-{
-    let part = t.part;
-    Tail {
-        digits: t.digits,
-        decimals: t.decimals,
-        past: t.past / 10,
-        part,
+        let byte = last_digit(self.digits);
+        self.digits /= 10;
+        Some(byte)
     }
 }
 
@@ -159,13 +145,13 @@ fn before_past(t: Tail) -> Tail
 fn last_past(n: u16) -> u8
     ensures { result ≡ 48 + n % 10 }
 {
-    48 + (n % 10) as u8
+    ZERO + (n % 10) as u8
 }
 
 fn last_digit(n: u64) -> u8
     ensures { result ≡ 48 + n % 10 }
 {
-    48 + (n % 10) as u8
+    ZERO + (n % 10) as u8
 }
 
 fn tail_length(t: Tail) -> usize
@@ -174,33 +160,23 @@ fn tail_length(t: Tail) -> usize
 {
     let mut rest = t;
     let mut n = 0;
-    loop {
-        match rest.step() {
-            Step::Byte(_, shorter) => {
-                rest = shorter;
-                n += 1;
-            }
-            Step::End => {
-                return n;
-            }
-        }
+    while rest.pop().is_some() {
+        n += 1;
     }
+    n
 }
 
 // Lays a text into a buffer at a position.
-fn lay(t: Tail, buffer: &mut [u8], at: usize) -> Written
+fn lay(t: Tail, buffer: &mut [u8], at: usize) -> Option<usize>
     requires { length (remaining t) < 2 ^ 64 }
     ensures { Laid buffer.old at (remaining t) buffer.new result }
 {
     let n = tail_length(t);
-    if buffer.len() < at {
-        return Written::Full;
-    }
-    if buffer.len() - at < n {
-        return Written::Full;
+    if buffer.len() < at || buffer.len() - at < n {
+        return None;
     }
     fill(t, buffer, at + n);
-    Written::To(at + n)
+    Some(at + n)
 }
 
 // Lays a text into a buffer so that it ends at a position.
@@ -210,16 +186,8 @@ fn fill(t: Tail, buffer: &mut [u8], end: usize)
 {
     let mut rest = t;
     let mut i = end;
-    loop {
-        match rest.step() {
-            Step::Byte(b, shorter) => {
-                rest = shorter;
-                i -= 1;
-                buffer[i] = b;
-            }
-            Step::End => {
-                return;
-            }
-        }
+    while let Some(byte) = rest.pop() {
+        i -= 1;
+        buffer[i] = byte;
     }
 }

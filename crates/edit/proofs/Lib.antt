@@ -1,3 +1,4 @@
--- In reading order: words taken three at a time; an entry packed in three words.
+-- In reading order: words taken three at a time; an entry packed in three words; `==` of two sides.
 pub mod Threes
 pub mod Packing
+pub mod Sides

@@ -8,12 +8,11 @@
 ghost use Rattle.std.specs.Prelude.{◌≡◌, ◌<◌, length, get_or};
 ghost use Rattle.decimal.specs.Decimal.{number};
 ghost use Rattle.decimal.specs.Limits.{Within};
-ghost use Rattle.edit.specs.Edit.{is_same};
 ghost use Rattle.edit.specs.Buffer.{max_buffered, buffer_words, side_in, entries_in, numbers_of, no_numbers, Put, side_number};
 
 use decimal::Decimal;
 
-#[derive(Clone, Copy)]
+#[derive(Clone, Copy, PartialEq, Eq)]
 pub enum Side {
     Bids,
     Asks,
@@ -71,22 +70,6 @@ pub fn entry_in(buffer: &[u64; BUFFER_WORDS], k: usize) -> Buffered
     }
 }
 
-// Whether two sides are the same.
-pub fn is_same(a: Side, b: Side) -> bool
-    ensures { result ≡ is_same a b }
-{
-    match a {
-        Side::Bids => match b {
-            Side::Bids => true,
-            Side::Asks => false,
-        },
-        Side::Asks => match b {
-            Side::Bids => false,
-            Side::Asks => true,
-        },
-    }
-}
-
 // A side as a number, and the side that a number stands for: 0 the bids, any other the asks.
 pub fn side_number(side: Side) -> u64
     ensures { result ≡ side_number side }
@@ -100,8 +83,8 @@ pub fn side_number(side: Side) -> u64
 pub fn side_in(n: u64) -> Side
     ensures { result ≡ side_in n }
 {
-    if n == 0 {
-        return Side::Bids;
+    match n {
+        0 => Side::Bids,
+        _ => Side::Asks,
     }
-    Side::Asks
 }

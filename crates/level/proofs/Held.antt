@@ -10,7 +10,7 @@ use Rattle.edit.specs.declared.Side.{Side}
 use Rattle.edit.specs.declared.Side.TheVariants.{Bids, Asks}
 use Rattle.level.specs.declared.Level.{Level}
 use Rattle.level.specs.declared.Levels.{Levels}
-use Rattle.level.specs.declared.MaybeLevel.TheVariants.{At, Nothing}
+use Rattle.std.specs.Prelude.{None, Some}
 use Rattle.level.specs.Words.{levels_in}
 use Rattle.level.specs.Kept.{max_levels, max_words, held, level_at, Good, Empty}
 use Rattle.level.proofs.Stored.{length-levels}
@@ -19,13 +19,13 @@ pub held-length : (kept : Levels) → kept.count ≤ max_levels → length kept.
 unfolding held
 held-length kept few room = length-take-le kept.count (levels_in kept.words) (omega (arith, length-levels max_levels kept.words room))
 
-pub level_in : (s : List Level) (i : ℕ) (d : Level) → i < length s → level_at i s ≡ At (get_or s i d)
+pub level_in : (s : List Level) (i : ℕ) (d : Level) → i < length s → level_at i s ≡ Some (get_or s i d)
 unfolding level_at
 level_in [] i d h = absurd (not-suc-le-zero h)
 level_in (x ∷ s) zero d h = refl
 level_in (x ∷ s) (suc i) d h = level_in s i d (le_of_suc-le-suc h)
 
-pub level-past : (s : List Level) (i : ℕ) → length s ≤ i → level_at i s ≡ Nothing
+pub level-past : (s : List Level) (i : ℕ) → length s ≤ i → level_at i s ≡ None
 unfolding level_at
 level-past [] i h = refl
 level-past (x ∷ s) zero h = absurd (not-suc-le-zero h)

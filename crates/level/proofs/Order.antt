@@ -7,13 +7,14 @@ use native.Mathlib.Omega.{arith}
 use lib.Dec.{eqb}
 use borrow.Author.Tests.{ltb-true, ltb-false, eq-eqb, ne_eqb}
 use Rattle.decimal.specs.Limits.{order_of}
-use Rattle.decimal.specs.declared.Order.{Order}
-use Rattle.decimal.specs.declared.Order.TheVariants.{Less, Equal, Greater}
+use Rattle.std.specs.declared.cmp.Ordering.{Ordering}
+use Rattle.std.specs.declared.cmp.Ordering.TheVariants.{Less, Equal, Greater}
+use Rattle.std.specs.Ordering.{is_eq}
 use Rattle.decimal.proofs.ByValue.{Holds, order-holds}
 use Rattle.edit.specs.declared.Side.{Side}
 use Rattle.edit.specs.declared.Side.TheVariants.{Bids, Asks}
 use Rattle.level.specs.Side.{nearer}
-use Rattle.level.specs.Order.{ahead_of, equal_of}
+use Rattle.level.specs.Order.{ahead_of}
 
 not-false : (b : Bool) → (b ≡ false → ⊥) → b ≡ true
 not-false true n = refl
@@ -55,7 +56,7 @@ before-through Asks x y z h k = not-false (nearer Asks x z) (λ q. omega (arith,
 
 -- ---- the answer of a comparison
 
-ahead-at : (side : Side) (x y : ℕ) (o : Order) → Holds o x y → ahead_of side o ≡ nearer side x y
+ahead-at : (side : Side) (x y : ℕ) (o : Ordering) → Holds o x y → ahead_of side o ≡ nearer side x y
 ahead-at Bids x y Less h = sym (not-true (nearer Bids x y) (λ q. omega (arith, ltb-true)))
 ahead-at Bids x y Equal h = sym (not-true (nearer Bids x y) (λ q. omega (arith, ltb-true)))
 ahead-at Bids x y Greater h = sym (not-false (nearer Bids x y) (λ q. omega (arith, ltb-false)))
@@ -66,10 +67,10 @@ ahead-at Asks x y Greater h = sym (not-true (nearer Asks x y) (λ q. omega (arit
 pub ahead-is : (side : Side) (x y : ℕ) → ahead_of side (order_of x y) ≡ nearer side x y
 ahead-is side x y = ahead-at side x y (order_of x y) (order-holds x y)
 
-equal-at : (x y : ℕ) (o : Order) → Holds o x y → equal_of o ≡ eqb x y
+equal-at : (x y : ℕ) (o : Ordering) → Holds o x y → is_eq o ≡ eqb x y
 equal-at x y Less h = sym (ne_eqb x y (λ e. omega arith))
 equal-at x y Equal h = sym (eq-eqb x y h)
 equal-at x y Greater h = sym (ne_eqb x y (λ e. omega arith))
 
-pub equal_is : (x y : ℕ) → equal_of (order_of x y) ≡ eqb x y
+pub equal_is : (x y : ℕ) → is_eq (order_of x y) ≡ eqb x y
 equal_is x y = equal-at x y (order_of x y) (order-holds x y)

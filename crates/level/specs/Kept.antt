@@ -1,12 +1,10 @@
 -- The side that the code keeps. Assumes nothing: these are definitions.
-use Rattle.std.specs.Prelude.{ℕ, zero, suc, ◌+◌, ◌*◌, ◌≤◌, ◌≡◌, List, [], ◌∷◌, length, take, set, replicate}
+use Rattle.std.specs.Prelude.{ℕ, zero, suc, ◌+◌, ◌*◌, ◌≤◌, ◌≡◌, List, [], ◌∷◌, length, take, set, replicate, None, Option, Some}
 use Rattle.decimal.specs.Limits.{Within}
 use Rattle.edit.specs.declared.Side.{Side}
 use Rattle.edit.specs.declared.Side.TheVariants.{Bids, Asks}
 use Rattle.level.specs.declared.Level.{Level}
 use Rattle.level.specs.declared.Levels.{Levels}
-use Rattle.level.specs.declared.MaybeLevel.{MaybeLevel}
-use Rattle.level.specs.declared.MaybeLevel.TheVariants.{At, Nothing}
 use Rattle.level.specs.Ranked.{All, Sorted}
 use Rattle.level.specs.Words.{level_words, level_price, levels_in, words_past}
 
@@ -27,9 +25,9 @@ abbrev pub kept_in : List ℕ → ℕ → Levels
 kept_in words n = record { words = words; count = n }
 
 -- The level at a place, counted from 0 as best.
-unfoldable pub level_at : ℕ → List Level → MaybeLevel
-level_at i [] = Nothing
-level_at zero (level ∷ s) = At level
+unfoldable pub level_at : ℕ → List Level → Option Level
+level_at i [] = None
+level_at zero (level ∷ s) = Some level
 level_at (suc i) (level ∷ s) = level_at i s
 
 -- What holds of every side that is kept.

@@ -12,12 +12,13 @@ mod words;
 ghost use Rattle.std.specs.Prelude.{◌≡◌, ◌≤◌};
 ghost use Rattle.decimal.specs.Decimal.{number};
 ghost use Rattle.decimal.specs.Limits.{Within};
-ghost use Rattle.level.specs.Order.{ahead_of, equal_of};
+ghost use Rattle.level.specs.Order.{ahead_of};
 ghost use Rattle.level.specs.Words.{max_length, level_made, level_of, parts_of, level_price, level_size, level_sum, level_length, EntryOf};
 ghost use Rattle.level.specs.Kept.{max_levels, held, level_at, Empty};
 
-use decimal::{Decimal, Order};
+use decimal::Decimal;
 use edit::Side;
+use std::cmp::Ordering;
 pub use words::{level_in, put_level};
 
 // How many levels a side keeps.
@@ -68,12 +69,6 @@ pub struct Levels {
     pub count: usize,
 }
 
-#[derive(Clone, Copy)]
-pub enum MaybeLevel {
-    At(Level),
-    Nothing,
-}
-
 // What stands where no level was put yet.
 pub const EMPTY: Level = Level {
     price: 0,
@@ -92,14 +87,15 @@ pub fn empty() -> Levels
 }
 
 // The level at a place, counted from 0 as best.
-pub fn level_at(kept: Levels, i: usize) -> MaybeLevel
+pub fn level_at(kept: Levels, i: usize) -> Option<Level>
     requires { kept.count ≤ max_levels }
     ensures { result ≡ level_at i (held kept) }
 {
     if i < kept.count {
-        return MaybeLevel::At(level_in(&kept.words, i));
+        Some(level_in(&kept.words, i))
+    } else {
+        None
     }
-    MaybeLevel::Nothing
 }
 
 // The level of a price and a size, with the sum and the length of its piece of checksum text.
@@ -175,29 +171,11 @@ pub fn entry_of(side: Side, price: Decimal, size: Decimal) -> Entry
 }
 
 // Does the first of two prices, in this order by value, stand nearer the top?
-pub fn is_ahead(side: Side, order: Order) -> bool
+pub fn is_ahead(side: Side, order: Ordering) -> bool
     ensures { result ≡ ahead_of side order }
 {
     match side {
-        Side::Bids => match order {
-            Order::Less => false,
-            Order::Equal => false,
-            Order::Greater => true,
-        },
-        Side::Asks => match order {
-            Order::Less => true,
-            Order::Equal => false,
-            Order::Greater => false,
-        },
-    }
-}
-
-pub fn is_equal(order: Order) -> bool
-    ensures { result ≡ equal_of order }
-{
-    match order {
-        Order::Less => false,
-        Order::Equal => true,
-        Order::Greater => false,
+        Side::Bids => order.is_gt(),
+        Side::Asks => order.is_lt(),
     }
 }

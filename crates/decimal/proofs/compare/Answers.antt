@@ -7,30 +7,30 @@ use Rattle.decimal.proofs.Words.{value-upper, order_same, order-parts-upper, ord
 use Rattle.decimal.proofs.compare.Goals as goal
 
 pub returns-then-a-b : goal.returns-then-a-b
-unfolding number
+unfolding number order_of
 returns-then-a-b c =
     let a = c.args.a in
     let b = c.args.b in
-    c.compare_numbers.ensures ∙ sym (order_same a.digits b.digits a.code) ∙ ap (λ (k : ℕ). order (number_of a.digits a.code) (number_of b.digits k)) c.if-a-b.true
+    c.cmp.ensures ∙ sym (order_same a.digits b.digits a.code) ∙ ap (λ (k : ℕ). order (number_of a.digits a.code) (number_of b.digits k)) c.if-a-b.true
 
 pub returns-then-x-y : goal.returns-then-x-y
-unfolding number
+unfolding number order_of
 returns-then-x-y c =
     let a = c.args.a in
     let b = c.args.b in
     let x = c.upper-x.ensures ∙ value-upper a.digits a.code in
     let y = c.upper-y.ensures ∙ value-upper b.digits b.code in
-    c.compare_numbers-then-x-y.ensures
+    c.cmp-then-x-y.ensures
     ∙ ap₂ order_of c.lower.ensures c.lower-then-x-y.ensures
     ∙ sym (order-parts-lower a.digits a.code b.digits b.code (sym x ∙ c.if-x-y.true ∙ y))
 
 pub returns : goal.returns
-unfolding number
+unfolding number order_of
 returns c =
     let a = c.args.a in
     let b = c.args.b in
     let x = c.upper-x.ensures ∙ value-upper a.digits a.code in
     let y = c.upper-y.ensures ∙ value-upper b.digits b.code in
-    c.compare_numbers-2.ensures
+    c.cmp-2.ensures
     ∙ ap₂ order_of x y
     ∙ sym (order-parts-upper a.digits a.code b.digits b.code (λ e. c.if-x-y.false (x ∙ e ∙ sym y)))

@@ -1,7 +1,5 @@
 -- `side_in` meets its contract: 0 stands for the bids.
-use Prim.Native.Nat.{ℕ, zero, suc}
-use mathlib.Core.Path.{◌≡◌, refl}
-use borrow.Author.Rules.{rules}
+use Rattle.std.proofs.Common.{◌≡◌, ℕ, zero, suc, refl, ap, sym, arith}
 use Rattle.edit.specs.declared.Side.TheVariants.{Asks}
 use Rattle.edit.specs.Buffer.{side_in}
 use Rattle.edit.proofs.side_in.Goals as goal
@@ -11,9 +9,9 @@ unfolding side_in
 other zero h = absurd (h refl)
 other (suc n) h = refl
 
-pub returns-then-n-eq0 : goal.returns-then-n-eq0
+pub returns-in-0 : goal.returns-in-0
 unfolding side_in
-returns-then-n-eq0 c = search rules
+returns-in-0 c = sym (ap side_in c.in-0.is)
 
-pub returns : goal.returns
-returns c = other c.args.n c.if-n-eq0.false
+pub returns-in_default : goal.returns-in_default
+returns-in_default c = other c.args.n (λ z. omega arith)

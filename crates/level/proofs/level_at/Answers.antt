@@ -4,7 +4,7 @@ use native.Mathlib.Omega.{arith}
 use borrow.Author.Rules.{rules}
 use lib.ListN.{length}
 use lib.Seq.{get_or-take}
-use Rattle.level.specs.declared.MaybeLevel.TheVariants.{At}
+use Rattle.std.specs.Prelude.{Some}
 use Rattle.level.specs.Words.{levels_in, no_level}
 use Rattle.level.specs.Kept.{max_words, held}
 use Rattle.level.proofs.Held.{held-length, level_in, level-past}
@@ -21,9 +21,9 @@ pub returns-then-i-kept : goal.returns-then-i-kept
 unfolding held
 returns-then-i-kept c =
     let s = (goal.at.returns-then-i-kept c).Start in
-    ap At c.level_in.ensures
+    ap Some c.level_in.ensures
     ∙ sym (level_in (held s.args.kept) s.args.i no_level (omega (arith, long s, c.if-i-kept.true))
-    ∙ ap At (get_or-take s.args.kept.count (levels_in s.args.kept.words) s.args.i no_level c.if-i-kept.true))
+    ∙ ap Some (get_or-take s.args.kept.count (levels_in s.args.kept.words) s.args.i no_level c.if-i-kept.true))
 
-pub returns : goal.returns
-returns c = sym (level-past (held c.args.kept) c.args.i (omega (arith, long (goal.at.returns c).Start, c.if-i-kept.false)))
+pub returns-else-i-kept : goal.returns-else-i-kept
+returns-else-i-kept c = sym (level-past (held c.args.kept) c.args.i (omega (arith, long (goal.at.returns-else-i-kept c).Start, c.if-i-kept.false)))

@@ -1,12 +1,13 @@
-use Rattle.std.proofs.Common.{◌≡◌, ◌+◌, ◌*◌, ◌^◌, ◌≤◌, length, take, drop}
+use Rattle.std.proofs.Common.{◌≡◌, ℕ, ◌+◌, ◌-◌, ◌*◌, ◌^◌, ◌≤◌, List, length, take, drop}
 use Rattle.decimal.specs.Digits.{leading, value_from}
 use Rattle.decimal.proofs.reading.digits_at.Given as goal
 
-abbrev pub invariant-loop-left : goal.invariant-loop-left
-invariant-loop-left l =
-    (value_from l.value (take l.left (leading (drop l.end l.s))) ≡ value_from l.before (take l.most (leading (drop l.at l.s))))
-    × (l.end + length (take l.left (leading (drop l.end l.s))) ≡ l.at + length (take l.most (leading (drop l.at l.s))))
-    × ((l.value + 1) * 10 ^ l.left ≤ 2 ^ 64)
+-- what is left to read, `left` digits at the most, gives what the whole gives, and there is room for it
+abbrev pub Left : List ℕ → ℕ → ℕ → ℕ → ℕ → ℕ → ℕ → Type 0
+Left s at before most value end left =
+    (value_from value (take left (leading (drop end s))) ≡ value_from before (take most (leading (drop at s))))
+    × (end + length (take left (leading (drop end s))) ≡ at + length (take most (leading (drop at s))))
+    × ((value + 1) * 10 ^ left ≤ 2 ^ 64)
 
-abbrev pub decreases-loop-left : goal.decreases-loop-left
-decreases-loop-left l = l.left
+abbrev pub invariant-loop : goal.invariant-loop
+invariant-loop l = Left l.s l.at l.before l.most l.value l.end (l.most - l.counter)

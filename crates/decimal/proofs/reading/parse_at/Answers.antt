@@ -3,23 +3,21 @@ use Rattle.std.proofs.Common.{drop, sym, ap, ◌∙◌, arith}
 use Rattle.text.specs.Text.{byte_at, is_digit}
 use Rattle.decimal.specs.Decimal.{number}
 use Rattle.decimal.proofs.Scan.{prefix-refused}
-use Rattle.decimal.proofs.Front.{run-within, not-whole, whole_part, front-empty, front_long, front-plain, fraction-empty, fraction-more, front-more, front-fraction, point-within, whole_room}
+use Rattle.decimal.proofs.Prefix.{run-within, not-whole, whole_part, front-empty, front_long, front-plain, fraction-empty, fraction-more, front-more, front-fraction, point-within, whole_room}
 use Rattle.decimal.proofs.reading.parse_at.Goals as goal
-
-pub returns-then-end-at : goal.returns-then-end-at
-returns-then-end-at c = sym (front-empty c.digits_at-whole.ensures c.if-end-at.true)
-
-pub returns-then-is_digit : goal.returns-then-is_digit
-unfolding byte_at
-returns-then-is_digit c = sym (front_long c.digits_at-whole.ensures (sym (ap is_digit c.byte_at.ensures) ∙ sym c.is_digit.ensures ∙ c.if-is_digit.true))
+use Rattle.decimal.proofs.reading.parse_at.Goals.{then-end-at-via-then-end-at, then-end-at-via-else-end-at+then-is_digit, then-end-at-via-else-end-at+else-is_digit+then-needless_zero}
 
 pub needless_zero-requires : goal.needless_zero-requires
 unfolding byte_at
 needless_zero-requires c = run-within c.digits_at-whole.ensures c.if-end-at.false (sym (ap is_digit c.byte_at.ensures) ∙ sym c.is_digit.ensures ∙ c.if-is_digit.false)
 
-pub returns-then-needless_zero : goal.returns-then-needless_zero
+pub returns-then-end-at : goal.returns-then-end-at
 unfolding byte_at
-returns-then-needless_zero c = sym (prefix-refused (drop c.args.at c.args.s.now) (not-whole c.digits_at-whole.ensures c.if-end-at.false (sym (ap is_digit c.byte_at.ensures) ∙ sym c.is_digit.ensures ∙ c.if-is_digit.false) (sym c.needless_zero.ensures ∙ c.if-needless_zero.true)))
+returns-then-end-at c = elim c.then-end-at.branch [
+  | then-end-at-via-then-end-at w ↦ sym (front-empty c.digits_at-whole.ensures w.if-end-at.true)
+  | then-end-at-via-else-end-at+then-is_digit w ↦ sym (front_long c.digits_at-whole.ensures (sym (ap is_digit w.byte_at.ensures) ∙ sym w.is_digit.ensures ∙ w.if-is_digit.true))
+  | then-end-at-via-else-end-at+else-is_digit+then-needless_zero w ↦ sym (prefix-refused (drop c.args.at c.args.s.now) (not-whole c.digits_at-whole.ensures w.if-end-at.false (sym (ap is_digit w.byte_at.ensures) ∙ sym w.is_digit.ensures ∙ w.if-is_digit.false) (sym w.needless_zero.ensures ∙ w.if-needless_zero.true)))
+]
 
 pub returns-then-byte_at-ne-POINT : goal.returns-then-byte_at-ne-POINT
 unfolding number byte_at

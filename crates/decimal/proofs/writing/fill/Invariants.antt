@@ -3,12 +3,12 @@ use Rattle.decimal.specs.Buffer.{overlaid}
 use Rattle.decimal.specs.Tail.{remaining}
 use Rattle.decimal.proofs.writing.fill.Given as goal
 
-abbrev pub invariant-loop-b : goal.invariant-loop-b
-invariant-loop-b l =
-    (overlaid l.buffer (l.i - length (remaining l.rest)) (remaining l.rest) ≡ overlaid l.initial.buffer (l.end - length (remaining l.initial.rest)) (remaining l.initial.rest))
+abbrev pub invariant-loop-byte : goal.invariant-loop-byte
+invariant-loop-byte l =
+    (overlaid l.buffer (l.i - length (remaining l.rest)) (remaining l.rest) ≡ overlaid l.fn.buffer (l.end - length (remaining l.fn.t)) (remaining l.fn.t))
     × (length (remaining l.rest) ≤ l.i)
     × (l.i ≤ length l.buffer)
-    × (length l.buffer ≡ length l.initial.buffer)
+    × (length l.buffer ≡ length l.fn.buffer)
 
-abbrev pub decreases-loop-b : goal.decreases-loop-b
-decreases-loop-b l = length (remaining l.rest)
+abbrev pub decreases-loop-byte : goal.decreases-loop-byte
+decreases-loop-byte l = length (remaining l.rest)

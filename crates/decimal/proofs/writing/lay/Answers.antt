@@ -4,12 +4,15 @@ use Rattle.decimal.specs.Buffer.{overlaid}
 use Rattle.decimal.specs.Tail.{remaining}
 use Rattle.decimal.proofs.Buffer.{laid-full, laid-to}
 use Rattle.decimal.proofs.writing.lay.Goals as goal
+use Rattle.decimal.proofs.writing.lay.Goals.{then-buffer-at-via-then-buffer-at, then-buffer-at-via-else-buffer-at+then-buffer-at-2}
 
 pub returns-then-buffer-at : goal.returns-then-buffer-at
-returns-then-buffer-at c = let n = c.tail_length-n.ensures in laid-full c.args.buffer.now c.args.at (remaining c.args.t) (omega arith)
-
-pub returns-then-buffer-at-2 : goal.returns-then-buffer-at-2
-returns-then-buffer-at-2 c = let n = c.tail_length-n.ensures in laid-full c.args.buffer.now c.args.at (remaining c.args.t) (omega arith)
+returns-then-buffer-at c =
+    let n = c.tail_length-n.ensures in
+    elim c.then-buffer-at.branch [
+      | then-buffer-at-via-then-buffer-at w ↦ laid-full c.args.buffer.now c.args.at (remaining c.args.t) (omega arith)
+      | then-buffer-at-via-else-buffer-at+then-buffer-at-2 w ↦ laid-full c.args.buffer.now c.args.at (remaining c.args.t) (omega arith)
+    ]
 
 pub returns : goal.returns
 returns c =

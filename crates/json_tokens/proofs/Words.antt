@@ -1,6 +1,5 @@
 -- Why up to eight bytes of a string may be passed at once: what is computed of a word is computed of each of its bytes, and those below the lowest mark stand for themselves.
 -- Assumes nothing.
-use Rattle.std.specs.Prelude.{None}
 use mathlib.Core.Path.{◌≡◌, refl, sym, ap, ◌∙◌}
 use mathlib.Core.List.{List, [], ◌∷◌}
 use mathlib.Core.Bool.{Bool, true, false, true≢false, ◌&&◌, ◌||◌, not, and-eq-true_iff}
@@ -17,7 +16,7 @@ use Rattle.text.specs.Words.{word_at}
 use Rattle.text.proofs.Words.{eight-bytes}
 use Rattle.json_tokens.specs.Ends.{unescaped}
 use Rattle.json_tokens.specs.Tokens.{string_rest}
-use Rattle.json_tokens.specs.Words.{special_bytes, CharEnd}
+use Rattle.json_tokens.specs.Words.{special_bytes}
 use Rattle.json_tokens.proofs.Laws.{in-kind, rest_plain}
 
 -- ---- bytes that stand for themselves
@@ -289,11 +288,3 @@ module _ (s : List ℕ) (small : (k : ℕ) → byte_at s k < 256) where
     pub rest-special : i + 8 ≤ length s → string_rest s (i + count_trailing_zeros 64 (special_bytes (word_at s i)) / 8) ≡ string_rest s i
     unfolding eight width
     rest-special room = ap (λ m. string_rest s (i + count_trailing_zeros 64 m / 8)) (ap special_bytes (eight-word room) ∙ eight-marks) ∙ rest-marked eight-held
-
--- ---- where a character ends
-module _ (s : List ℕ) (i : ℕ) where
-  pub char-none : ((byte_at s i ≡ 34 → ⊥) → string_rest s i ≡ None) → CharEnd s i 0
-  char-none h = record { none = λ e n. h n; some = λ n. absurd (n refl) }
-
-  pub char-some : (r : ℕ) → i < r → r ≤ length s → string_rest s i ≡ string_rest s r → CharEnd s i r
-  char-some r l h p = record { none = λ e n. absurd (omega arith); some = λ n. (l, h, p) }

@@ -1,6 +1,6 @@
 -- Eight bytes of a string at once, and one character of it. The code alone leans on these: what a string is says `Tokens`.
 -- Assumes nothing: these are definitions.
-use Rattle.std.specs.Prelude.{◌≡◌, ℕ, ◌+◌, ◌≤◌, ◌<◌, List, length, None}
+use Rattle.std.specs.Prelude.{◌≡◌, ℕ, ◌+◌, ◌≤◌, ◌<◌, List, length, None, Option, Some}
 use Rattle.std.specs.Int.Bits.{bit_and, bit_or, bit_xor}
 use Rattle.text.specs.Text.{byte_at}
 use Rattle.json_tokens.specs.Bytes.{quote}
@@ -36,7 +36,7 @@ special_bytes x =
     high)
     high
 
--- r is where the character of a string at i ends, which is no quote, and 0 if none stands there.
-pub record CharEnd (s : List ℕ) (i r : ℕ) : Type 0 where
-  pub none : r ≡ 0 → (byte_at s i ≡ quote → ⊥) → string_rest s i ≡ None
-  pub some : (r ≡ 0 → ⊥) → (i < r) × (r ≤ length s) × (string_rest s i ≡ string_rest s r)
+-- r is where the character of a string at i ends, which is no quote, and none if none stands there.
+abbrev pub CharEnd : List ℕ → ℕ → Option ℕ → Type 0
+CharEnd s i (Some e) = (i < e) × (e ≤ length s) × (string_rest s i ≡ string_rest s e)
+CharEnd s i None = (byte_at s i ≡ quote → ⊥) → string_rest s i ≡ None

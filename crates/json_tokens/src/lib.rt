@@ -1,102 +1,60 @@
 // The tokens of JSON (RFC 8259) in a slice of bytes, with no copy: blanks, structural characters,
 // strings, numbers and literal names. Each function says where the token that begins at `at` ends.
 //
-// An end is a plain number, and 0 says that no such token begins there: a token has a byte at
-// least, so none ends at 0. Any position may be asked for; past the end of the slice no token
-// begins. Above this crate stands `json_values`, which makes values of the tokens.
+// An end is the position past the token, and `None` says that no such token begins there. Any
+// position may be asked for; past the end of the slice no token begins. Above this crate stands
+// `json_values`, which makes values of the tokens.
 //
-// Example: in the text `{"a":-1.5}` the string that begins at 1 ends at 4 (`string_end(s, 1) == 4`), the
-// colon past it at 5 (`colon_end(s, 4) == 5`), and the number there at 9 (`number_end(s, 5) == 9`).
+// Example: in the text `{"a":-1.5}` the string that begins at 1 ends at 4 (`string_end(s, 1) == Some(4)`), the
+// colon past it at 5 (`colon_end(s, 4) == Some(5)`), and the number there at 9 (`number_end(s, 5) == Some(9)`).
 #![tactic(auto)]
 
 ghost use Rattle.std.specs.Prelude.{◌≡◌, ◌+◌, ◌≤◌, ◌<◌, length};
 ghost use Rattle.text.specs.Text.{colon};
 ghost use Rattle.json_tokens.specs.Bytes.{comma, close_array, close_object, blank, hex_digit, escaped};
-ghost use Rattle.json_tokens.specs.Ends.{unescaped};
+ghost use Rattle.json_tokens.specs.Ends.{four_hex, unescaped};
 ghost use Rattle.json_tokens.specs.Tokens.{blanks, digits, some_digits, closing, separator, string_rest, string, minus, sign, int, fraction, exponent, json_number, literal, scalar, ended};
-ghost use Rattle.json_tokens.specs.Ends.{end_of, four_hex};
 ghost use Rattle.json_tokens.specs.Words.{special_bytes, CharEnd};
 
 pub use text::byte_at;
 use text::{is_digit, word_at};
 
-pub const QUOTE: u8 = 34;
+pub const QUOTE: u8 = b'"';
 
-pub const BACKSLASH: u8 = 92;
+pub const BACKSLASH: u8 = b'\\';
 
-pub const COMMA: u8 = 44;
+pub const COMMA: u8 = b',';
 
-pub const COLON: u8 = 58;
+pub const COLON: u8 = b':';
 
-pub const OPEN_ARRAY: u8 = 91;
+pub const OPEN_ARRAY: u8 = b'[';
 
-pub const CLOSE_ARRAY: u8 = 93;
+pub const CLOSE_ARRAY: u8 = b']';
 
-pub const OPEN_OBJECT: u8 = 123;
+pub const OPEN_OBJECT: u8 = b'{';
 
-pub const CLOSE_OBJECT: u8 = 125;
+pub const CLOSE_OBJECT: u8 = b'}';
 
+#[tactic(auto, using(std::proofs::lemmas::Bool::Decides::nat_tests), unfolding(crate::specs::Bytes::blank))]
 fn is_blank(c: u8) -> bool
     ensures { result ≡ blank c }
 {
-    if 32 < c {
-        false
-    } else if c == 32 {
-        true
-    } else if c == 9 {
-        true
-    } else if c == 10 {
-        true
-    } else if c == 13 {
-        true
-    } else {
-        false
-    }
+    matches!(c, b' ' | b'\t' | b'\n' | b'\r')
 }
 
+#[tactic(auto, using(std::proofs::lemmas::Bool::Decides::nat_tests), unfolding(crate::specs::Bytes::hex_digit, text::specs::Text::is_digit))]
 fn is_hex(c: u8) -> bool
     ensures { result ≡ hex_digit c }
 {
-    if c < 48 {
-        false
-    } else if c <= 57 {
-        true
-    } else if c < 65 {
-        false
-    } else if c <= 70 {
-        true
-    } else if c < 97 {
-        false
-    } else if c <= 102 {
-        true
-    } else {
-        false
-    }
+    matches!(c, b'0'..=b'9' | b'A'..=b'F' | b'a'..=b'f')
 }
 
 // Whether c ends a two-character escape.
+#[tactic(auto, using(std::proofs::lemmas::Bool::Decides::nat_tests), unfolding(crate::specs::Bytes::escaped))]
 fn is_escaped(c: u8) -> bool
     ensures { result ≡ escaped c }
 {
-    if c == QUOTE {
-        true
-    } else if c == BACKSLASH {
-        true
-    } else if c == 47 {
-        true
-    } else if c == 98 {
-        true
-    } else if c == 102 {
-        true
-    } else if c == 110 {
-        true
-    } else if c == 114 {
-        true
-    } else if c == 116 {
-        true
-    } else {
-        false
-    }
+    matches!(c, b'"' | b'\\' | b'/' | b'b' | b'f' | b'n' | b'r' | b't')
 }
 
 // The position past the blanks that begin at `at`, of which there may be none.
@@ -114,59 +72,59 @@ pub fn skip_blanks(s: &[u8], at: usize) -> usize
 pub fn is_ended(s: &[u8], at: usize) -> bool
     ensures { result ≡ ended s.now at }
 {
-    if skip_blanks(s, at) == s.len() {
-        true
+    skip_blanks(s, at) == s.len()
+}
+
+// Past the blanks and the byte `close`, which is not the 0 that `byte_at` gives past the end.
+fn closing_end(s: &[u8], at: usize, close: u8) -> Option<usize>
+    requires { 0 < close }
+    ensures { result ≡ closing close s.now at }
+{
+    let k = skip_blanks(s, at);
+    if byte_at(s, k) == close {
+        Some(k + 1)
     } else {
-        false
+        None
     }
 }
 
-// Past the blanks and the byte `close`.
-fn closing_end(s: &[u8], at: usize, close: u8) -> usize
-    requires { 0 < close }
-    ensures { result ≡ end_of (closing close s.now at) }
-{
-    let k = skip_blanks(s, at);
-    if byte_at(s, k) == close { k + 1 } else { 0 }
-}
-
 // Past the bracket that closes an array, with the blanks before it.
-pub fn array_close_end(s: &[u8], at: usize) -> usize
-    ensures { result ≡ end_of (closing close_array s.now at) }
+pub fn array_close_end(s: &[u8], at: usize) -> Option<usize>
+    ensures { result ≡ closing close_array s.now at }
 {
     closing_end(s, at, CLOSE_ARRAY)
 }
 
 // Past the brace that closes an object, with the blanks before it.
-pub fn object_close_end(s: &[u8], at: usize) -> usize
-    ensures { result ≡ end_of (closing close_object s.now at) }
+pub fn object_close_end(s: &[u8], at: usize) -> Option<usize>
+    ensures { result ≡ closing close_object s.now at }
 {
     closing_end(s, at, CLOSE_OBJECT)
 }
 
-// Past the blanks, the byte `byte` and the blanks past it.
-fn separator_end(s: &[u8], at: usize, byte: u8) -> usize
+// Past the blanks, the byte `byte`, which is not the 0 past the end, and the blanks past it.
+fn separator_end(s: &[u8], at: usize, byte: u8) -> Option<usize>
     requires { 0 < byte }
-    ensures { result ≡ end_of (separator byte s.now at) }
+    ensures { result ≡ separator byte s.now at }
 {
     let k = skip_blanks(s, at);
     if byte_at(s, k) == byte {
-        skip_blanks(s, k + 1)
+        Some(skip_blanks(s, k + 1))
     } else {
-        0
+        None
     }
 }
 
 // Past the comma between two items, with the blanks on both sides: where the next item begins.
-pub fn comma_end(s: &[u8], at: usize) -> usize
-    ensures { result ≡ end_of (separator comma s.now at) }
+pub fn comma_end(s: &[u8], at: usize) -> Option<usize>
+    ensures { result ≡ separator comma s.now at }
 {
     separator_end(s, at, COMMA)
 }
 
 // Past the colon of a member, with the blanks on both sides: where its value begins.
-pub fn colon_end(s: &[u8], at: usize) -> usize
-    ensures { result ≡ end_of (separator colon s.now at) }
+pub fn colon_end(s: &[u8], at: usize) -> Option<usize>
+    ensures { result ≡ separator colon s.now at }
 {
     separator_end(s, at, COLON)
 }
@@ -175,46 +133,30 @@ pub fn colon_end(s: &[u8], at: usize) -> usize
 fn is_four_hex(s: &[u8], i: usize) -> bool
     ensures { result ≡ four_hex s.now i }
 {
-    if is_hex(byte_at(s, i)) {
-        if is_hex(byte_at(s, i + 1)) {
-            if is_hex(byte_at(s, i + 2)) {
-                is_hex(byte_at(s, i + 3))
-            } else {
-                false
-            }
-        } else {
-            false
-        }
-    } else {
-        false
-    }
+    is_hex(byte_at(s, i))
+        && is_hex(byte_at(s, i + 1))
+        && is_hex(byte_at(s, i + 2))
+        && is_hex(byte_at(s, i + 3))
 }
 
 // Whether c stands for itself in a string.
+#[tactic(auto, using(std::proofs::lemmas::Bool::Decides::nat_tests), unfolding(crate::specs::Ends::unescaped))]
 fn is_unescaped(c: u8) -> bool
     ensures { result ≡ unescaped c }
 {
-    if c < 32 {
-        false
-    } else if c == QUOTE {
-        false
-    } else if c == BACKSLASH {
-        false
-    } else {
-        true
-    }
+    b' ' <= c && c != QUOTE && c != BACKSLASH
 }
 
 // Eight times the byte 127, 128, 96, a quote, a backslash.
-const LOW: u64 = 9187201950435737471;
+const LOW: u64 = 0x7f7f_7f7f_7f7f_7f7f;
 
-const HIGH: u64 = 9259542123273814144;
+const HIGH: u64 = 0x8080_8080_8080_8080;
 
-const GAP: u64 = 6944656592455360608;
+const GAP: u64 = 0x6060_6060_6060_6060;
 
-const QUOTES: u64 = 2459565876494606882;
+const QUOTES: u64 = 0x2222_2222_2222_2222;
 
-const BACKSLASHES: u64 = 6655295901103053916;
+const BACKSLASHES: u64 = 0x5c5c_5c5c_5c5c_5c5c;
 
 // The high bit of each byte of x that does not stand for itself in a string.
 fn special_bytes(x: u64) -> u64
@@ -236,62 +178,55 @@ fn skip_plain(s: &[u8], at: usize) -> usize
     while i + 8 <= s.len() {
         let special = special_bytes(word_at(s, i));
         if special != 0 {
-            return i + (u64::trailing_zeros(special) >> 3) as usize;
+            return i + special.trailing_zeros() as usize / 8;
         }
         i += 8;
     }
     i
 }
 
-// Past the character of a string at i, one byte or an escape, and 0 if none stands there. A quote is none.
-fn char_end(s: &[u8], i: usize) -> usize
+// Past the character of a string at i, one byte or an escape. A quote is none.
+fn char_end(s: &[u8], i: usize) -> Option<usize>
     ensures { CharEnd s.now i result }
 {
     let c = byte_at(s, i);
     if is_unescaped(c) {
-        return i + 1;
+        return Some(i + 1);
     }
     if c != BACKSLASH {
-        return 0;
+        return None;
     }
-    let d = byte_at(s, i + 1);
-    if d == 117 {
-        if is_four_hex(s, i + 2) { i + 6 } else { 0 }
-    } else {
-        if is_escaped(d) { i + 2 } else { 0 }
+    match byte_at(s, i + 1) {
+        b'u' if is_four_hex(s, i + 2) => Some(i + 6),
+        b'u' => None,
+        d if is_escaped(d) => Some(i + 2),
+        _ => None,
     }
 }
 
 // Past a string, from past its first quote, a character at a time.
-fn string_rest_end(s: &[u8], at: usize) -> usize
-    ensures { result ≡ end_of (string_rest s.now at) }
+fn string_rest_end(s: &[u8], at: usize) -> Option<usize>
+    ensures { result ≡ string_rest s.now at }
 {
     let mut i = at;
-    loop {
-        if byte_at(s, i) == QUOTE {
-            return i + 1;
-        }
-        let k = char_end(s, i);
-        if k == 0 {
-            return 0;
-        }
-        i = k;
+    while byte_at(s, i) != QUOTE {
+        i = char_end(s, i)?;
     }
+    Some(i + 1)
 }
 
 // Past a string, quotes included. Most have no escape, and end where `skip_plain` stops.
-pub fn string_end(s: &[u8], at: usize) -> usize
-    ensures { result ≡ end_of (string s.now at) }
+pub fn string_end(s: &[u8], at: usize) -> Option<usize>
+    ensures { result ≡ string s.now at }
 {
-    if byte_at(s, at) == QUOTE {
-        let k = skip_plain(s, at + 1);
-        if byte_at(s, k) == QUOTE {
-            k + 1
-        } else {
-            string_rest_end(s, k)
-        }
+    if byte_at(s, at) != QUOTE {
+        return None;
+    }
+    let k = skip_plain(s, at + 1);
+    if byte_at(s, k) == QUOTE {
+        Some(k + 1)
     } else {
-        0
+        string_rest_end(s, k)
     }
 }
 
@@ -306,13 +241,13 @@ fn skip_digits(s: &[u8], at: usize) -> usize
 }
 
 // Past one digit or more.
-fn some_digits_end(s: &[u8], at: usize) -> usize
-    ensures { result ≡ end_of (some_digits s.now at) }
+fn some_digits_end(s: &[u8], at: usize) -> Option<usize>
+    ensures { result ≡ some_digits s.now at }
 {
     if is_digit(byte_at(s, at)) {
-        skip_digits(s, at)
+        Some(skip_digits(s, at))
     } else {
-        0
+        None
     }
 }
 
@@ -320,106 +255,82 @@ fn some_digits_end(s: &[u8], at: usize) -> usize
 fn skip_minus(s: &[u8], at: usize) -> usize
     ensures { result ≡ minus s.now at }
 {
-    if byte_at(s, at) == 45 { at + 1 } else { at }
+    if byte_at(s, at) == b'-' { at + 1 } else { at }
 }
 
 // Past a plus or a minus sign, if one stands there.
 fn skip_sign(s: &[u8], at: usize) -> usize
     ensures { result ≡ sign s.now at }
 {
-    let c = byte_at(s, at);
-    if c == 43 {
-        at + 1
-    } else if c == 45 {
-        at + 1
-    } else {
-        at
+    match byte_at(s, at) {
+        b'+' | b'-' => at + 1,
+        _ => at,
     }
 }
 
-fn int_end(s: &[u8], at: usize) -> usize
-    ensures { result ≡ end_of (int s.now at) }
+fn int_end(s: &[u8], at: usize) -> Option<usize>
+    ensures { result ≡ int s.now at }
 {
-    if byte_at(s, at) == 48 {
-        at + 1
+    if byte_at(s, at) == b'0' {
+        Some(at + 1)
     } else {
         some_digits_end(s, at)
     }
 }
 
-// Past a fraction, if one stands there: `at` itself if not, 0 if its digits are missing.
-fn fraction_end(s: &[u8], at: usize) -> usize
-    ensures { result ≡ end_of (fraction s.now at) }
+// Past a fraction, if one stands there: `at` itself if not, none if its digits are missing.
+fn fraction_end(s: &[u8], at: usize) -> Option<usize>
+    ensures { result ≡ fraction s.now at }
 {
-    if byte_at(s, at) == 46 {
+    if byte_at(s, at) == b'.' {
         some_digits_end(s, at + 1)
     } else {
-        at
+        Some(at)
     }
 }
 
-// Past an exponent, if one stands there: `at` itself if not, 0 if its digits are missing.
-fn exponent_end(s: &[u8], at: usize) -> usize
-    ensures { result ≡ end_of (exponent s.now at) }
+// Past an exponent, if one stands there: `at` itself if not, none if its digits are missing.
+fn exponent_end(s: &[u8], at: usize) -> Option<usize>
+    ensures { result ≡ exponent s.now at }
 {
-    let c = byte_at(s, at);
-    if c == 101 {
-        some_digits_end(s, skip_sign(s, at + 1))
-    } else if c == 69 {
-        some_digits_end(s, skip_sign(s, at + 1))
-    } else {
-        at
+    match byte_at(s, at) {
+        b'e' | b'E' => some_digits_end(s, skip_sign(s, at + 1)),
+        _ => Some(at),
     }
 }
 
 // Past a number.
-pub fn number_end(s: &[u8], at: usize) -> usize
-    ensures { result ≡ end_of (json_number s.now at) }
+pub fn number_end(s: &[u8], at: usize) -> Option<usize>
+    ensures { result ≡ json_number s.now at }
 {
-    let j = int_end(s, skip_minus(s, at));
-    if j == 0 {
-        return 0;
-    }
-    let k = fraction_end(s, j);
-    if k == 0 {
-        return 0;
-    }
+    let j = int_end(s, skip_minus(s, at))?;
+    let k = fraction_end(s, j)?;
     exponent_end(s, k)
 }
 
 // Past the bytes of w.
-pub fn word_end(s: &[u8], at: usize, w: &[u8]) -> usize
-    ensures { result ≡ end_of (literal w.now s.now at) }
+pub fn word_end(s: &[u8], at: usize, w: &[u8]) -> Option<usize>
+    ensures { result ≡ literal w.now s.now at }
 {
-    let mut k = 0;
     let mut i = at;
-    while k < w.len() {
-        if s.len() <= i {
-            return 0;
+    for b in w {
+        if s.get(i)? != b {
+            return None;
         }
-        if s[i] != w[k] {
-            return 0;
-        }
-        k += 1;
         i += 1;
     }
-    i
+    Some(i)
 }
 
 // Past a string, a number or a literal name.
-pub fn scalar_end(s: &[u8], at: usize) -> usize
-    ensures { result ≡ end_of (scalar s.now at) }
+pub fn scalar_end(s: &[u8], at: usize) -> Option<usize>
+    ensures { result ≡ scalar s.now at }
 {
-    let c = byte_at(s, at);
-    if c == QUOTE {
-        string_end(s, at)
-    } else if c == 116 {
-        word_end(s, at, b"true")
-    } else if c == 102 {
-        word_end(s, at, b"false")
-    } else if c == 110 {
-        word_end(s, at, b"null")
-    } else {
-        number_end(s, at)
+    match byte_at(s, at) {
+        QUOTE => string_end(s, at),
+        b't' => word_end(s, at, b"true"),
+        b'f' => word_end(s, at, b"false"),
+        b'n' => word_end(s, at, b"null"),
+        _ => number_end(s, at),
     }
 }

@@ -3,22 +3,19 @@
 use Rattle.std.specs.Prelude.{None, Option, Some, ℕ}
 use mathlib.Core.Path.{◌≡◌, refl, ◌∙◌}
 use mathlib.Core.List.{List}
-use Prim.Native.Nat.{ℕ, ◌<◌}
+use Prim.Native.Nat.{ℕ, ◌≤◌, ◌<◌}
+use lib.ListN.{length}
 use native.Mathlib.Omega.{arith}
 use Rattle.json_tokens.specs.Tokens.{blanks, closing, separator}
-use Rattle.json_tokens.specs.Ends.{end_of}
-use Rattle.json_tokens.proofs.Laws.{end-at, end_is, end_none}
-use Rattle.json_tokens.proofs.Bounds.{Within, bounds, end-broken, closing-in}
-use Rattle.json_values.specs.Json.{Next, item, wrong, Items, items, no_items, list_of, items_end, element, member, value}
-use Rattle.json_values.specs.Ends.{member_end}
+use Rattle.json_tokens.proofs.Bounds.{Within, bounds}
+use Rattle.json_values.specs.Json.{Next, item, wrong, Items, items, no_items, list_of, items_end, element, member, elements, members, value}
+use Rattle.json_values.specs.Ends.{member_end, held_end, container_end, close_end}
+use Rattle.json_values.specs.declared.Container.{Container}
+use Rattle.json_values.specs.declared.Container.TheVariants.{Array, Object}
 use Rattle.json_values.specs.Fold.{folded_in}
 use Rattle.json_values.proofs.Laws.{element-is, element-wrong, by-member, member_is, no_member}
 use Rattle.json_values.proofs.Bounds.{value_in, member_end-value}
-use Rattle.json_values.proofs.Fold.{Loop, Stands, Left, made, fold-empty, fold_start, fold-last, fold-broken}
-
--- the end of a list, as a number
-abbrev pub list_end : {A : Type 0} → Items A → ℕ
-list_end x = end_of (items_end x)
+use Rattle.json_values.proofs.Fold.{Loop, Stands, Left, made, fold-empty, fold_start, fold-wrong, fold-further, fold_on, fold-last, fold-broken, is-bracket, is-brace}
 
 -- `end` tells of each position where the item there ends, or that none begins there
 pub record Tells {A : Type 0} (one : ℕ → Next A) (s : List ℕ) (end : ℕ → Option ℕ) : Type 0 where
@@ -42,41 +39,104 @@ module _ (d : ℕ) (s : List ℕ) where
     is-wrong = no_member (value d s) s;
   }
 
-module _ {A : Type 0} {one : ℕ → Next A} {s : List ℕ} {end : ℕ → Option ℕ} (t : Tells one s end) (i e : ℕ) (h : e ≡ end_of (end i)) where
-  pub tells-wrong : e ≡ 0 → one i ≡ wrong
-  tells-wrong z = t.is-wrong i (end-broken e (omega arith) (t.inside i) h z)
-
-  pub tells-item : (e ≡ 0 → ⊥) → (a : A) × Stands one s i a e
-  tells-item n =
-      let a = t.is-item i e (end-at (end i) e h n) in
-      let b = bounds e (t.inside i) (end-at (end i) e h n) in
-      (a.0, record { is = a.1; some = omega arith; inside = b.1 })
-
-module _ {A : Type 0} (one : ℕ → Next A) (bracket : ℕ) (is_byte : 0 < bracket) (s : List ℕ) where
+-- ---- a list of such items, past the opening bracket
+module _ {A : Type 0} {one : ℕ → Next A} {s : List ℕ} {end : ℕ → Option ℕ} (t : Tells one s end) (bracket : ℕ) (is_byte : 0 < bracket) where
   -- nothing is kept
-  abbrev pub ends : Loop A (Unit {0}) ℕ
-  ends = record { text = s; one = one; bracket = bracket; is_byte = is_byte; step = λ st a. st; close = λ e st. e; bad = 0 }
+  abbrev ends : Loop A (Unit {0}) (Option ℕ)
+  ends = record { text = s; one = one; bracket = bracket; is_byte = is_byte; step = λ st a. st; close = λ e st. Some e; bad = None }
 
-  ends-are : (x : Items A) → made ends tt x ≡ list_end x
-  unfolding folded_in end_of items_end
+  ends-are : (x : Items A) → made ends tt x ≡ items_end x
+  unfolding folded_in items_end
   ends-are (items l e) = refl
   ends-are no_items = refl
 
-  module _ (i e : ℕ) (h : e ≡ end_of (closing bracket s i)) where
-    pub ends-empty : 0 < e → e ≡ list_end (list_of one bracket s i)
-    ends-empty p = fold-empty ends tt i e h (λ z. omega arith) ∙ ends-are (list_of one bracket s i)
+  -- an item ends at e, and the list ends as r says
+  pub record Past (e : ℕ) (r : Option ℕ) : Type 0 where
+    pub begins : ℕ
+    pub left : Left ends tt begins r
+    pub item : end begins ≡ Some e
 
-    pub ends-start : e ≡ 0 → (k : ℕ) → k ≡ blanks s i → Left ends tt k (list_end (list_of one bracket s i))
-    ends-start z k b = rw (ends-are (list_of one bracket s i)) at (fold_start ends tt i e h z k b)
+  pub ends-empty : (i e : ℕ) → closing bracket s i ≡ Some e → Some e ≡ items_end (list_of one bracket s i)
+  ends-empty i e h = fold-empty ends tt i e h ∙ ends-are (list_of one bracket s i)
 
-  -- no comma behind an item: the answer is where the bracket ends, if it does
-  pub ends_last : {i r : ℕ} → Left ends tt i r → {a : A} {e : ℕ} → Stands one s i a e → (l : ℕ) → l ≡ end_of (separator 44 s e) → l ≡ 0
-      → end_of (closing bracket s e) ≡ r
-  unfolding end_of
-  ends_last {i} {r} w {a} {e} h l c z = go (closing bracket s e) refl
-    where
-      go : (x : Option ℕ) → closing bracket s e ≡ x → end_of x ≡ r
-      go (Some k) q =
-          let b = bounds k (closing-in s bracket e is_byte) q in
-          fold-last ends tt w h l c z k (end_is q) (λ y. omega arith) refl
-      go None q = fold-broken ends tt w h l c z 0 (end_none q) refl
+  module _ (i : ℕ) (h : closing bracket s i ≡ None) (k : ℕ) (b : k ≡ blanks s i) where
+    first : Left ends tt k (items_end (list_of one bracket s i))
+    first = rw (ends-are (list_of one bracket s i)) at (fold_start ends tt i h k b)
+
+    pub past-first : (e : ℕ) → end k ≡ Some e → Past e (items_end (list_of one bracket s i))
+    past-first e q = record { begins = k; left = first; item = q }
+
+    pub no-first : end k ≡ None → None ≡ items_end (list_of one bracket s i)
+    no-first q = fold-wrong ends tt first (t.is-wrong k q)
+
+  module _ {e : ℕ} {r : Option ℕ} (w : Past e r) where
+    item_at : (a : A) × Stands one s w.begins a e
+    item_at =
+        let a = t.is-item w.begins e w.item in
+        let b = bounds e (t.inside w.begins) w.item in
+        (a.0, record { is = a.1; some = omega arith; inside = b.1 })
+
+    module _ (j : ℕ) (c : separator 44 s e ≡ Some j) where
+      next : Left ends tt j r
+      next = fold_on ends tt w.left item_at.1 j c refl
+
+      pub past_on : (f : ℕ) → end j ≡ Some f → Past f r
+      past_on f q = record { begins = j; left = next; item = q }
+
+      pub past-further : (f : ℕ) → end j ≡ Some f → (e < f) × (f ≤ length s)
+      past-further f q =
+          let m = fold-further ends tt w.left item_at.1 j c in
+          let b = bounds f (t.inside j) q in
+          (omega arith, b.1)
+
+      pub past-wrong : end j ≡ None → None ≡ r
+      past-wrong q = fold-wrong ends tt next (t.is-wrong j q)
+
+    -- no comma: the answer is where the bracket ends, if it does
+    pub past-last : separator 44 s e ≡ None → closing bracket s e ≡ r
+    past-last c = go (closing bracket s e) refl
+      where
+        go : (x : Option ℕ) → closing bracket s e ≡ x → x ≡ r
+        go (Some k) q = fold-last ends tt w.left item_at.1 c k q refl
+        go None q = fold-broken ends tt w.left item_at.1 c q
+
+-- ---- an array and an object
+abbrev pub Held : Container → ℕ → List ℕ → ℕ → Option ℕ → Type 0
+Held Array d s e r = Past (elements-tell d s) 93 is-bracket e r
+Held Object d s e r = Past (members-tell d s) 125 is-brace e r
+
+pub held-empty : (k : Container) (d : ℕ) (s : List ℕ) (i e : ℕ) → close_end k s i ≡ Some e → Some e ≡ container_end k (value d s) s i
+unfolding elements members
+held-empty Array d s i e h = ends-empty (elements-tell d s) 93 is-bracket i e h
+held-empty Object d s i e h = ends-empty (members-tell d s) 125 is-brace i e h
+
+pub held-first : (k : Container) (d : ℕ) (s : List ℕ) (i : ℕ) → close_end k s i ≡ None → (b : ℕ) → b ≡ blanks s i
+    → (e : ℕ) → held_end k (value d s) s b ≡ Some e → Held k d s e (container_end k (value d s) s i)
+unfolding elements members
+held-first Array d s i h b z e q = past-first (elements-tell d s) 93 is-bracket i h b z e q
+held-first Object d s i h b z e q = past-first (members-tell d s) 125 is-brace i h b z e q
+
+pub held-no-first : (k : Container) (d : ℕ) (s : List ℕ) (i : ℕ) → close_end k s i ≡ None → (b : ℕ) → b ≡ blanks s i
+    → held_end k (value d s) s b ≡ None → None ≡ container_end k (value d s) s i
+unfolding elements members
+held-no-first Array d s i h b z q = no-first (elements-tell d s) 93 is-bracket i h b z q
+held-no-first Object d s i h b z q = no-first (members-tell d s) 125 is-brace i h b z q
+
+pub held_on : (k : Container) (d : ℕ) (s : List ℕ) (e : ℕ) (r : Option ℕ) → Held k d s e r → (j : ℕ) → separator 44 s e ≡ Some j
+    → (f : ℕ) → held_end k (value d s) s j ≡ Some f → Held k d s f r
+held_on Array d s e r w j c f q = past_on (elements-tell d s) 93 is-bracket w j c f q
+held_on Object d s e r w j c f q = past_on (members-tell d s) 125 is-brace w j c f q
+
+pub held-further : (k : Container) (d : ℕ) (s : List ℕ) (e : ℕ) (r : Option ℕ) → Held k d s e r → (j : ℕ) → separator 44 s e ≡ Some j
+    → (f : ℕ) → held_end k (value d s) s j ≡ Some f → (e < f) × (f ≤ length s)
+held-further Array d s e r w j c f q = past-further (elements-tell d s) 93 is-bracket w j c f q
+held-further Object d s e r w j c f q = past-further (members-tell d s) 125 is-brace w j c f q
+
+pub held-wrong : (k : Container) (d : ℕ) (s : List ℕ) (e : ℕ) (r : Option ℕ) → Held k d s e r → (j : ℕ) → separator 44 s e ≡ Some j
+    → held_end k (value d s) s j ≡ None → None ≡ r
+held-wrong Array d s e r w j c q = past-wrong (elements-tell d s) 93 is-bracket w j c q
+held-wrong Object d s e r w j c q = past-wrong (members-tell d s) 125 is-brace w j c q
+
+pub held-last : (k : Container) (d : ℕ) (s : List ℕ) (e : ℕ) (r : Option ℕ) → Held k d s e r → separator 44 s e ≡ None → close_end k s e ≡ r
+held-last Array d s e r w c = past-last (elements-tell d s) 93 is-bracket w c
+held-last Object d s e r w c = past-last (members-tell d s) 125 is-brace w c

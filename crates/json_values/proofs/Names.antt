@@ -1,5 +1,7 @@
 -- The laws of what strings mean.
 -- Assumes nothing.
+use Rattle.std.specs.Prelude.{None, Some, min}
+use native.Mathlib.Decide.{dec_lt}
 use mathlib.Core.Path.{◌≡◌, refl, sym, ap, ap₂, ◌∙◌}
 use mathlib.Core.List.{List, [], ◌∷◌}
 use mathlib.Core.Bool.{Bool, true, false, ◌&&◌, ◌||◌, not, cond, true≢false, and-eq-true_iff}
@@ -65,15 +67,23 @@ module _ (t : List ℕ) (i n : ℕ) (is : n ≡ cond (eqb (byte_at t (i + 1)) 11
   past-rest : meaning (escape_length (drop (i + 1) t)) (drop (i + 1) t) ≡ meaning 0 (drop (i + 1 + n) t)
   past-rest = ap (λ (k : ℕ). meaning k (drop (i + 1) t)) length-is ∙ meaning-skip n (drop (i + 1) t) ∙ ap (meaning 0) (drop-drop n (i + 1) t)
 
-  pub past-cut : length t - i ≤ n → i < length t → PastEscape t i (length t)
+  past-cut : length t - i ≤ n → i < length t → PastEscape t i (length t)
   past-cut h l =
       record {
         later = l;
         rest = past-rest ∙ ap (meaning 0) (drop_of_length-le t {i = i + 1 + n} (omega arith) ∙ sym (drop_of_length-le t {i = length t} (omega arith)));
       }
 
-  pub past-whole : PastEscape t i (i + 1 + n)
+  past-whole : PastEscape t i (i + 1 + n)
   past-whole = record { later = omega arith; rest = past-rest }
+
+  -- where the text ends, if it ends within the escape
+  pub past_least : i < length t → PastEscape t i (i + 1 + min n (length t - i - 1))
+  past_least l =
+      elim (dec_lt (length t - i - 1) n) [
+        | yes h ↦ let z : i + 1 + min n (length t - i - 1) ≡ length t = omega arith in rw z (past-cut (omega arith) l)
+        | no h ↦ let z : min n (length t - i - 1) ≡ n = omega arith in rw z past-whole
+      ]
 
 -- it is no longer than they are
 pub meaning-length : (k : ℕ) (t : List ℕ) → length (meaning k t) ≤ length t
@@ -145,38 +155,21 @@ module _ (c b : ℕ) (m n : List ℕ) where
 -- the character at i, and a name that begins with b
 module _ (t : List ℕ) (i b : ℕ) (l : i < length t) where
   module _ (e : byte_at t i ≡ 92) where
-    pub spelled-escape : escape_meaning (drop (i + 1) t) ≡ b → (r : ℕ) → PastEscape t i r → Spelled t i b r
-    spelled-escape h r p =
-        record {
-          other = λ z. absurd (let q = p.later in omega arith);
-          later = λ n. p.later;
-          rest = λ n m. ap (λ (x : List ℕ). same x (b ∷ m)) (meaning-escape t i l e) ∙ same-on (escape_meaning (drop (i + 1) t)) b (meaning (escape_length (drop (i + 1) t)) (drop (i + 1) t)) m h ∙ ap (λ (x : List ℕ). same x m) p.rest;
-        }
+    pub spelled-escape : escape_meaning (drop (i + 1) t) ≡ b → (r : ℕ) → PastEscape t i r → Spelled t i b (Some r)
+    spelled-escape h r p = (
+      p.later,
+      λ m. ap (λ (x : List ℕ). same x (b ∷ m)) (meaning-escape t i l e) ∙ same-on (escape_meaning (drop (i + 1) t)) b (meaning (escape_length (drop (i + 1) t)) (drop (i + 1) t)) m h ∙ ap (λ (x : List ℕ). same x m) p.rest,
+    )
 
-    pub other-escape : (escape_meaning (drop (i + 1) t) ≡ b → ⊥) → Spelled t i b 0
-    other-escape h =
-        record {
-          other = λ z m. ap (λ (x : List ℕ). same x (b ∷ m)) (meaning-escape t i l e) ∙ same-off (escape_meaning (drop (i + 1) t)) b (meaning (escape_length (drop (i + 1) t)) (drop (i + 1) t)) m h;
-          later = λ n. absurd (n refl);
-          rest = λ n. absurd (n refl);
-        }
+    pub other-escape : (escape_meaning (drop (i + 1) t) ≡ b → ⊥) → Spelled t i b None
+    other-escape h = λ m. ap (λ (x : List ℕ). same x (b ∷ m)) (meaning-escape t i l e) ∙ same-off (escape_meaning (drop (i + 1) t)) b (meaning (escape_length (drop (i + 1) t)) (drop (i + 1) t)) m h
 
   module _ (n : byte_at t i ≡ 92 → ⊥) where
-    pub spelled-plain : byte_at t i ≡ b → Spelled t i b (i + 1)
-    spelled-plain h =
-        record {
-          other = λ z. absurd (omega arith);
-          later = λ z. omega arith;
-          rest = λ z m. ap (λ (x : List ℕ). same x (b ∷ m)) (meaning-plain t i l n) ∙ same-on (byte_at t i) b (meaning 0 (drop (i + 1) t)) m h;
-        }
+    pub spelled-plain : byte_at t i ≡ b → Spelled t i b (Some (i + 1))
+    spelled-plain h = (omega arith, λ m. ap (λ (x : List ℕ). same x (b ∷ m)) (meaning-plain t i l n) ∙ same-on (byte_at t i) b (meaning 0 (drop (i + 1) t)) m h)
 
-    pub other-plain : (byte_at t i ≡ b → ⊥) → Spelled t i b 0
-    other-plain h =
-        record {
-          other = λ z m. ap (λ (x : List ℕ). same x (b ∷ m)) (meaning-plain t i l n) ∙ same-off (byte_at t i) b (meaning 0 (drop (i + 1) t)) m h;
-          later = λ z. absurd (z refl);
-          rest = λ z. absurd (z refl);
-        }
+    pub other-plain : (byte_at t i ≡ b → ⊥) → Spelled t i b None
+    other-plain h = λ m. ap (λ (x : List ℕ). same x (b ∷ m)) (meaning-plain t i l n) ∙ same-off (byte_at t i) b (meaning 0 (drop (i + 1) t)) m h
 
 -- what is left of a name, from place k on
 pub name-left : (name : List ℕ) (k : ℕ) → k < length name → drop k name ≡ get_or name k 0 ∷ drop (k + 1) name
@@ -265,11 +258,17 @@ module _ (s : List ℕ) (first to : ℕ) (name : List ℕ) where
       let b = length-take (to - 1 - first) (drop first s) in
       sym (same-longer (meaning 0 t) name (omega arith))
 
-  -- all up to the end of the text
-  pub between-cut : length s < to - 1 → same (meaning 0 (drop first s)) name ≡ same (meaning 0 (take (to - 1 - first) (drop first s))) name
-  between-cut h =
+  -- no more than the text has
+  pub between-cut : same (meaning 0 (take (min (to - 1) (length s) - first) (drop first s))) name ≡ same (meaning 0 (take (to - 1 - first) (drop first s))) name
+  between-cut =
       let b = length-drop first s in
-      sym (ap (λ (x : List ℕ). same (meaning 0 x) name) (take_all (to - 1 - first) (drop first s) (omega arith)))
+      elim (dec_lt (length s) (to - 1)) [
+        | yes h ↦
+            let p = take_all (to - 1 - first) (drop first s) (omega arith) in
+            let q = take_all (min (to - 1) (length s) - first) (drop first s) (omega arith) in
+            ap (λ (x : List ℕ). same (meaning 0 x) name) (q ∙ sym p)
+        | no h ↦ let z : min (to - 1) (length s) ≡ to - 1 = omega arith in ap (λ (k : ℕ). same (meaning 0 (take (k - first) (drop first s))) name) z
+      ]
 
 -- a string means one name at the most
 pub means-meaning : (s : List ℕ) (a : Span) (name : List ℕ) → means s a name ≡ true → meaning 0 (inner s a) ≡ name

@@ -1,5 +1,5 @@
 -- Where a character of a string ends, in terms of the code. Assumes nothing: these are definitions.
-use Rattle.std.specs.Prelude.{ℕ, ◌+◌, ◌≤◌, ◌<◌, ◌≡◌, Bool, false, ◌&&◌, not, List, ◌∷◌, length, get_or, drop, eqb}
+use Rattle.std.specs.Prelude.{ℕ, ◌+◌, ◌≤◌, ◌<◌, ◌≡◌, Bool, false, ◌&&◌, not, List, ◌∷◌, length, get_or, drop, eqb, None, Option, Some}
 use Rattle.text.specs.Text.{byte_at}
 use Rattle.json_tokens.specs.Bytes.{backslash}
 use Rattle.json_values.specs.Names.{escape_length, meaning, same}
@@ -9,11 +9,10 @@ pub record PastEscape (t : List ℕ) (i r : ℕ) : Type 0 where
   pub later : i < r
   pub rest : meaning (escape_length (drop (i + 1) t)) (drop (i + 1) t) ≡ meaning 0 (drop r t)
 
--- The character at i means b, and r is where the next one begins; r is 0 where it does not.
-pub record Spelled (t : List ℕ) (i b r : ℕ) : Type 0 where
-  pub other : r ≡ 0 → (m : List ℕ) → same (meaning 0 (drop i t)) (b ∷ m) ≡ false
-  pub later : (r ≡ 0 → ⊥) → i < r
-  pub rest : (r ≡ 0 → ⊥) → (m : List ℕ) → same (meaning 0 (drop i t)) (b ∷ m) ≡ same (meaning 0 (drop r t)) m
+-- The character at i means b, and r is where the next one begins; r is none where it does not.
+abbrev pub Spelled : List ℕ → ℕ → ℕ → Option ℕ → Type 0
+Spelled t i b None = (m : List ℕ) → same (meaning 0 (drop i t)) (b ∷ m) ≡ false
+Spelled t i b (Some r) = (i < r) × ((m : List ℕ) → same (meaning 0 (drop i t)) (b ∷ m) ≡ same (meaning 0 (drop r t)) m)
 
 -- A string that begins with c cannot mean the name: c is neither the name's first byte nor a backslash.
 unfoldable pub begins_otherwise : ℕ → List ℕ → Bool

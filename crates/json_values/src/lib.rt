@@ -3,26 +3,22 @@
 //
 // Any position may be asked for. `depth` is how deep arrays and objects may nest in what is read;
 // a whole text has MAX_DEPTH, and what lies in an array or an object has one less than it has.
-// An end is a plain number, the position past what was passed over, or 0 where it is not JSON: so a
-// loop over a message finds out whether it is JSON while it reads. The loops over the messages and
-// their entries stand in the crates above, and take commas and brackets from `json_tokens`.
+// An end is the position past what was passed over, or `None` where it is not JSON: so a loop over a
+// message finds out whether it is JSON while it reads. The loops over the messages and their entries
+// stand in the crates above, and take commas and brackets from `json_tokens`.
 //
-// Example: the elements of the array at the start of a text, which begin past its bracket.
+// Example: past the elements of the array at the start of a text, which begin past its bracket.
 //
-//     let mut i = skip_blanks(s, 1);
-//     loop {
-//         let e = json_values::value_end(s, i, json_values::MAX_DEPTH - 1);
-//         if e == 0 { .. }
-//         let j = comma_end(s, e);
-//         if j == 0 { return array_close_end(s, e); }
-//         i = j;
+//     let mut e = json_values::value_end(s, skip_blanks(s, 1), json_values::MAX_DEPTH - 1)?;
+//     while let Some(next) = comma_end(s, e) {
+//         e = json_values::value_end(s, next, json_values::MAX_DEPTH - 1)?;
 //     }
+//     array_close_end(s, e)
 #![tactic(auto)]
 
 ghost use Rattle.std.specs.Prelude.{◌≡◌, cond, eqb, ◌-◌, ◌≤◌, ◌<◌, length, take, drop};
-ghost use Rattle.json_tokens.specs.Ends.{end_of};
 ghost use Rattle.json_values.specs.Json.{items_end, elements, members, value};
-ghost use Rattle.json_values.specs.Ends.{member_end};
+ghost use Rattle.json_values.specs.Ends.{member_end, held_end, container_end, close_end};
 ghost use Rattle.json_values.specs.Names.{short_meaning, hex_value, escape_meaning, meaning, same, means};
 ghost use Rattle.json_values.specs.Escapes.{PastEscape, Spelled, begins_otherwise, PlainEnd};
 
@@ -30,109 +26,103 @@ use json_tokens::{
     BACKSLASH, OPEN_ARRAY, OPEN_OBJECT, QUOTE, array_close_end, colon_end, comma_end, number_end,
     object_close_end, scalar_end, skip_blanks, string_end,
 };
-use text::{byte_at, is_digit, wide};
+use text::byte_at;
 
 // How deep arrays and objects may nest in a text, the outermost counting as one.
 pub const MAX_DEPTH: usize = 16;
 
 // The letter of an escape that has four hex digits.
-const LONG_ESCAPE: u8 = 117;
+const LONG_ESCAPE: u8 = b'u';
 
 // Past the value at `at`.
 #[cycle(values)]
-pub fn value_end(s: &[u8], at: usize, depth: usize) -> usize
-    ensures { result ≡ end_of (value depth s.now at) }
+pub fn value_end(s: &[u8], at: usize, depth: usize) -> Option<usize>
+    ensures { result ≡ value depth s.now at }
 {
-    let c = byte_at(s, at);
-    if c == QUOTE {
-        return string_end(s, at);
-    }
-    if depth == 0 {
-        return scalar_end(s, at);
-    }
-    if c == OPEN_ARRAY {
-        array_end(s, at + 1, depth - 1)
-    } else if c == OPEN_OBJECT {
-        object_end(s, at + 1, depth - 1)
-    } else {
-        scalar_end(s, at)
+    match byte_at(s, at) {
+        QUOTE => string_end(s, at),
+        OPEN_ARRAY if 0 < depth => container_end(s, at + 1, depth - 1, Container::Array),
+        OPEN_OBJECT if 0 < depth => container_end(s, at + 1, depth - 1, Container::Object),
+        _ => scalar_end(s, at),
     }
 }
 
 // Past the value at `at`, as `value_end` has it. It is inlined, so that a string or a number costs one call.
-pub fn item_end(s: &[u8], at: usize, depth: usize) -> usize
-    ensures { result ≡ end_of (value depth s.now at) }
+pub fn item_end(s: &[u8], at: usize, depth: usize) -> Option<usize>
+    ensures { result ≡ value depth s.now at }
 {
-    let c = byte_at(s, at);
-    if c == QUOTE {
-        return string_end(s, at);
+    match byte_at(s, at) {
+        QUOTE => string_end(s, at),
+        b'0'..=b'9' => number_end(s, at),
+        _ => value_end(s, at, depth),
     }
-    if is_digit(c) {
-        return number_end(s, at);
-    }
-    value_end(s, at, depth)
 }
 
 // Past an array, from past its bracket.
-#[cycle(values)]
-pub fn array_end(s: &[u8], at: usize, depth: usize) -> usize
-    ensures { result ≡ end_of (items_end (elements (value depth s.now) s.now at)) }
+pub fn array_end(s: &[u8], at: usize, depth: usize) -> Option<usize>
+    ensures { result ≡ items_end (elements (value depth s.now) s.now at) }
 {
-    let empty = array_close_end(s, at);
-    if 0 < empty {
-        return empty;
+    container_end(s, at, depth, Container::Array)
+}
+
+// Past an object, from past its brace.
+pub fn object_end(s: &[u8], at: usize, depth: usize) -> Option<usize>
+    ensures { result ≡ items_end (members (value depth s.now) s.now at) }
+{
+    container_end(s, at, depth, Container::Object)
+}
+
+// What holds items in brackets: an array its elements, an object its members.
+#[derive(Clone, Copy)]
+enum Container {
+    Array,
+    Object,
+}
+
+// Past an array or an object, from past its bracket.
+#[cycle(values)]
+fn container_end(s: &[u8], at: usize, depth: usize, container: Container) -> Option<usize>
+    ensures { result ≡ container_end container (value depth s.now) s.now at }
+{
+    if let Some(empty) = close_end(s, at, container) {
+        return Some(empty);
     }
-    let mut i = skip_blanks(s, at);
-    loop {
-        let e = value_end(s, i, depth);
-        if e == 0 {
-            return 0;
-        }
-        let j = comma_end(s, e);
-        if j == 0 {
-            return array_close_end(s, e);
-        }
-        i = j;
+    let mut e = held_end(s, skip_blanks(s, at), depth, container)?;
+    while let Some(next) = comma_end(s, e) {
+        e = held_end(s, next, depth, container)?;
+    }
+    close_end(s, e, container)
+}
+
+// Past the bracket that closes it, with the blanks before it.
+fn close_end(s: &[u8], at: usize, container: Container) -> Option<usize>
+    ensures { result ≡ close_end container s.now at }
+{
+    match container {
+        Container::Array => array_close_end(s, at),
+        Container::Object => object_close_end(s, at),
+    }
+}
+
+// Past an element of an array or a member of an object.
+#[cycle(values)]
+fn held_end(s: &[u8], at: usize, depth: usize, container: Container) -> Option<usize>
+    ensures { result ≡ held_end container (value depth s.now) s.now at }
+{
+    match container {
+        Container::Array => value_end(s, at, depth),
+        Container::Object => member_end(s, at, depth),
     }
 }
 
 // Past a member of an object.
 #[cycle(values)]
-fn member_end(s: &[u8], at: usize, depth: usize) -> usize
-    ensures { result ≡ end_of (member_end (value depth s.now) s.now at) }
+fn member_end(s: &[u8], at: usize, depth: usize) -> Option<usize>
+    ensures { result ≡ member_end (value depth s.now) s.now at }
 {
-    let k = string_end(s, at);
-    if k == 0 {
-        return 0;
-    }
-    let v = colon_end(s, k);
-    if v == 0 {
-        return 0;
-    }
-    value_end(s, v, depth)
-}
-
-// Past an object, from past its brace.
-#[cycle(values)]
-pub fn object_end(s: &[u8], at: usize, depth: usize) -> usize
-    ensures { result ≡ end_of (items_end (members (value depth s.now) s.now at)) }
-{
-    let empty = object_close_end(s, at);
-    if 0 < empty {
-        return empty;
-    }
-    let mut i = skip_blanks(s, at);
-    loop {
-        let e = member_end(s, i, depth);
-        if e == 0 {
-            return 0;
-        }
-        let j = comma_end(s, e);
-        if j == 0 {
-            return object_close_end(s, e);
-        }
-        i = j;
-    }
+    let name = string_end(s, at)?;
+    let value = colon_end(s, name)?;
+    value_end(s, value, depth)
 }
 
 // Whether the string from `from` to `to`, quotes included, means the name. Most strings that do not are told by their first byte, before
@@ -144,23 +134,15 @@ pub fn is_name(s: &[u8], from: usize, to: usize, name: &[u8]) -> bool
         return false;
     }
     let first = from + 1;
-    if begins_otherwise(byte_at(s, first), name) {
-        return false;
-    }
-    is_between(s, first, to, name)
+    !begins_otherwise(byte_at(s, first), name) && is_between(s, first, to, name)
 }
 
 // Whether a string that begins with this byte cannot mean the name: it begins neither with the name's first byte nor with an escape.
+#[tactic(auto, using(std::proofs::lemmas::Bool::Decides::nat_tests), unfolding(crate::specs::Escapes::begins_otherwise))]
 fn begins_otherwise(c: u8, name: &[u8]) -> bool
     ensures { result ≡ begins_otherwise c name.now }
 {
-    if name.len() == 0 {
-        return false;
-    }
-    if c == name[0] {
-        return false;
-    }
-    c != BACKSLASH
+    !name.is_empty() && c != name[0] && c != BACKSLASH
 }
 
 // Whether the bytes from past the first quote of a string that ends at `to` mean the name. What they mean is no longer than they are, so
@@ -170,16 +152,13 @@ fn is_between(s: &[u8], first: usize, to: usize, name: &[u8]) -> bool
     ensures { result ≡ same (meaning 0 (take (to - 1 - first) (drop first s.now))) name.now }
 {
     if to <= first {
-        return name.len() == 0;
+        return name.is_empty();
     }
     let last = to - 1;
     if last - first < name.len() {
         return false;
     }
-    if s.len() < last {
-        return spells(&s[first..], name);
-    }
-    spells(&s[first..last], name)
+    spells(&s[first..last.min(s.len())], name)
 }
 
 // Whether the bytes between two quotes mean the name. Most strings have no escape, and are compared byte by byte.
@@ -190,30 +169,19 @@ fn spells(t: &[u8], name: &[u8]) -> bool
     if t.len() <= k {
         return k == name.len();
     }
-    if t[k] == BACKSLASH {
-        return spells_from(t, k, name);
-    }
-    false
+    t[k] == BACKSLASH && spells_from(t, k, name)
 }
 
 // How many bytes stand for themselves and are the name's, from the first on.
 fn plain_end(t: &[u8], name: &[u8]) -> usize
     ensures { PlainEnd t.now name.now result }
 {
-    let mut k = 0;
-    while k < name.len() {
-        if t.len() <= k {
+    for (k, b) in name.iter().enumerate() {
+        if t.len() <= k || t[k] != *b || *b == BACKSLASH {
             return k;
         }
-        if t[k] != name[k] {
-            return k;
-        }
-        if t[k] == BACKSLASH {
-            return k;
-        }
-        k += 1;
     }
-    k
+    name.len()
 }
 
 // Whether the bytes from a place on mean what is left of the name from that place on.
@@ -222,36 +190,30 @@ fn spells_from(t: &[u8], at: usize, name: &[u8]) -> bool
     ensures { result ≡ same (meaning 0 (drop at t.now)) (drop at name.now) }
 {
     let mut i = at;
-    let mut k = at;
-    while i < t.len() {
-        if name.len() <= k {
+    for b in &name[at..] {
+        if t.len() <= i {
             return false;
         }
-        let next = past_character(t, i, name[k]);
-        if next == 0 {
+        let Some(next) = past_character(t, i, *b) else {
             return false;
-        }
+        };
         i = next;
-        k += 1;
     }
-    k == name.len()
+    t.len() <= i
 }
 
-// Past the character at i if it means b, and 0 if it does not.
-fn past_character(t: &[u8], i: usize, b: u8) -> usize
+// Past the character at i if it means b.
+fn past_character(t: &[u8], i: usize, b: u8) -> Option<usize>
     requires { i < length t.now }
     ensures { Spelled t.now i b result }
 {
     if t[i] == BACKSLASH {
-        if escape_meaning(&t[i + 1..]) == wide(b) {
-            return past_escape(t, i);
+        if escape_meaning(&t[i + 1..]) == u64::from(b) {
+            return Some(past_escape(t, i));
         }
-        return 0;
+        return None;
     }
-    if t[i] == b {
-        return i + 1;
-    }
-    0
+    if t[i] == b { Some(i + 1) } else { None }
 }
 
 // What an escape means, from past its backslash on.
@@ -267,39 +229,30 @@ fn escape_meaning(t: &[u8]) -> u64
 }
 
 // What a two-character escape means, by its second character.
+#[tactic(auto, using(std::proofs::lemmas::Bool::Decides::nat_tests), unfolding(crate::specs::Names::short_meaning))]
 fn short_meaning(c: u8) -> u64
     ensures { result ≡ short_meaning c }
 {
-    if c == b'b' {
-        8
-    } else if c == b'f' {
-        12
-    } else if c == b'n' {
-        10
-    } else if c == b'r' {
-        13
-    } else if c == b't' {
-        9
-    } else {
-        wide(c)
+    match c {
+        b'b' => 8,
+        b'f' => 12,
+        b'n' => 10,
+        b'r' => 13,
+        b't' => 9,
+        _ => u64::from(c),
     }
 }
 
 // The value of a hex digit, of either case.
+#[tactic(auto, using(std::proofs::lemmas::Bool::Decides::nat_tests), unfolding(crate::specs::Names::hex_value, text::specs::Text::is_digit))]
 fn hex_value(c: u8) -> u64
     ensures { (result ≡ hex_value c) × (result < 256) }
 {
-    let n = wide(c);
-    if is_digit(c) {
-        return n - 48;
-    }
-    if 97 <= n {
-        return n - 87;
-    }
-    if n < 55 {
-        return 0;
-    }
-    n - 55
+    u64::from(match c {
+        b'0'..=b'9' => c - b'0',
+        b'a'.. => c - b'a' + 10,
+        _ => c.saturating_sub(b'A' - 10),
+    })
 }
 
 // Past the escape whose backslash stands at i, or past the end where the text ends within it.
@@ -307,12 +260,8 @@ fn past_escape(t: &[u8], i: usize) -> usize
     requires { i < length t.now }
     ensures { PastEscape t.now i result }
 {
-    let left = t.len() - i;
     let n = escape_length(byte_at(t, i + 1));
-    if left <= n {
-        return t.len();
-    }
-    i + 1 + n
+    i + 1 + n.min(t.len() - i - 1)
 }
 
 // How many bytes an escape has past its backslash, by the first of them.

@@ -4,7 +4,7 @@ use Prim.Native.Nat.{◌+◌}
 use mathlib.Core.Path.{◌∙◌, ◌≡◌, ap, sym}
 use native.Mathlib.Omega.{arith}
 use Rattle.json_tokens.proofs.Laws.{in-byte, in-escaped, in-four-hex, rest-low, rest-six, rest-six-no, rest-two, rest-two-no}
-use Rattle.json_tokens.proofs.Words.{char-none, char-some, in-unescaped, rest-unescaped, unescaped-low}
+use Rattle.json_tokens.proofs.Words.{in-unescaped, rest-unescaped, unescaped-low}
 use Rattle.text.specs.Text.{byte_at}
 use Rattle.json_tokens.specs.Bytes.{escaped}
 use Rattle.json_tokens.specs.Ends.{unescaped}
@@ -25,7 +25,7 @@ returns-then-is_unescaped c =
     let i = a.i in
     let h = ap unescaped (sym c.byte_at-c.ensures) ∙ sym c.is_unescaped.ensures ∙ c.if-is_unescaped.true in
     let l = in-unescaped s i h in
-    char-some s i (i + 1) (omega arith) (omega arith) (rest-unescaped s i h)
+    (omega arith, omega arith, rest-unescaped s i h)
 
 pub returns-then-c-ne-BACKSLASH : goal.returns-then-c-ne-BACKSLASH
 returns-then-c-ne-BACKSLASH c =
@@ -35,7 +35,7 @@ returns-then-c-ne-BACKSLASH c =
     let e = c.byte_at-c.ensures in
     let h = ap unescaped (sym e) ∙ sym c.is_unescaped.ensures ∙ c.if-is_unescaped.false in
     let m : byte_at s i ≡ 92 → ⊥ = λ p. c.if-c-ne-BACKSLASH.true (e ∙ p) in
-    char-none s i (λ n. rest-low s i n m (unescaped-low (byte_at s i) h n m))
+    λ n. rest-low s i n m (unescaped-low (byte_at s i) h n m)
 
 pub overflow_add-i : goal.overflow_add-i
 overflow_add-i c =
@@ -44,65 +44,66 @@ overflow_add-i c =
     let i = a.i in
     omega (arith, in-byte s i 92 (omega arith) (sym c.byte_at-c.ensures ∙ c.if-c-ne-BACKSLASH.false))
 
-pub overflow_add-i-then-d-eq117 : goal.overflow_add-i-then-d-eq117
-overflow_add-i-then-d-eq117 c =
+pub overflow_add-i-in-117-1 : goal.overflow_add-i-in-117-1
+overflow_add-i-in-117-1 c =
     let a = c.args in
     let s = a.s.now in
     let i = a.i in
-    omega (arith, in-byte s (i + 1) 117 (omega arith) (sym c.byte_at-d.ensures ∙ c.if-d-eq117.true))
+    let h : byte_at s (i + 1) ≡ 117 = omega arith in
+    omega (arith, in-byte s (i + 1) 117 (omega arith) h)
 
-pub overflow_add-result-then-is_four_hex : goal.overflow_add-result-then-is_four_hex
-overflow_add-result-then-is_four_hex c =
+pub overflow_add-result-in-117 : goal.overflow_add-result-in-117
+overflow_add-result-in-117 c =
     let a = c.args in
     let s = a.s.now in
     let i = a.i in
     omega (arith, in-four-hex s (i + 2) (sym c.is_four_hex.ensures ∙ c.if-is_four_hex.true))
 
-pub overflow_add-result-then-is_escaped : goal.overflow_add-result-then-is_escaped
-overflow_add-result-then-is_escaped c =
+pub overflow_add-result-in_default : goal.overflow_add-result-in_default
+overflow_add-result-in_default c =
     let a = c.args in
     let s = a.s.now in
     let i = a.i in
-    omega (arith, in-escaped s (i + 1) (ap escaped (sym c.byte_at-d.ensures) ∙ sym c.is_escaped.ensures ∙ c.if-is_escaped.true))
+    omega (arith, in-escaped s (i + 1) (ap escaped (sym c.byte_at.ensures) ∙ sym c.is_escaped.ensures ∙ c.if-is_escaped.true))
 
-pub returns-then-is_four_hex : goal.returns-then-is_four_hex
-returns-then-is_four_hex c =
+pub returns-in-117 : goal.returns-in-117
+returns-in-117 c =
     let a = c.args in
     let s = a.s.now in
     let i = a.i in
     let back = sym c.byte_at-c.ensures ∙ c.if-c-ne-BACKSLASH.false in
-    let next = sym c.byte_at-d.ensures ∙ c.if-d-eq117.true in
+    let next = sym c.byte_at.ensures ∙ c.in-117.is in
     let four = sym c.is_four_hex.ensures ∙ c.if-is_four_hex.true in
     let l = in-four-hex s (i + 2) four in
-    char-some s i (i + 6) (omega arith) (omega arith) (rest-six s i back next four)
+    (omega arith, omega arith, rest-six s i back next four)
 
-pub returns-else-is_four_hex : goal.returns-else-is_four_hex
-returns-else-is_four_hex c =
+pub returns-in-117-2 : goal.returns-in-117-2
+returns-in-117-2 c =
     let a = c.args in
     let s = a.s.now in
     let i = a.i in
     let back = sym c.byte_at-c.ensures ∙ c.if-c-ne-BACKSLASH.false in
-    let next = sym c.byte_at-d.ensures ∙ c.if-d-eq117.true in
-    char-none s i (λ n. rest-six-no s i back next (sym c.is_four_hex.ensures ∙ c.if-is_four_hex.false))
+    let next = sym c.byte_at.ensures ∙ c.in-117.is in
+    λ n. rest-six-no s i back next (sym c.is_four_hex.ensures ∙ c.if-is_four_hex.false)
 
-pub returns-then-is_escaped : goal.returns-then-is_escaped
-returns-then-is_escaped c =
+pub returns-in_default : goal.returns-in_default
+returns-in_default c =
     let a = c.args in
     let s = a.s.now in
     let i = a.i in
     let back = sym c.byte_at-c.ensures ∙ c.if-c-ne-BACKSLASH.false in
-    let d = c.byte_at-d.ensures in
-    let other : byte_at s (i + 1) ≡ 117 → ⊥ = λ p. c.if-d-eq117.false (d ∙ p) in
+    let d = c.byte_at.ensures in
+    let other : byte_at s (i + 1) ≡ 117 → ⊥ = λ p. let h = d ∙ p in omega arith in
     let two = ap escaped (sym d) ∙ sym c.is_escaped.ensures ∙ c.if-is_escaped.true in
     let l = in-escaped s (i + 1) two in
-    char-some s i (i + 2) (omega arith) (omega arith) (rest-two s i back other two)
+    (omega arith, omega arith, rest-two s i back other two)
 
-pub returns-else-is_escaped : goal.returns-else-is_escaped
-returns-else-is_escaped c =
+pub returns-in_default-2 : goal.returns-in_default-2
+returns-in_default-2 c =
     let a = c.args in
     let s = a.s.now in
     let i = a.i in
     let back = sym c.byte_at-c.ensures ∙ c.if-c-ne-BACKSLASH.false in
-    let d = c.byte_at-d.ensures in
-    let other : byte_at s (i + 1) ≡ 117 → ⊥ = λ p. c.if-d-eq117.false (d ∙ p) in
-    char-none s i (λ n. rest-two-no s i back other (ap escaped (sym d) ∙ sym c.is_escaped.ensures ∙ c.if-is_escaped.false))
+    let d = c.byte_at.ensures in
+    let other : byte_at s (i + 1) ≡ 117 → ⊥ = λ p. let h = d ∙ p in omega arith in
+    λ n. rest-two-no s i back other (ap escaped (sym d) ∙ sym c.is_escaped.ensures ∙ c.if-is_escaped.false)

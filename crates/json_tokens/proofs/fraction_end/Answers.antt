@@ -1,9 +1,8 @@
 -- `json_tokens::fraction_end` meets its contract: the first byte decides.
 -- Assumes nothing.
-use mathlib.Core.Path.{◌∙◌, ap, sym}
+use mathlib.Core.Path.{◌∙◌, sym}
 use native.Mathlib.Omega.{arith}
-use Rattle.json_tokens.proofs.Laws.{end_is, fraction-none, fraction-point, in-byte}
-use Rattle.json_tokens.specs.Ends.{end_of}
+use Rattle.json_tokens.proofs.Laws.{fraction-none, fraction-point, in-byte}
 use Rattle.json_tokens.proofs.fraction_end.Goals as goal
 
 pub overflow_add-at : goal.overflow_add-at
@@ -18,11 +17,11 @@ returns-then-byte_at-eq46 c =
     let a = c.args in
     let s = a.s.now in
     let i = a.at in
-    c.some_digits_end.ensures ∙ sym (ap end_of (fraction-point s i (sym c.byte_at.ensures ∙ c.if-byte_at-eq46.true)))
+    c.some_digits_end.ensures ∙ sym ((fraction-point s i (sym c.byte_at.ensures ∙ c.if-byte_at-eq46.true)))
 
 pub returns-else-byte_at-eq46 : goal.returns-else-byte_at-eq46
 returns-else-byte_at-eq46 c =
     let a = c.args in
     let s = a.s.now in
     let i = a.at in
-    end_is (fraction-none s i (λ e. c.if-byte_at-eq46.false (c.byte_at.ensures ∙ e)))
+    sym (fraction-none s i (λ e. c.if-byte_at-eq46.false (c.byte_at.ensures ∙ e)))

@@ -1,42 +1,30 @@
--- `json_tokens::number_end` meets its contract: its parts follow one another as in the definition, and a 0 in between is a broken part, since what stands before it has a byte at least.
+-- `json_tokens::number_end` meets its contract: its parts follow one another as in the definition.
 -- Assumes nothing.
-use mathlib.Core.Path.{◌∙◌, ◌≡◌, ap, sym}
-use native.Mathlib.Omega.{arith}
-use Rattle.json_tokens.proofs.Bounds.{bounds, end-broken, fraction-in, int-minus-in}
-use Rattle.json_tokens.proofs.Laws.{end-at, end_none, number_is, number-no-fraction, number-no-int}
-use Rattle.json_tokens.specs.Tokens.{int, minus}
-use Rattle.json_tokens.specs.Ends.{end_of}
+use mathlib.Core.Path.{◌≡◌}
+use Rattle.std.specs.Prelude.{None, Some}
+use Rattle.json_tokens.proofs.Laws.{number_is, number-no-fraction, number-no-int}
+use Rattle.json_tokens.specs.Tokens.{int, minus, fraction}
 use Rattle.json_tokens.proofs.number_end.Goals as goal
 
-pub returns-then-j-eq0 : goal.returns-then-j-eq0
-returns-then-j-eq0 c =
-    let a = c.args in
-    let s = a.s.now in
-    let i = a.at in
-    let j = c.int_end-j.result in
-    let h : j ≡ end_of (int s (minus s i)) = c.int_end-j.ensures ∙ ap (λ n. end_of (int s n)) c.skip_minus.ensures in
-    end_none (number-no-int s i (end-broken j (omega arith) (int-minus-in s i) h c.if-j-eq0.true))
+pub returns-in_err-j : goal.returns-in_err-j
+returns-in_err-j c =
+    let s = c.args.s.now in
+    let i = c.args.at in
+    let p : int s (minus s i) ≡ None = cc c.in_err-j.was in
+    cc (number-no-int s i p)
 
-pub returns-then-k-eq0 : goal.returns-then-k-eq0
-returns-then-k-eq0 c =
-    let a = c.args in
-    let s = a.s.now in
-    let i = a.at in
-    let j = c.int_end-j.result in
-    let h : j ≡ end_of (int s (minus s i)) = c.int_end-j.ensures ∙ ap (λ n. end_of (int s n)) c.skip_minus.ensures in
-    let p = end-at _ j h c.if-j-eq0.false in
-    let b = bounds j (int-minus-in s i) p in
-    let k = c.fraction_end-k.result in
-    end_none (number-no-fraction s i j p (end-broken k (omega arith) (fraction-in s j b.1) c.fraction_end-k.ensures c.if-k-eq0.true))
+pub returns-in_err-k : goal.returns-in_err-k
+returns-in_err-k c =
+    let s = c.args.s.now in
+    let i = c.args.at in
+    let p : int s (minus s i) ≡ Some c.in_ok-j.j = cc c.in_ok-j.was in
+    let q : fraction s c.in_ok-j.j ≡ None = cc c.in_err-k.was in
+    cc (number-no-fraction s i c.in_ok-j.j p q)
 
 pub returns : goal.returns
 returns c =
-    let a = c.args in
-    let s = a.s.now in
-    let i = a.at in
-    let j = c.int_end-j.result in
-    let h : j ≡ end_of (int s (minus s i)) = c.int_end-j.ensures ∙ ap (λ n. end_of (int s n)) c.skip_minus.ensures in
-    let p = end-at _ j h c.if-j-eq0.false in
-    let b = bounds j (int-minus-in s i) p in
-    let k = c.fraction_end-k.result in
-    c.exponent_end.ensures ∙ sym (ap end_of (number_is s i j k p (end-at _ k c.fraction_end-k.ensures c.if-k-eq0.false)))
+    let s = c.args.s.now in
+    let i = c.args.at in
+    let p : int s (minus s i) ≡ Some c.in_ok-j.j = cc c.in_ok-j.was in
+    let q : fraction s c.in_ok-j.j ≡ Some c.in_ok-k.k = cc c.in_ok-k.was in
+    cc (number_is s i c.in_ok-j.j c.in_ok-k.k p q)

@@ -31,14 +31,14 @@ pub returns-then-special-ne0 : goal.returns-then-special-ne0
 returns-then-special-ne0 c =
     let s = c.args.s.now in
     let i = c.loop-i.i in
-    let p = past s (λ k. omega (arith, c.shared_slice_known-1.given k)) i c.word_at.result c.special_bytes-special.result (omega arith) c.word_at.ensures c.special_bytes-special.ensures in
+    let p = past s (λ k. omega (arith, c.type_inv.s k)) i c.word_at.result c.special_bytes-special.result (omega arith) c.word_at.ensures c.special_bytes-special.ensures in
     p ∙ c.loop-i.invariant.1
 
 pub loop-i-preserved : goal.loop-i-preserved
 loop-i-preserved c =
     let s = c.args.s.now in
     let i = c.loop-i.i in
-    let p = past s (λ k. omega (arith, c.shared_slice_known-1.given k)) i c.word_at.result c.special_bytes-special.result (omega arith) c.word_at.ensures c.special_bytes-special.ensures in
+    let p = past s (λ k. omega (arith, c.type_inv.s k)) i c.word_at.result c.special_bytes-special.result (omega arith) c.word_at.ensures c.special_bytes-special.ensures in
     let z : 8 ≡ count_trailing_zeros 64 c.special_bytes-special.result / 8 = omega (arith, ap (count_trailing_zeros 64) c.if-special-ne0.false, trailing_of_zero 64) in
     (omega arith, ap (λ k. string_rest s (i + k)) z ∙ p ∙ c.loop-i.invariant.1)
 

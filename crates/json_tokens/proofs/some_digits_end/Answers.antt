@@ -1,7 +1,8 @@
 -- `json_tokens::some_digits_end` meets its contract: the first byte decides.
 -- Assumes nothing.
+use Rattle.std.specs.Prelude.{Some}
 use mathlib.Core.Path.{◌∙◌, ap, sym}
-use Rattle.json_tokens.proofs.Laws.{end_is, end_none, some-no, some-yes}
+use Rattle.json_tokens.proofs.Laws.{some-no, some-yes}
 use Rattle.text.specs.Text.{is_digit}
 use Rattle.json_tokens.proofs.some_digits_end.Goals as goal
 
@@ -10,11 +11,11 @@ returns-then-is_digit c =
     let a = c.args in
     let s = a.s.now in
     let i = a.at in
-    c.skip_digits.ensures ∙ end_is (some-yes s i (ap is_digit (sym c.byte_at.ensures) ∙ sym c.is_digit.ensures ∙ c.if-is_digit.true))
+    ap Some c.skip_digits.ensures ∙ sym (some-yes s i (ap is_digit (sym c.byte_at.ensures) ∙ sym c.is_digit.ensures ∙ c.if-is_digit.true))
 
 pub returns-else-is_digit : goal.returns-else-is_digit
 returns-else-is_digit c =
     let a = c.args in
     let s = a.s.now in
     let i = a.at in
-    end_none (some-no s i (ap is_digit (sym c.byte_at.ensures) ∙ sym c.is_digit.ensures ∙ c.if-is_digit.false))
+    sym (some-no s i (ap is_digit (sym c.byte_at.ensures) ∙ sym c.is_digit.ensures ∙ c.if-is_digit.false))

@@ -1,173 +1,131 @@
--- The cycle of calls `value_end`, `array_end`, `object_end`, `member_end` meets its contracts: each call to `value_end` from an array or an object has one level of
--- nesting less, and each loop goes from item to item as the list in the definition does. The measure is three times the nesting left, and one or two more in
--- what calls `value_end` at the same nesting.
+-- The cycle of calls `value_end`, `container_end`, `held_end`, `member_end` meets its contracts: each call from a value into an array or an object has one level of
+-- nesting less, and the loop goes from item to item as the list in the definition does.
 -- Assumes nothing.
-use Rattle.std.proofs.Common.{◌-◌, ◌≡◌, ◌∙◌, ap, refl, sym, arith, suc}
-use Rattle.json_tokens.proofs.Bounds.{end-broken, separator-in, string-in}
-use Rattle.json_tokens.proofs.Laws.{end-at, end_none, in-byte, then_at, then-broken}
+use Rattle.std.specs.Prelude.{None, Some}
+use Rattle.std.proofs.Common.{◌-◌, ◌≡◌, ◌∙◌, ap, sym, arith, suc}
+use Rattle.json_tokens.proofs.Laws.{in-byte, then_at, then-broken}
 use Rattle.json_tokens.specs.Tokens.{and_then, separator, string}
-use Rattle.json_tokens.specs.Ends.{end_of}
-use Rattle.json_values.proofs.Ends.{elements-tell, ends, ends-empty, ends_last, ends-start, members-tell, tells-item, tells-wrong}
-use Rattle.json_values.proofs.Fold.{Stands, fold-further, fold_on, fold-wrong, is-brace, is-bracket}
+use Rattle.json_values.proofs.Ends.{held-empty, held-first, held-further, held-last, held-no-first, held-wrong, held_on}
 use Rattle.json_values.proofs.Laws.{value-array, value_none, value-object, value-scalar, value-string}
-use Rattle.json_values.specs.Json.{Pair, Span, element, elements, member, members, value}
-use Rattle.json_values.specs.Ends.{member_end}
+use Rattle.json_values.specs.Json.{value}
+use Rattle.json_values.specs.Ends.{close_end, container_end, held_end, member_end}
 use Rattle.json_values.proofs.+values.Goals as goal
+use Rattle.json_values.proofs.+values.Goals.{value_end-in_default-via-in-91+else-depth-gt0, value_end-in_default-via-in-123+else-depth-gt0-2, value_end-in_default-via-in_default-1}
 
-pub array_end-returns-then-empty-gt0 : goal.array_end-returns-then-empty-gt0
-unfolding elements
-array_end-returns-then-empty-gt0 t c =
-    let s = c.args.s.now in
-    let d = c.args.depth in
-    ends-empty (element (value d s)) 93 is-bracket s c.args.at c.array_close_end-empty.result c.array_close_end-empty.ensures c.if-empty-gt0.true
+pub container_end-returns-in-Some : goal.container_end-returns-in-Some
+container_end-returns-in-Some t c =
+    let a = c.args in
+    held-empty a.container a.depth a.s.now a.at c.in-Some.empty (sym c.close_end.ensures ∙ c.in-Some.is)
 
-pub array_end-loop-at-init : goal.array_end-loop-at-init
-unfolding elements
-array_end-loop-at-init t c =
-    let s = c.args.s.now in
-    let d = c.args.depth in
-    ends-start (element (value d s)) 93 is-bracket s c.args.at c.array_close_end-empty.result c.array_close_end-empty.ensures (omega arith) c.skip_blanks-i.result c.skip_blanks-i.ensures
+pub container_end-returns-in_err-e : goal.container_end-returns-in_err-e
+container_end-returns-in_err-e t c =
+    let a = c.args in
+    let b = c.skip_blanks.result in
+    let n : close_end a.container a.s.now a.at ≡ None = sym c.close_end.ensures ∙ c.in_default.is in
+    let q : held_end a.container (value a.depth a.s.now) a.s.now b ≡ None = cc c.in_err-e.was in
+    c.from_residual.ensures ∙ held-no-first a.container a.depth a.s.now a.at n b c.skip_blanks.ensures q
 
-pub array_end-returns-then-e-eq0 : goal.array_end-returns-then-e-eq0
-array_end-returns-then-e-eq0 t c =
-    let s = c.args.s.now in
-    let d = c.args.depth in
-    let e = c.value_end-e in
-    fold-wrong (ends (element (value d s)) 93 is-bracket s) tt c.loop-at.invariant (tells-wrong (elements-tell d s) c.loop-at.i e.result e.ensures c.if-e-eq0.true)
+pub container_end-loop-next-init : goal.container_end-loop-next-init
+container_end-loop-next-init t c =
+    let a = c.args in
+    let b = c.skip_blanks.result in
+    let n : close_end a.container a.s.now a.at ≡ None = sym c.close_end.ensures ∙ c.in_default.is in
+    let q : held_end a.container (value a.depth a.s.now) a.s.now b ≡ Some c.in_ok-e.e = cc c.in_ok-e.was in
+    held-first a.container a.depth a.s.now a.at n b c.skip_blanks.ensures c.in_ok-e.e q
 
-pub array_end-returns-then-j-eq0 : goal.array_end-returns-then-j-eq0
-array_end-returns-then-j-eq0 t c =
-    let s = c.args.s.now in
-    let d = c.args.depth in
-    let e = c.value_end-e in
-    let item : (a : Span) × Stands (element (value d s)) s c.loop-at.i a e.result = tells-item (elements-tell d s) c.loop-at.i e.result e.ensures c.if-e-eq0.false in
-    c.array_close_end.ensures ∙ ends_last (element (value d s)) 93 is-bracket s c.loop-at.invariant item.1 c.comma_end-j.result c.comma_end-j.ensures c.if-j-eq0.true
+pub container_end-returns-in_err-e-2 : goal.container_end-returns-in_err-e-2
+container_end-returns-in_err-e-2 t c =
+    let a = c.args in
+    let r = container_end a.container (value a.depth a.s.now) a.s.now a.at in
+    let j = c.in-Some-comma_end.next in
+    let q : held_end a.container (value a.depth a.s.now) a.s.now j ≡ None = cc c.in_err-e-2.was in
+    c.from_residual-in_err-e-2.ensures ∙ held-wrong a.container a.depth a.s.now c.loop-next.e r c.loop-next.invariant j (sym c.comma_end.ensures ∙ c.in-Some-comma_end.is) q
 
-pub array_end-loop-at-smaller : goal.array_end-loop-at-smaller
-array_end-loop-at-smaller t c =
-    let s = c.args.s.now in
-    let d = c.args.depth in
-    let e = c.value_end-e in
-    let item : (a : Span) × Stands (element (value d s)) s c.loop-at.i a e.result = tells-item (elements-tell d s) c.loop-at.i e.result e.ensures c.if-e-eq0.false in
-    let f = fold-further (ends (element (value d s)) 93 is-bracket s) tt c.loop-at.invariant item.1 c.comma_end-j.result c.comma_end-j.ensures c.if-j-eq0.false in
+pub container_end-loop-next-smaller : goal.container_end-loop-next-smaller
+container_end-loop-next-smaller t c =
+    let a = c.args in
+    let r = container_end a.container (value a.depth a.s.now) a.s.now a.at in
+    let j = c.in-Some-comma_end.next in
+    let q : held_end a.container (value a.depth a.s.now) a.s.now j ≡ Some c.in_ok-e-2.e = cc c.in_ok-e-2.was in
+    let f = held-further a.container a.depth a.s.now c.loop-next.e r c.loop-next.invariant j (sym c.comma_end.ensures ∙ c.in-Some-comma_end.is) c.in_ok-e-2.e q in
     omega arith
 
-pub array_end-loop-at-preserved : goal.array_end-loop-at-preserved
-array_end-loop-at-preserved t c =
-    let s = c.args.s.now in
-    let d = c.args.depth in
-    let e = c.value_end-e in
-    let item : (a : Span) × Stands (element (value d s)) s c.loop-at.i a e.result = tells-item (elements-tell d s) c.loop-at.i e.result e.ensures c.if-e-eq0.false in
-    fold_on (ends (element (value d s)) 93 is-bracket s) tt c.loop-at.invariant item.1 c.comma_end-j.result c.comma_end-j.ensures c.if-j-eq0.false refl
+pub container_end-loop-next-preserved : goal.container_end-loop-next-preserved
+container_end-loop-next-preserved t c =
+    let a = c.args in
+    let r = container_end a.container (value a.depth a.s.now) a.s.now a.at in
+    let j = c.in-Some-comma_end.next in
+    let q : held_end a.container (value a.depth a.s.now) a.s.now j ≡ Some c.in_ok-e-2.e = cc c.in_ok-e-2.was in
+    held_on a.container a.depth a.s.now c.loop-next.e r c.loop-next.invariant j (sym c.comma_end.ensures ∙ c.in-Some-comma_end.is) c.in_ok-e-2.e q
 
-pub member_end-returns-then-k-eq0 : goal.member_end-returns-then-k-eq0
+pub container_end-returns : goal.container_end-returns
+container_end-returns t c =
+    let a = c.args in
+    let r = container_end a.container (value a.depth a.s.now) a.s.now a.at in
+    c.close_end-2.ensures ∙ held-last a.container a.depth a.s.now c.loop-next.e r c.loop-next.invariant (sym c.comma_end.ensures ∙ c.in_default-comma_end.is)
+
+pub member_end-returns-in_err-name : goal.member_end-returns-in_err-name
 unfolding member_end
-member_end-returns-then-k-eq0 t c =
+member_end-returns-in_err-name t c =
+    let s = c.args.s.now in
+    let p : string s c.args.at ≡ None = cc c.in_err-name.was in
+    c.from_residual.ensures ∙ sym (then-broken (λ k. and_then (separator 58 s k) (value c.args.depth s)) p)
+
+pub member_end-returns-in_err-value : goal.member_end-returns-in_err-value
+unfolding member_end
+member_end-returns-in_err-value t c =
     let s = c.args.s.now in
     let v = value c.args.depth s in
-    let k = c.string_end-k.result in
-    end_none (then-broken (λ k. and_then (separator 58 s k) v) (end-broken k (omega arith) (string-in s c.args.at) c.string_end-k.ensures c.if-k-eq0.true))
-
-pub member_end-returns-then-v-eq0 : goal.member_end-returns-then-v-eq0
-unfolding member_end
-member_end-returns-then-v-eq0 t c =
-    let s = c.args.s.now in
-    let v = value c.args.depth s in
-    let k = c.string_end-k.result in
-    let p = end-at (string s c.args.at) k c.string_end-k.ensures c.if-k-eq0.false in
-    let j = c.colon_end-v.result in
-    end_none (then_at (λ k. and_then (separator 58 s k) v) p ∙ then-broken v (end-broken j (omega arith) (separator-in s 58 k (omega arith)) c.colon_end-v.ensures c.if-v-eq0.true))
+    let p : string s c.args.at ≡ Some c.in_ok-name.name = cc c.in_ok-name.was in
+    let q : separator 58 s c.in_ok-name.name ≡ None = cc c.in_err-value.was in
+    c.from_residual-in_err-value.ensures ∙ sym (then_at (λ k. and_then (separator 58 s k) v) p ∙ then-broken v q)
 
 pub member_end-returns : goal.member_end-returns
 unfolding member_end
 member_end-returns t c =
     let s = c.args.s.now in
     let v = value c.args.depth s in
-    let k = c.string_end-k.result in
-    let p = end-at (string s c.args.at) k c.string_end-k.ensures c.if-k-eq0.false in
-    let j = c.colon_end-v.result in
-    c.value_end.ensures ∙ sym (ap end_of (then_at (λ k. and_then (separator 58 s k) v) p ∙ then_at v (end-at (separator 58 s k) j c.colon_end-v.ensures c.if-v-eq0.false)))
-
-pub object_end-returns-then-empty-gt0 : goal.object_end-returns-then-empty-gt0
-unfolding members
-object_end-returns-then-empty-gt0 t c =
-    let s = c.args.s.now in
-    let d = c.args.depth in
-    ends-empty (member (value d s) s) 125 is-brace s c.args.at c.object_close_end-empty.result c.object_close_end-empty.ensures c.if-empty-gt0.true
-
-pub object_end-loop-at-init : goal.object_end-loop-at-init
-unfolding members
-object_end-loop-at-init t c =
-    let s = c.args.s.now in
-    let d = c.args.depth in
-    ends-start (member (value d s) s) 125 is-brace s c.args.at c.object_close_end-empty.result c.object_close_end-empty.ensures (omega arith) c.skip_blanks-i.result c.skip_blanks-i.ensures
-
-pub object_end-returns-then-e-eq0 : goal.object_end-returns-then-e-eq0
-object_end-returns-then-e-eq0 t c =
-    let s = c.args.s.now in
-    let d = c.args.depth in
-    let e = c.member_end-e in
-    fold-wrong (ends (member (value d s) s) 125 is-brace s) tt c.loop-at.invariant (tells-wrong (members-tell d s) c.loop-at.i e.result e.ensures c.if-e-eq0.true)
-
-pub object_end-returns-then-j-eq0 : goal.object_end-returns-then-j-eq0
-object_end-returns-then-j-eq0 t c =
-    let s = c.args.s.now in
-    let d = c.args.depth in
-    let e = c.member_end-e in
-    let item : (a : Pair) × Stands (member (value d s) s) s c.loop-at.i a e.result = tells-item (members-tell d s) c.loop-at.i e.result e.ensures c.if-e-eq0.false in
-    c.object_close_end.ensures ∙ ends_last (member (value d s) s) 125 is-brace s c.loop-at.invariant item.1 c.comma_end-j.result c.comma_end-j.ensures c.if-j-eq0.true
-
-pub object_end-loop-at-smaller : goal.object_end-loop-at-smaller
-object_end-loop-at-smaller t c =
-    let s = c.args.s.now in
-    let d = c.args.depth in
-    let e = c.member_end-e in
-    let item : (a : Pair) × Stands (member (value d s) s) s c.loop-at.i a e.result = tells-item (members-tell d s) c.loop-at.i e.result e.ensures c.if-e-eq0.false in
-    let f = fold-further (ends (member (value d s) s) 125 is-brace s) tt c.loop-at.invariant item.1 c.comma_end-j.result c.comma_end-j.ensures c.if-j-eq0.false in
-    omega arith
-
-pub object_end-loop-at-preserved : goal.object_end-loop-at-preserved
-object_end-loop-at-preserved t c =
-    let s = c.args.s.now in
-    let d = c.args.depth in
-    let e = c.member_end-e in
-    let item : (a : Pair) × Stands (member (value d s) s) s c.loop-at.i a e.result = tells-item (members-tell d s) c.loop-at.i e.result e.ensures c.if-e-eq0.false in
-    fold_on (ends (member (value d s) s) 125 is-brace s) tt c.loop-at.invariant item.1 c.comma_end-j.result c.comma_end-j.ensures c.if-j-eq0.false refl
-
-pub value_end-returns-then-c-eq-QUOTE : goal.value_end-returns-then-c-eq-QUOTE
-value_end-returns-then-c-eq-QUOTE t c =
-    let a = c.args in
-    c.string_end.ensures ∙ ap end_of (sym (value-string a.s.now a.at a.depth (sym c.byte_at-c.ensures ∙ c.if-c-eq-QUOTE.true)))
-
-pub value_end-returns-then-depth-eq0 : goal.value_end-returns-then-depth-eq0
-value_end-returns-then-depth-eq0 t c =
-    let a = c.args in
-    c.scalar_end.ensures ∙ ap end_of (sym (value_none a.s.now a.at) ∙ ap (λ n. value n a.s.now a.at) (sym c.if-depth-eq0.true))
+    let p : string s c.args.at ≡ Some c.in_ok-name.name = cc c.in_ok-name.was in
+    let q : separator 58 s c.in_ok-name.name ≡ Some c.in_ok-value.value = cc c.in_ok-value.was in
+    c.value_end.ensures ∙ sym (then_at (λ k. and_then (separator 58 s k) v) p ∙ then_at v q)
 
 pub value_end-overflow_add-at : goal.value_end-overflow_add-at
 value_end-overflow_add-at t c =
     let a = c.args in
-    omega (arith, in-byte a.s.now a.at 91 (omega arith) (sym c.byte_at-c.ensures ∙ c.if-c-eq-OPEN_ARRAY.true))
+    omega (arith, in-byte a.s.now a.at 91 (omega arith) (sym c.byte_at.ensures ∙ c.in-91.is))
 
-pub value_end-overflow_add-at-then-c-eq-OPEN_OBJECT : goal.value_end-overflow_add-at-then-c-eq-OPEN_OBJECT
-value_end-overflow_add-at-then-c-eq-OPEN_OBJECT t c =
+pub value_end-overflow_add-at-in-123 : goal.value_end-overflow_add-at-in-123
+value_end-overflow_add-at-in-123 t c =
     let a = c.args in
-    omega (arith, in-byte a.s.now a.at 123 (omega arith) (sym c.byte_at-c.ensures ∙ c.if-c-eq-OPEN_OBJECT.true))
+    omega (arith, in-byte a.s.now a.at 123 (omega arith) (sym c.byte_at.ensures ∙ c.in-123.is))
 
-pub value_end-returns-then-c-eq-OPEN_ARRAY : goal.value_end-returns-then-c-eq-OPEN_ARRAY
-value_end-returns-then-c-eq-OPEN_ARRAY t c =
+pub value_end-returns-in-34 : goal.value_end-returns-in-34
+value_end-returns-in-34 t c =
+    let a = c.args in
+    c.string_end.ensures ∙ sym (value-string a.s.now a.at a.depth (sym c.byte_at.ensures ∙ c.in-34.is))
+
+pub value_end-returns-in-91 : goal.value_end-returns-in-91
+value_end-returns-in-91 t c =
     let a = c.args in
     let k : a.depth ≡ suc (a.depth - 1) = omega arith in
-    c.array_end.ensures ∙ ap end_of (sym (value-array a.s.now a.at (a.depth - 1) (sym c.byte_at-c.ensures ∙ c.if-c-eq-OPEN_ARRAY.true)) ∙ ap (λ n. value n a.s.now a.at) (sym k))
+    c.container_end.ensures ∙ sym (value-array a.s.now a.at (a.depth - 1) (sym c.byte_at.ensures ∙ c.in-91.is)) ∙ ap (λ n. value n a.s.now a.at) (sym k)
 
-pub value_end-returns-then-c-eq-OPEN_OBJECT : goal.value_end-returns-then-c-eq-OPEN_OBJECT
-value_end-returns-then-c-eq-OPEN_OBJECT t c =
+pub value_end-returns-in-123 : goal.value_end-returns-in-123
+value_end-returns-in-123 t c =
     let a = c.args in
     let k : a.depth ≡ suc (a.depth - 1) = omega arith in
-    c.object_end.ensures ∙ ap end_of (sym (value-object a.s.now a.at (a.depth - 1) (sym c.byte_at-c.ensures ∙ c.if-c-eq-OPEN_OBJECT.true)) ∙ ap (λ n. value n a.s.now a.at) (sym k))
+    c.container_end-in-123.ensures ∙ sym (value-object a.s.now a.at (a.depth - 1) (sym c.byte_at.ensures ∙ c.in-123.is)) ∙ ap (λ n. value n a.s.now a.at) (sym k)
 
-pub value_end-returns-else-c-eq-OPEN_OBJECT : goal.value_end-returns-else-c-eq-OPEN_OBJECT
-value_end-returns-else-c-eq-OPEN_OBJECT t c =
+pub value_end-returns-in_default : goal.value_end-returns-in_default
+value_end-returns-in_default t c =
     let a = c.args in
-    c.scalar_end-else-c-eq-OPEN_OBJECT.ensures
-    ∙ ap end_of (sym (value-scalar a.s.now a.at a.depth (λ e. c.if-c-eq-OPEN_ARRAY.false (c.byte_at-c.ensures ∙ e)) (λ e. c.if-c-eq-OPEN_OBJECT.false (c.byte_at-c.ensures ∙ e))))
+    elim c.in_default.branch [
+      | value_end-in_default-via-in-91+else-depth-gt0 w ↦
+          let z : 0 ≡ a.depth = omega arith in
+          c.scalar_end.ensures ∙ sym (value_none a.s.now a.at) ∙ ap (λ n. value n a.s.now a.at) z
+      | value_end-in_default-via-in-123+else-depth-gt0-2 w ↦
+          let z : 0 ≡ a.depth = omega arith in
+          c.scalar_end.ensures ∙ sym (value_none a.s.now a.at) ∙ ap (λ n. value n a.s.now a.at) z
+      | value_end-in_default-via-in_default-1 w ↦
+          c.scalar_end.ensures ∙ sym (value-scalar a.s.now a.at a.depth (λ e. let h = c.byte_at.ensures ∙ e in omega arith) (λ e. let h = c.byte_at.ensures ∙ e in omega arith))
+    ]

@@ -1,30 +1,24 @@
 use Rattle.std.proofs.Common.{◌*◌, ◌+◌, ◌-◌, length}
-use Rattle.json_values.proofs.Ends.{ends, list_end}
-use Rattle.json_values.proofs.Fold.{Left, is-brace, is-bracket}
-use Rattle.json_values.specs.Json.{element, elements, member, members, value}
+use Rattle.json_values.proofs.Ends.{Held}
+use Rattle.json_values.specs.Ends.{container_end}
+use Rattle.json_values.specs.Json.{value}
 use Rattle.json_values.proofs.+values.Given as goal
 
--- Three times the nesting that is left, and one or two more in what calls `value_end` at the same nesting.
-abbrev pub decreases-array_end : goal.decreases-array_end
-decreases-array_end l = 3 * l.depth + 2
+-- Four times the nesting that is left, and one to three more in what leads to `value_end` at the same nesting.
+abbrev pub decreases-value_end : goal.decreases-value_end
+decreases-value_end l = 4 * l.depth
 
 abbrev pub decreases-member_end : goal.decreases-member_end
-decreases-member_end l = 3 * l.depth + 1
+decreases-member_end l = 4 * l.depth + 1
 
-abbrev pub decreases-object_end : goal.decreases-object_end
-decreases-object_end l = 3 * l.depth + 2
+abbrev pub decreases-held_end : goal.decreases-held_end
+decreases-held_end l = 4 * l.depth + 2
 
-abbrev pub decreases-value_end : goal.decreases-value_end
-decreases-value_end l = 3 * l.depth
+abbrev pub decreases-container_end : goal.decreases-container_end
+decreases-container_end l = 4 * l.depth + 3
 
-abbrev pub invariant-array_end-loop-at : goal.invariant-array_end-loop-at
-invariant-array_end-loop-at l = Left (ends (element (value l.depth l.s)) 93 is-bracket l.s) tt l.i (list_end (elements (value l.depth l.s) l.s l.at))
+abbrev pub invariant-container_end-loop-next : goal.invariant-container_end-loop-next
+invariant-container_end-loop-next l = Held l.container l.depth l.s l.e (container_end l.container (value l.depth l.s) l.s l.at)
 
-abbrev pub decreases-array_end-loop-at : goal.decreases-array_end-loop-at
-decreases-array_end-loop-at l = length l.s - l.i
-
-abbrev pub invariant-object_end-loop-at : goal.invariant-object_end-loop-at
-invariant-object_end-loop-at l = Left (ends (member (value l.depth l.s) l.s) 125 is-brace l.s) tt l.i (list_end (members (value l.depth l.s) l.s l.at))
-
-abbrev pub decreases-object_end-loop-at : goal.decreases-object_end-loop-at
-decreases-object_end-loop-at l = length l.s - l.i
+abbrev pub decreases-container_end-loop-next : goal.decreases-container_end-loop-next
+decreases-container_end-loop-next l = length l.s - l.e

@@ -1,5 +1,6 @@
 -- `json_values::is_name` meets its contract: a string begins with a quote, and then with what its name begins with, or with an escape.
 -- Assumes nothing.
+use mathlib.Core.Bool.{not}
 use mathlib.Core.Path.{sym, ap, ◌∙◌}
 use Prim.Native.Nat.{ℕ}
 use native.Mathlib.Omega.{arith}
@@ -19,12 +20,14 @@ overflow_add-first c =
     let h = in-byte a.s.now a.from 34 (omega arith) (sym c.byte_at.ensures ∙ c.if-byte_at-ne-QUOTE.false) in
     omega arith
 
-pub returns-then-begins_otherwise : goal.returns-then-begins_otherwise
-returns-then-begins_otherwise c =
+pub returns-else-not-begins_otherwise : goal.returns-else-not-begins_otherwise
+returns-else-not-begins_otherwise c =
     let a = c.args in
-    sym
+    let h = c.if-not-begins_otherwise.false in
+    ap not h
+    ∙ sym
     (means-otherwise a.s.now a.from a.to a.name.now (sym c.byte_at.ensures ∙ c.if-byte_at-ne-QUOTE.false)
-    (ap (λ (x : ℕ). begins_otherwise x a.name.now) (sym c.byte_at-2.ensures) ∙ sym c.begins_otherwise.ensures ∙ c.if-begins_otherwise.true))
+    (ap (λ (x : ℕ). begins_otherwise x a.name.now) (sym c.byte_at-2.ensures) ∙ sym c.begins_otherwise.ensures ∙ h))
 
 pub is_between-requires : goal.is_between-requires
 is_between-requires c =
@@ -32,8 +35,8 @@ is_between-requires c =
     let h = in-byte a.s.now a.from 34 (omega arith) (sym c.byte_at.ensures ∙ c.if-byte_at-ne-QUOTE.false) in
     omega arith
 
-pub returns : goal.returns
-returns c =
+pub returns-then-not-begins_otherwise : goal.returns-then-not-begins_otherwise
+returns-then-not-begins_otherwise c =
     let a = c.args in
     c.is_between.ensures
     ∙ means-between a.s.now a.from a.to a.name.now (sym c.byte_at.ensures ∙ c.if-byte_at-ne-QUOTE.false)

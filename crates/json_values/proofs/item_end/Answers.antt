@@ -1,20 +1,22 @@
 -- `json_values::item_end` meets its contract: by the first byte.
 -- Assumes nothing.
-use mathlib.Core.Path.{sym, ap, ◌∙◌}
-use Rattle.text.specs.Text.{is_digit}
-use Rattle.json_tokens.specs.Ends.{end_of}
+use mathlib.Core.Bool.{true}
+use mathlib.Core.Path.{◌≡◌, sym, ◌∙◌}
+use borrow.Author.Tests.{le-leb}
+use native.Mathlib.Omega.{arith}
+use Rattle.text.specs.Text.{byte_at, is_digit}
 use Rattle.json_values.proofs.Laws.{value-string, value-number}
 use Rattle.json_values.proofs.item_end.Goals as goal
 
-pub returns-then-c-eq-QUOTE : goal.returns-then-c-eq-QUOTE
-returns-then-c-eq-QUOTE c =
+pub returns-in-34 : goal.returns-in-34
+returns-in-34 c =
     let a = c.args in
-    c.string_end.ensures ∙ sym (ap end_of (value-string a.s.now a.at a.depth (sym c.byte_at-c.ensures ∙ c.if-c-eq-QUOTE.true)))
+    c.string_end.ensures ∙ sym (value-string a.s.now a.at a.depth (sym c.byte_at.ensures ∙ c.in-34.is))
 
-pub returns-then-is_digit : goal.returns-then-is_digit
-returns-then-is_digit c =
+pub returns-in-48-to-57 : goal.returns-in-48-to-57
+unfolding is_digit
+returns-in-48-to-57 c =
     let a = c.args in
-    c.number_end.ensures
-    ∙ sym
-    (ap end_of
-    (value-number a.s.now a.at a.depth (ap is_digit (sym c.byte_at-c.ensures) ∙ sym c.is_digit.ensures ∙ c.if-is_digit.true)))
+    let b = byte_at a.s.now a.at in
+    let h : is_digit b ≡ true = simp (le-leb 48 b (omega arith), le-leb b 57 (omega arith)) in
+    c.number_end.ensures ∙ sym (value-number a.s.now a.at a.depth h)

@@ -4,15 +4,11 @@ use mathlib.Core.Path.{◌∙◌, ap}
 use mathlib.Core.Bool.{cond}
 use Prim.Native.Nat.{ℕ}
 use lib.Dec.{eqb}
-use Rattle.json_values.proofs.Names.{past-cut, past-whole}
+use Rattle.json_values.proofs.Names.{past_least}
 use Rattle.json_values.proofs.past_escape.Goals as goal
-
-pub returns-then-left-n : goal.returns-then-left-n
-returns-then-left-n c =
-    let a = c.args in
-    past-cut a.t.now a.i _ (c.escape_length-n.ensures ∙ ap (λ (x : ℕ). cond (eqb x 117) 5 1) c.byte_at.ensures) c.if-left-n.true c.requires
 
 pub returns : goal.returns
 returns c =
     let a = c.args in
-    past-whole a.t.now a.i _ (c.escape_length-n.ensures ∙ ap (λ (x : ℕ). cond (eqb x 117) 5 1) c.byte_at.ensures)
+    let p = past_least a.t.now a.i _ (c.escape_length-n.ensures ∙ ap (λ (x : ℕ). cond (eqb x 117) 5 1) c.byte_at.ensures) c.requires in
+    rw c.min.ensures p

@@ -1,5 +1,6 @@
 -- `json_values::spells` meets its contract: past the bytes that stand for themselves, both end, an escape stands, or another byte.
 -- Assumes nothing.
+use borrow.Author.Tests.{ne_eqb}
 use mathlib.Core.Path.{sym, ap, ◌∙◌}
 use mathlib.Core.List.{List}
 use Prim.Native.Nat.{ℕ}
@@ -16,14 +17,8 @@ returns-then-t-k c =
     sym (ap (λ (x : List ℕ). same x (drop p.result a.name.now)) (meaning-end a.t.now p.result c.if-t-k.true) ∙ same_end a.name.now p.result p.ensures.inside)
     ∙ p.ensures.left
 
-pub returns-then-t-k-eq-BACKSLASH : goal.returns-then-t-k-eq-BACKSLASH
-returns-then-t-k-eq-BACKSLASH c = c.spells_from.ensures ∙ c.plain_end-k.ensures.left
-
-pub returns : goal.returns
+pub returns-else-t-k-eq-BACKSLASH : goal.returns-else-t-k-eq-BACKSLASH
 unfolding byte_at
-returns c =
+returns-else-t-k-eq-BACKSLASH c =
     let p = c.plain_end-k.ensures in
-    sym (p.stops c.if-t-k.false c.if-t-k-eq-BACKSLASH.false) ∙ p.left
-
-pub spells_from-requires : goal.spells_from-requires
-spells_from-requires c = c.plain_end-k.ensures.inside
+    ne_eqb _ _ c.if-t-k-eq-BACKSLASH.false ∙ sym (p.stops c.if-t-k.false c.if-t-k-eq-BACKSLASH.false) ∙ p.left

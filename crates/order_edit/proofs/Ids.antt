@@ -1,7 +1,7 @@
 -- Laws of ids: which are the same, and that the words of an id hold its bytes. Assumes nothing.
 use Prim.Native.Nat.{ℕ, zero, suc, ◌+◌, ◌*◌, ◌/◌, ◌%◌, ◌≤◌, ◌<◌}
 use mathlib.Core.Path.{◌≡◌, refl, sym, ap, ◌∙◌}
-use mathlib.Core.Bool.{Bool, true, false, ◌&&◌, cond}
+use mathlib.Core.Bool.{Bool, true, false, ◌&&◌, cond, and-true}
 use mathlib.Core.List.{List, [], ◌∷◌, ◌++◌}
 use native.Mathlib.Nat.{not-suc-le-zero, add-zero, add-suc}
 use native.Mathlib.Omega.{arith}
@@ -36,6 +36,11 @@ same_id-swap [] [] = refl
 same_id-swap [] (y ∷ t) = refl
 same_id-swap (x ∷ s) [] = refl
 same_id-swap (x ∷ s) (y ∷ t) = ap (λ (q : Bool). q && same_id s t) (sym (eqb-swapped x y (eqb x y) refl)) ∙ ap (λ (q : Bool). eqb y x && q) (same_id-swap s t)
+
+-- `==` of two ids, which Rust derives, compares their words
+pub same_words : (a b : Id) → (eqb a.first b.first && (eqb a.second b.second && eqb a.third b.third)) ≡ same_id (id_words a) (id_words b)
+unfolding same_id id_words
+same_words a b = ap (λ (q : Bool). eqb a.first b.first && (eqb a.second b.second && q)) (sym (and-true (eqb a.third b.third)))
 
 false-true : ◌≡◌ {A = Bool} false true → ⊥
 false-true e = let z : ◌≡◌ {A = ℕ} 0 1 = cc in omega arith

@@ -13,10 +13,7 @@ const MAX_ID: usize = 20;
 pub fn is_id(text: &[u8]) -> bool
     ensures { result ≡ is_id text.now }
 {
-    if text.len() < 1 {
-        return false;
-    }
-    if MAX_ID < text.len() {
+    if text.is_empty() || text.len() > MAX_ID {
         return false;
     }
     settings::are_name_bytes(text)

@@ -10,7 +10,6 @@ mod id_text;
 ghost use Rattle.std.specs.Prelude.{◌≡◌, ◌<◌, length, get_or};
 ghost use Rattle.decimal.specs.Decimal.{number};
 ghost use Rattle.decimal.specs.Limits.{Within};
-ghost use Rattle.order_edit.specs.Ids.{same_id, id_words};
 ghost use Rattle.order_edit.specs.Buffer.{max_buffered, buffer_words, entries_in, no_entry, order_entry, Put, event_number, event_in};
 
 use decimal::Decimal;
@@ -26,7 +25,7 @@ pub enum Event {
 }
 
 // The id of an order: up to 20 bytes, eight a word, low byte first, zeros after the last.
-#[derive(Clone, Copy)]
+#[derive(Clone, Copy, PartialEq, Eq)]
 pub struct Id {
     pub first: u64,
     pub second: u64,
@@ -104,18 +103,6 @@ pub fn entry_in(buffer: &[u64; BUFFER_WORDS], k: usize) -> Buffered
     }
 }
 
-// Whether two ids are the same.
-pub fn is_same_id(a: Id, b: Id) -> bool
-    ensures { result ≡ same_id (id_words a) (id_words b) }
-{
-    if a.first == b.first {
-        if a.second == b.second {
-            return a.third == b.third;
-        }
-    }
-    false
-}
-
 fn event_number(event: Event) -> u64
     ensures { result ≡ event_number event }
 {
@@ -129,11 +116,9 @@ fn event_number(event: Event) -> u64
 fn event_in(n: u64) -> Event
     ensures { result ≡ event_in n }
 {
-    if n == 0 {
-        return Event::Add;
+    match n {
+        0 => Event::Add,
+        1 => Event::Modify,
+        _ => Event::Delete,
     }
-    if n == 1 {
-        return Event::Modify;
-    }
-    Event::Delete
 }

@@ -15,9 +15,9 @@ ghost use Rattle.decimal.specs.Tail.{remaining};
 ghost use Rattle.crc32.specs.Table.{ShiftTable};
 ghost use Rattle.piece.specs.Piece.{k_piece, m_piece, SumsTo, Fed, Fronted};
 
-use decimal::{Decimal, Step, Tail};
+use decimal::{Decimal, Tail};
 
-const COLON: u8 = 58;
+const COLON: u8 = b':';
 
 #[derive(Clone, Copy)]
 pub struct Piece {
@@ -52,17 +52,10 @@ fn feed(tail: Tail, piece: Piece, table: &[u32]) -> Piece
 {
     let mut rest = tail;
     let mut fed = piece;
-    loop {
-        match rest.step() {
-            Step::Byte(b, shorter) => {
-                fed = feed_byte(b, fed, table);
-                rest = shorter;
-            }
-            Step::End => {
-                return fed;
-            }
-        }
+    while let Some(byte) = rest.pop() {
+        fed = feed_byte(byte, fed, table);
     }
+    fed
 }
 
 // The piece with a byte in front of it: each byte of a text goes into the sum here, by itself.

@@ -11,8 +11,7 @@ use lib.ListN.{length, take, drop, set, length-append, length-drop}
 use lib.Seq.{set_split, take_at, drop_at, drop-drop, length-take-le}
 use Rattle.decimal.specs.Buffer.{overlaid}
 use Rattle.decimal.specs.Laying.{fits, Laid}
-use Rattle.decimal.specs.declared.Written.{Written}
-use Rattle.decimal.specs.declared.Written.TheVariants.{To, Full}
+use Rattle.std.specs.Prelude.{Option, Some, unwrap_or}
 use Rattle.decimal.proofs.Buffer.{overlaid-none, laid-to}
 use Rattle.writer.specs.Parts.{Room, Put}
 
@@ -116,23 +115,18 @@ owed-byte {b = b} {at = at} {x = x} {u = u} owed =
 
 -- ---- a text of another crate's that is laid where there is room
 
-module _ {b : List ℕ} {at : ℕ} {text b' : List ℕ} {w : Written} (room : Room b at text) (laid : Laid b at text b' w) where
+module _ {b : List ℕ} {at : ℕ} {text b' : List ℕ} {w : Option ℕ} (room : Room b at text) (laid : Laid b at text b' w) where
   it-fits : fits b at text ≡ true
   unfolding fits
   it-fits = le-leb (at + length text) (length b) room
 
-  pub put-to : {e : ℕ} → w ≡ To e → Put b at text b' e
-  put-to {e} is =
-      let p : w ≡ To (at + length text) = laid.end ∙ rw it-fits in
-      record { bytes = laid.bytes ∙ rw it-fits; end = cc }
-
-  pub not_full : w ≡ Full → ⊥
-  not_full is =
-      let p : w ≡ To (at + length text) = laid.end ∙ rw it-fits in
-      let z : ◌≡◌ {A = ℕ} 0 1 = cc in
-      omega arith
+  -- so the end is told, and none other is taken in its place
+  pub put_end : (other : ℕ) {e : ℕ} → e ≡ unwrap_or w other → Put b at text b' e
+  put_end other is =
+      let p : w ≡ Some (at + length text) = laid.end ∙ rw it-fits in
+      record { bytes = laid.bytes ∙ rw it-fits; end = is ∙ ap (λ (o : Option ℕ). unwrap_or o other) p }
 
 -- ---- the text of the whole, as a caller is told of it
 
-pub put-laid : {b : List ℕ} {at : ℕ} {text b' : List ℕ} {e : ℕ} → Room b at text → Put b at text b' e → Laid b at text b' (To e)
+pub put-laid : {b : List ℕ} {at : ℕ} {text b' : List ℕ} {e : ℕ} → Room b at text → Put b at text b' e → Laid b at text b' (Some e)
 put-laid {b} {at} {text} room put = laid-to b at text room put.bytes put.end

@@ -5,7 +5,7 @@ ghost use Rattle.decimal.specs.Decimal.{number, text};
 ghost use Rattle.decimal.specs.Limits.{Within};
 ghost use Rattle.writer.specs.Parts.{Room, Put, Writable, WritableSide, entry, next_entry, entries};
 
-use decimal::{Decimal, Written};
+use decimal::Decimal;
 use level::{Level, Levels, level_in};
 
 // Lays a text into a buffer at a position, and answers the position past it.
@@ -13,13 +13,8 @@ pub fn lay(bytes: &[u8], buffer: &mut [u8], at: usize) -> usize
     requires { Room buffer.old at bytes.now }
     ensures { Put buffer.old at bytes.now buffer.new result }
 {
-    let mut i = 0;
-    let mut end = at;
-    while i < bytes.len() {
-        buffer[end] = bytes[i];
-        i += 1;
-        end += 1;
-    }
+    let end = at + bytes.len();
+    buffer[at..end].copy_from_slice(bytes);
     end
 }
 
@@ -57,10 +52,8 @@ fn lay_side(stamped: bool, levels: Levels, buffer: &mut [u8], at: usize) -> usiz
         return at;
     }
     let mut end = lay_entry(stamped, level_in(&levels.words, 0), buffer, at);
-    let mut i = 1;
-    while i < count {
+    for i in 1..count {
         end = lay_next(stamped, level_in(&levels.words, i), buffer, end);
-        i += 1;
     }
     end
 }
@@ -89,15 +82,12 @@ fn lay_entry(stamped: bool, level: Level, buffer: &mut [u8], at: usize) -> usize
     lay(b"\"]", buffer, after_size)
 }
 
-// Lays a decimal. There is room, so `Full` is never answered; the same of a whole number.
+// Lays a decimal. There is room, so it always ends somewhere; the same of a whole number.
 pub fn lay_decimal(a: Decimal, buffer: &mut [u8], at: usize) -> usize
     requires { Within (number a) × Room buffer.old at (text (number a)) }
     ensures { Put buffer.old at (text (number a)) buffer.new result }
 {
-    match decimal::write(a, buffer, at) {
-        Written::To(end) => end,
-        Written::Full => at,
-    }
+    decimal::write(a, buffer, at).unwrap_or(at)
 }
 
 // Lays the digits of a whole number.
@@ -105,8 +95,5 @@ pub fn lay_whole(n: u64, buffer: &mut [u8], at: usize) -> usize
     requires { Room buffer.old at (written n) }
     ensures { Put buffer.old at (written n) buffer.new result }
 {
-    match decimal::write_whole(n, buffer, at) {
-        Written::To(end) => end,
-        Written::Full => at,
-    }
+    decimal::write_whole(n, buffer, at).unwrap_or(at)
 }

@@ -1,9 +1,9 @@
 // A book written out as a snapshot, which a new book with the same settings takes.
 //
-// The text is laid at the start of a lent buffer, whole or not at all: its length is known before the first byte is
+// The text is laid at the start of a lent buffer, whole or not at all, and the answer says where it ends: its length is known before the first byte is
 // laid. Bytes past it stay.
 //
-//     writer::k_write(10, b"XBT/USD", bids, asks, buffer)   // `To(76)` of `[0,{"as":[["0.05005",..`, or `Full`
+//     writer::k_write(10, b"XBT/USD", bids, asks, buffer)   // `Some(76)` of `[0,{"as":[["0.05005",..`, or `None`
 #![tactic(auto)]
 
 mod laying;
@@ -17,21 +17,26 @@ ghost use Rattle.level.specs.Kept.{held, Good};
 ghost use Rattle.writer.specs.Snapshot.{k_snapshot, m_snapshot};
 ghost use Rattle.writer.specs.Parts.{k_snapshot_text, m_snapshot_text, Sized, max_name, WritableSide, Room, Put};
 
-use decimal::Written;
 use laying::lay_listed;
 pub use laying::{lay, lay_decimal, lay_number, lay_whole};
 use level::Levels;
 use measuring::{k_length, m_length};
 
 // Writes a K book.
-pub fn k_write(depth: usize, name: &[u8], bids: Levels, asks: Levels, buffer: &mut [u8]) -> Written
+pub fn k_write(
+    depth: usize,
+    name: &[u8],
+    bids: Levels,
+    asks: Levels,
+    buffer: &mut [u8],
+) -> Option<usize>
     requires { Good Bids bids × Good Asks asks × Sized bids × Sized asks × (length name.now ≤ max_name) }
     ensures { Laid buffer.old 0 (k_snapshot depth name.now (map shown (held bids)) (map shown (held asks))) buffer.new result }
 {
     if buffer.len() < k_length(depth, name, bids, asks) {
-        return Written::Full;
+        return None;
     }
-    Written::To(lay_k(depth, name, bids, asks, buffer))
+    Some(lay_k(depth, name, bids, asks, buffer))
 }
 
 // Writes an M book, with its checksum and its number.
@@ -42,14 +47,14 @@ pub fn m_write(
     checksum: u32,
     number: u64,
     buffer: &mut [u8],
-) -> Written
+) -> Option<usize>
     requires { Good Bids bids × Good Asks asks × Sized bids × Sized asks × (length name.now ≤ max_name) }
     ensures { Laid buffer.old 0 (m_snapshot name.now (map shown (held bids)) (map shown (held asks)) checksum number) buffer.new result }
 {
     if buffer.len() < m_length(name, bids, asks, checksum, number) {
-        return Written::Full;
+        return None;
     }
-    Written::To(lay_m(name, bids, asks, checksum, number, buffer))
+    Some(lay_m(name, bids, asks, checksum, number, buffer))
 }
 
 // Lays the text of a K book, asks first.

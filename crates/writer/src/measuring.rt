@@ -38,17 +38,11 @@ fn side_length(stamped: bool, levels: Levels) -> usize
     requires { WritableSide levels }
     ensures { (result ≡ length (entries stamped levels)) × (result ≤ max_side) }
 {
-    let count = levels.count;
-    let mut n = 0;
-    let mut i = 0;
-    while i < count {
+    let mut n: usize = 0;
+    for i in 0..levels.count {
         n += 1 + entry_length(stamped, level_in(&levels.words, i));
-        i += 1;
     }
-    if n == 0 {
-        return 0;
-    }
-    n - 1
+    n.saturating_sub(1)
 }
 
 // The length of a level's text as an entry.

@@ -1,7 +1,5 @@
 -- `event_in` meets its contract: 0 stands for an order added, 1 for one modified.
-use Prim.Native.Nat.{ℕ, zero, suc}
-use mathlib.Core.Path.{◌≡◌, refl}
-use borrow.Author.Rules.{rules}
+use Rattle.std.proofs.Common.{◌≡◌, ℕ, zero, suc, refl, sym, ap, arith}
 use Rattle.order_edit.specs.declared.Event.TheVariants.{Delete}
 use Rattle.order_edit.specs.Buffer.{event_in}
 use Rattle.order_edit.proofs.event_in.Goals as goal
@@ -12,13 +10,13 @@ other zero h k = absurd (h refl)
 other (suc zero) h k = absurd (k refl)
 other (suc (suc n)) h k = refl
 
-pub returns-then-n-eq0 : goal.returns-then-n-eq0
+pub returns-in-0 : goal.returns-in-0
 unfolding event_in
-returns-then-n-eq0 c = search rules
+returns-in-0 c = sym (ap event_in c.in-0.is)
 
-pub returns-then-n-eq1 : goal.returns-then-n-eq1
+pub returns-in-1 : goal.returns-in-1
 unfolding event_in
-returns-then-n-eq1 c = search rules
+returns-in-1 c = sym (ap event_in c.in-1.is)
 
-pub returns : goal.returns
-returns c = other c.args.n c.if-n-eq0.false c.if-n-eq1.false
+pub returns-in_default : goal.returns-in_default
+returns-in_default c = other c.args.n (λ z. omega arith) (λ o. omega arith)

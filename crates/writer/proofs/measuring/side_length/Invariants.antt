@@ -1,14 +1,8 @@
-use Prim.Native.Nat.{◌+◌, ◌-◌, ◌*◌, ◌≤◌}
-use mathlib.Core.Path.{◌≡◌}
-use lib.ListN.{length, drop}
+use Rattle.std.proofs.Common.{◌≡◌, ◌+◌, ◌*◌, ◌≤◌, length, drop}
 use Rattle.level.specs.Kept.{held}
 use Rattle.writer.specs.Parts.{max_entry}
 use Rattle.writer.proofs.Entries.{led}
 use Rattle.writer.proofs.measuring.side_length.Given as goal
 
 abbrev pub invariant-loop-i : goal.invariant-loop-i
-invariant-loop-i l =
-    (l.n + length (led l.stamped (drop l.i (held l.levels))) ≡ length (led l.stamped (held l.levels))) × (l.n ≤ (max_entry + 1) * l.i) × (l.i ≤ l.count)
-
-abbrev pub decreases-loop-i : goal.decreases-loop-i
-decreases-loop-i l = l.count - l.i
+invariant-loop-i l = (l.n + length (led l.stamped (drop l.i (held l.levels))) ≡ length (led l.stamped (held l.levels))) × (l.n ≤ (max_entry + 1) * l.i)

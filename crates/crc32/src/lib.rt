@@ -22,4 +22,4 @@ pub use table::{SHIFT_TABLE, combine_with, fill_table, front_with};
 pub use words::{absorb, absorb8, step};
 
 // The state before the first byte of a text; `^ START` also turns the last state into the checksum, and back.
-pub const START: u32 = 4294967295;
+pub const START: u32 = u32::MAX;

@@ -18,7 +18,7 @@ pub fn front(b: u8, s: u32, n: u64) -> u32
     ensures { result ≡ bit_xor (bits (8 * (n + 1)) b) s }
 {
     if n < 55 {
-        return shift(b as u32, n + 1) ^ s;
+        return shift(u32::from(b), n + 1) ^ s;
     }
     shift(step(0, b), n) ^ s
 }

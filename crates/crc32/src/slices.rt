@@ -5,7 +5,7 @@ ghost use Rattle.text.specs.Words.{word};
 
 use crate::START;
 use crate::words::{absorb, absorb8};
-use text::{wide, word_at};
+use text::word_at;
 
 // The checksum of a text.
 pub fn crc(t: &[u8]) -> u32
@@ -14,7 +14,7 @@ pub fn crc(t: &[u8]) -> u32
     run(START, t) ^ START
 }
 
-// The state after a text.
+// The state after a text. A `while`, since `tail` takes the position that `chunks_exact` hides.
 pub fn run(s: u32, t: &[u8]) -> u32
     ensures { result ≡ run s t.now }
 {
@@ -51,11 +51,9 @@ fn load_few(t: &[u8], at: usize) -> u64
     requires { (at ≤ length t.now) × (length t.now < at + 8) }
     ensures { result ≡ word (drop at t.now) }
 {
-    let mut w: u64 = 0;
-    let mut i = t.len();
-    while at < i {
-        i -= 1;
-        w = w * 256 + wide(t[i]);
+    let mut w = 0;
+    for i in (at..t.len()).rev() {
+        w = w * 256 + u64::from(t[i]);
     }
     w
 }

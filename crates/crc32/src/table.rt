@@ -20,10 +20,8 @@ pub const SHIFT_TABLE: usize = 64 * ROW;
 pub fn fill_table(table: &mut [u32])
     ensures { FilledTable table.old table.new }
 {
-    let mut i = 0;
-    while i < table.len() {
-        table[i] = shift((i % ROW) as u32, (i / ROW + 1) as u64);
-        i += 1;
+    for (i, entry) in table.iter_mut().enumerate() {
+        *entry = shift((i % ROW) as u32, (i / ROW + 1) as u64);
     }
 }
 
@@ -41,7 +39,7 @@ pub fn front_with(table: &[u32], b: u8, s: u32, n: u64) -> u32
     ensures { result ≡ bit_xor (bits (8 * (n + 1)) b) s }
 {
     if n < (table.len() / ROW) as u64 {
-        return table[ROW * (n as usize) + (b as usize)] ^ s;
+        return table[ROW * (n as usize) + usize::from(b)] ^ s;
     }
     front(b, s, n)
 }
@@ -51,10 +49,7 @@ fn shift_with(table: &[u32], s: u32, n: usize) -> u32
     requires { ShiftTable table.now }
     ensures { result ≡ bits (8 * n) s }
 {
-    if n < 4 {
-        return shift(s, n as u64);
-    }
-    if table.len() / ROW < n {
+    if n < 4 || table.len() / ROW < n {
         return shift(s, n as u64);
     }
     let end = ROW * n;

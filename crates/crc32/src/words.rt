@@ -9,19 +9,22 @@ use crate::lookup::shift;
 pub fn step(s: u32, b: u8) -> u32
     ensures { result ≡ step s b }
 {
-    shift(s ^ (b as u32), 1)
+    shift(s ^ u32::from(b), 1)
 }
+
+// How many values half of a word has.
+const HALF: u64 = 1 << 32;
 
 fn lower_half(w: u64) -> u32
     ensures { result ≡ w % 2 ^ 32 }
 {
-    (w % 4294967296) as u32
+    (w % HALF) as u32
 }
 
 fn upper_half(w: u64) -> u32
     ensures { result ≡ w / 2 ^ 32 }
 {
-    (w / 4294967296) as u32
+    (w / HALF) as u32
 }
 
 // The state after the eight bytes of w.

@@ -7,7 +7,6 @@
 ghost use Rattle.std.specs.Prelude.{◌+◌, ◌≤◌, length, IfOk};
 
 use std::io;
-use text::wide;
 
 // ---- the second CRC-32
 
@@ -20,32 +19,24 @@ fn feed_bit(register: u32, bit: u32) -> u32 {
 }
 
 fn feed_byte(register: u32, b: u8) -> u32 {
-    let x = b as u32;
-    let r = feed_bit(feed_bit(register, x % 2), x / 2 % 2);
-    let q = feed_bit(feed_bit(r, x / 4 % 2), x / 8 % 2);
-    let p = feed_bit(feed_bit(q, x / 16 % 2), x / 32 % 2);
-    feed_bit(feed_bit(p, x / 64 % 2), x / 128)
-}
-
-fn turned_round(x: u32) -> u32 {
-    let a = ((x & 0x55555555) << 1) | ((x >> 1) & 0x55555555);
-    let b = ((a & 0x33333333) << 2) | ((a >> 2) & 0x33333333);
-    let c = ((b & 0x0F0F0F0F) << 4) | ((b >> 4) & 0x0F0F0F0F);
-    let d = ((c & 0x00FF00FF) << 8) | ((c >> 8) & 0x00FF00FF);
-    (d << 16) | (d >> 16)
+    let mut r = register;
+    for k in 0..8u32 {
+        r = feed_bit(r, u32::from(b >> k) % 2);
+    }
+    r
 }
 
 // The state after a text.
 fn second(s: u32, t: &[u8]) -> u32 {
-    let mut register = turned_round(s);
+    let mut register = s.reverse_bits();
     for b in t {
         register = feed_byte(register, *b);
     }
-    turned_round(register)
+    register.reverse_bits()
 }
 
 fn second_crc(t: &[u8]) -> u32 {
-    second(4294967295, t) ^ 4294967295
+    second(u32::MAX, t) ^ u32::MAX
 }
 
 // ---- one comparison: 1 where the two differ
@@ -53,14 +44,14 @@ fn second_crc(t: &[u8]) -> u32 {
 fn differ(a: u32, b: u32) -> u64
     ensures { result ≤ 1 }
 {
-    if a == b { 0 } else { 1 }
+    u64::from(a != b)
 }
 
 fn text(t: &[u8], n: usize) -> u64
     requires { n ≤ length t.now }
     ensures { result ≤ 1 }
 {
-    let part = &t[0..n];
+    let part = &t[..n];
     differ(crc32::crc(part), second_crc(part))
 }
 
@@ -70,8 +61,8 @@ fn step(t: &[u8], n: usize) -> u64
 {
     let whole = n + 1;
     differ(
-        crc32::step(crc32::run(0, &t[0..n]), t[n]),
-        second(0, &t[0..whole]),
+        crc32::step(crc32::run(0, &t[..n]), t[n]),
+        second(0, &t[..whole]),
     )
 }
 
@@ -80,11 +71,11 @@ fn combine(t: &[u8], n: usize) -> u64
     ensures { result ≤ 1 }
 {
     let whole = n + 13;
-    let a = crc32::run(crc32::START, &t[0..13]);
+    let a = crc32::run(crc32::START, &t[..13]);
     let b = crc32::run(0, &t[13..whole]);
     differ(
         crc32::combine(a, b, n as u64),
-        second(crc32::START, &t[0..whole]),
+        second(crc32::START, &t[..whole]),
     )
 }
 
@@ -95,7 +86,7 @@ fn front(t: &[u8], n: usize) -> u64
     let whole = n + 1;
     differ(
         crc32::front(t[0], crc32::run(0, &t[1..whole]), n as u64),
-        second(0, &t[0..whole]),
+        second(0, &t[..whole]),
     )
 }
 
@@ -109,7 +100,7 @@ fn front_with(t: &[u8], n: usize) -> u64
     let whole = n + 1;
     differ(
         crc32::front_with(&table, t[0], crc32::run(0, &t[1..whole]), n as u64),
-        second(0, &t[0..whole]),
+        second(0, &t[..whole]),
     )
 }
 
@@ -119,21 +110,21 @@ fn shift(zeros: &[u8], n: usize) -> u64
 {
     differ(
         crc32::shift(305419896, n as u64),
-        second(305419896, &zeros[0..n]),
+        second(305419896, &zeros[..n]),
     )
 }
 
 fn word(t: &[u8], at: usize) -> u64
     requires { at + 8 ≤ length t.now }
 {
-    let low = wide(t[at])
-        + wide(t[at + 1]) * 256
-        + wide(t[at + 2]) * 65536
-        + wide(t[at + 3]) * 16777216;
-    let high = wide(t[at + 4])
-        + wide(t[at + 5]) * 256
-        + wide(t[at + 6]) * 65536
-        + wide(t[at + 7]) * 16777216;
+    let low = u64::from(t[at])
+        + u64::from(t[at + 1]) * 256
+        + u64::from(t[at + 2]) * 65536
+        + u64::from(t[at + 3]) * 16777216;
+    let high = u64::from(t[at + 4])
+        + u64::from(t[at + 5]) * 256
+        + u64::from(t[at + 6]) * 65536
+        + u64::from(t[at + 7]) * 16777216;
     high * 4294967296 + low
 }
 
@@ -144,7 +135,7 @@ fn absorb(padded: &[u8], n: usize) -> u64
 {
     differ(
         crc32::absorb(crc32::START, word(padded, 0), n as u64),
-        second(crc32::START, &padded[0..n]),
+        second(crc32::START, &padded[..n]),
     )
 }
 
@@ -154,24 +145,37 @@ fn absorb8(t: &[u8], n: usize) -> u64
 {
     let whole = n + 8;
     differ(
-        crc32::absorb8(crc32::run(0, &t[0..n]), word(t, n)),
-        second(0, &t[0..whole]),
+        crc32::absorb8(crc32::run(0, &t[..n]), word(t, n)),
+        second(0, &t[..whole]),
     )
 }
 
-fn compared(group: u64, t: &[u8], n: usize) -> u64
+// What is compared.
+#[derive(Clone, Copy)]
+enum Group {
+    Text,
+    Step,
+    Combine,
+    Front,
+    Absorb8,
+    Absorb,
+    FrontWith,
+    Shift,
+}
+
+fn compared(group: Group, t: &[u8], n: usize) -> u64
     requires { n + 13 ≤ length t.now }
     ensures { result ≤ 1 }
 {
     match group {
-        0 => text(t, n),
-        1 => step(t, n),
-        2 => combine(t, n),
-        3 => front(t, n),
-        4 => absorb8(t, n),
-        5 => absorb(t, n),
-        6 => front_with(t, n),
-        _ => shift(t, n),
+        Group::Text => text(t, n),
+        Group::Step => step(t, n),
+        Group::Combine => combine(t, n),
+        Group::Front => front(t, n),
+        Group::Absorb8 => absorb8(t, n),
+        Group::Absorb => absorb(t, n),
+        Group::FrontWith => front_with(t, n),
+        Group::Shift => shift(t, n),
     }
 }
 
@@ -184,7 +188,7 @@ struct Counts {
 }
 
 // The lengths from 0 on, `lengths` of them, compared.
-fn tally(group: u64, t: &[u8], lengths: usize) -> Counts
+fn tally(group: Group, t: &[u8], lengths: usize) -> Counts
     requires { lengths + 12 ≤ length t.now }
     ensures { result.differing ≤ lengths }
 {
@@ -197,7 +201,7 @@ fn tally(group: u64, t: &[u8], lengths: usize) -> Counts
     Counts { made, differing }
 }
 
-fn report(out: &impl Print, name: &str, group: u64, t: &[u8]) -> io::Result<u64>
+fn report(out: &impl Print, name: &str, group: Group, t: &[u8]) -> io::Result<u64>
     requires { 137 ≤ length t.now }
     ensures { IfOk result (λ differing. differing ≤ 125) }
 {
@@ -213,11 +217,11 @@ fn fill(t: &mut [u8], n: usize)
     requires { n ≤ length t.old }
 {
     let mut x: u32 = 12345;
-    for i in 0..n {
-        x = x ^ (x << 13);
-        x = x ^ (x >> 17);
-        x = x ^ (x << 5);
-        t[i] = (x % 256) as u8;
+    for b in t[..n].iter_mut() {
+        x ^= x << 13;
+        x ^= x >> 17;
+        x ^= x << 5;
+        *b = (x % 256) as u8;
     }
 }
 
@@ -241,14 +245,14 @@ fn main(rt: HostRuntime) -> io::Result<()> {
     let mut padded = [0u8; 144];
     fill(&mut padded, 8);
     let zeros = [0u8; 144];
-    let texts = report(&rt, "crc", 0, &bytes)?;
-    let steps = report(&rt, "step", 1, &bytes)?;
-    let combined = report(&rt, "combine", 2, &bytes)?;
-    let fronts = report(&rt, "front", 3, &bytes)?;
-    let eights = report(&rt, "absorb8", 4, &bytes)?;
-    let absorbed = report(&rt, "absorb", 5, &padded)?;
-    let tabled = report(&rt, "front_with", 6, &bytes)?;
-    let shifted = report(&rt, "shift", 7, &zeros)?;
+    let texts = report(&rt, "crc", Group::Text, &bytes)?;
+    let steps = report(&rt, "step", Group::Step, &bytes)?;
+    let combined = report(&rt, "combine", Group::Combine, &bytes)?;
+    let fronts = report(&rt, "front", Group::Front, &bytes)?;
+    let eights = report(&rt, "absorb8", Group::Absorb8, &bytes)?;
+    let absorbed = report(&rt, "absorb", Group::Absorb, &padded)?;
+    let tabled = report(&rt, "front_with", Group::FrontWith, &bytes)?;
+    let shifted = report(&rt, "shift", Group::Shift, &zeros)?;
     let all = texts + steps + combined + fronts + eights + absorbed + tabled + shifted;
     println!(rt; "differing in all: {all}")
 }

@@ -1,17 +1,13 @@
 // What every layer asks of bytes and of truth values. No crate stands below this one.
 //
-//     text::byte_at(b"7", 0) == 55, text::byte_at(b"7", 1) == 0, text::is_digit(55), text::wide(55) == 55
+//     text::byte_at(b"7", 0) == b'7', text::byte_at(b"7", 1) == 0, text::is_digit(b'7'), text::wide(55) == 55
 #![tactic(auto)]
 
 ghost use Rattle.std.specs.Prelude.{◌≡◌, ◌&&◌, ◌||◌, ◌+◌, ◌≤◌, ◌<◌, length};
 ghost use Rattle.text.specs.Text.{byte_at, is_digit};
 ghost use Rattle.text.specs.Words.{word_at};
 
-const ZERO: u8 = 48;
-
-const NINE: u8 = 57;
-
-// The byte at i, and 0 past the end.
+// The byte at i, and 0 past the end. An `if` says so more plainly than `get`, `copied` and `unwrap_or` do.
 pub fn byte_at(s: &[u8], i: usize) -> u8
     ensures { result ≡ byte_at s.now i }
 {
@@ -22,20 +18,14 @@ pub fn byte_at(s: &[u8], i: usize) -> u8
 pub fn is_digit(c: u8) -> bool
     ensures { result ≡ is_digit c }
 {
-    if c < ZERO {
-        return false;
-    }
-    if NINE < c {
-        return false;
-    }
-    true
+    c.is_ascii_digit()
 }
 
 // A byte as a word.
 pub fn wide(b: u8) -> u64
     ensures { (result ≡ b) × (result < 256) }
 {
-    b as u64
+    u64::from(b)
 }
 
 // The eight bytes from a position on as one number, the first the lowest: a single load.
@@ -56,11 +46,11 @@ pub fn word_at(s: &[u8], at: usize) -> u64
 pub fn either(a: bool, b: bool) -> bool
     ensures { result ≡ (a || b) }
 {
-    if a { true } else { b }
+    a || b
 }
 
 pub fn both(a: bool, b: bool) -> bool
     ensures { result ≡ (a && b) }
 {
-    if a { b } else { false }
+    a && b
 }

@@ -13,11 +13,10 @@ use edit::BUFFER_WORDS;
 use layout::{Kind, Outline, is_snapshot};
 use reference::Scope;
 use settings::{Dialect, Rules, Settings, rules_of};
-use text::{both, either};
 
 const MAX_UPDATES: u64 = 4294967295;
 
-#[derive(Clone, Copy)]
+#[derive(Clone, Copy, Debug, PartialEq, Eq)]
 pub enum State {
     // Opened with bad settings.
     Shut,
@@ -42,54 +41,44 @@ pub struct Counts {
     pub asks: usize,
 }
 
+#[tactic(auto, unfolding(crate::specs::Lifecycle::first_state))]
 pub fn first_state(dialect: Dialect) -> State
     ensures { result ≡ first_state dialect }
 {
     match dialect {
-        Dialect::K => State::Waiting,
-        Dialect::M(_) => State::Waiting,
+        Dialect::K | Dialect::M(_) => State::Waiting,
         Dialect::Unknown => State::Shut,
     }
 }
 
+#[tactic(auto, unfolding(crate::specs::Lifecycle::status_of, reference::specs::Reference::is_shut))]
 fn is_shut(state: State) -> bool
     ensures { result ≡ is_shut (status_of state) }
 {
-    match state {
-        State::Shut => true,
-        State::Waiting => false,
-        State::Live => false,
-    }
+    state == State::Shut
 }
 
 // Whether a question of that scope is answered.
+#[tactic(auto, unfolding(crate::specs::Lifecycle::status_of, crate::specs::Lifecycle::answers))]
 pub fn stands(lifecycle: Lifecycle, scope: Scope) -> bool
     ensures { result ≡ answers (status_of lifecycle.state) lifecycle.had_snapshot scope }
 {
     let state = lifecycle.state;
-    let had_snapshot = lifecycle.had_snapshot;
-    match state {
-        State::Shut => false,
-        State::Waiting => match scope {
-            Scope::Current => false,
-            Scope::LastGood => had_snapshot,
-        },
-        State::Live => match scope {
-            Scope::Current => true,
-            Scope::LastGood => had_snapshot,
-        },
+    match scope {
+        Scope::Current => state == State::Live,
+        Scope::LastGood => state != State::Shut && lifecycle.had_snapshot,
     }
 }
 
 // The answer to a question that is refused.
+#[tactic(auto, unfolding(crate::specs::Lifecycle::status_of, crate::specs::Lifecycle::refusal_of))]
 pub fn refusal(lifecycle: Lifecycle) -> Answer
     ensures { result ≡ refusal_of (status_of lifecycle.state) }
 {
     let state = lifecycle.state;
     match state {
         State::Shut => Answer::Shut,
-        State::Waiting => Answer::NoSnapshot,
-        State::Live => Answer::NoSnapshot,
+        State::Waiting | State::Live => Answer::NoSnapshot,
     }
 }
 
@@ -136,7 +125,13 @@ pub fn judge(
 }
 
 // Checks 10 and 11, of a message that passes those of its text, to a book that has this sequence number.
-fn judge_update(state: State, rules: Rules, number: u64, outline: Outline) -> Result<Outline, Answer>
+#[tactic(auto, unfolding(crate::specs::Lifecycle::status_of, crate::specs::Lifecycle::judged_update, reference::specs::Reference::is_live))]
+fn judge_update(
+    state: State,
+    rules: Rules,
+    number: u64,
+    outline: Outline,
+) -> Result<Outline, Answer>
     ensures { result ≡ judged_update state rules number outline }
 {
     let kind = outline.kind;
@@ -144,8 +139,7 @@ fn judge_update(state: State, rules: Rules, number: u64, outline: Outline) -> Re
         return Ok(outline);
     }
     match state {
-        State::Shut => Err(Answer::NoSnapshot),
-        State::Waiting => Err(Answer::NoSnapshot),
+        State::Shut | State::Waiting => Err(Answer::NoSnapshot),
         State::Live => {
             if is_old(rules, number, outline) {
                 return Err(Answer::OldNumber);
@@ -157,10 +151,11 @@ fn judge_update(state: State, rules: Rules, number: u64, outline: Outline) -> Re
 
 // Checks 9, 12 and 16 in this order: `replaced` says that some entry set a level where one stood by then, `over` that too many levels
 // stand on a side, `crossed` that the sides are crossed.
+#[tactic(auto, unfolding(crate::specs::Lifecycle::judged_sides))]
 pub fn judge_sides(kind: Kind, replaced: bool, over: bool, crossed: bool) -> Answer
     ensures { result ≡ judged_sides kind replaced over crossed }
 {
-    if both(is_snapshot(kind), replaced) {
+    if is_snapshot(kind) && replaced {
         return Answer::PriceTwice;
     }
     if over {
@@ -173,12 +168,13 @@ pub fn judge_sides(kind: Kind, replaced: bool, over: bool, crossed: bool) -> Ans
 }
 
 // How a book stands after a message that is taken.
+#[tactic(auto, unfolding(crate::specs::Lifecycle::live_lifecycle))]
 pub fn live(lifecycle: Lifecycle, kind: Kind) -> Lifecycle
     ensures { result ≡ live_lifecycle lifecycle kind }
 {
     Lifecycle {
         state: State::Live,
-        had_snapshot: either(is_snapshot(kind), lifecycle.had_snapshot),
+        had_snapshot: is_snapshot(kind) || lifecycle.had_snapshot,
     }
 }
 
@@ -213,26 +209,18 @@ pub fn updates_after(kind: Kind, updates: u64) -> u64
 }
 
 // Check 11.
+#[tactic(auto, unfolding(crate::specs::Lifecycle::is_old_by))]
 fn is_old(rules: Rules, number: u64, outline: Outline) -> bool
     ensures { result ≡ is_old_by rules number outline }
 {
-    if rules.numbered {
-        if outline.number <= number {
-            return true;
-        }
-        if rules.linked {
-            return outline.previous != number;
-        }
-        return false;
-    }
-    false
+    rules.numbered && (outline.number <= number || (rules.linked && outline.previous != number))
 }
 
 // Check 12; `over` says that before a cut more levels stand on a side than may. A side that is cut never has more.
 pub fn is_over(cut: bool, over: bool) -> bool
     ensures { result ≡ (not cut && over) }
 {
-    if cut { false } else { over }
+    !cut && over
 }
 
 // One more update, up to the end of the count.

@@ -6,10 +6,11 @@ use mathlib.Core.List.{List}
 use Prim.Native.Nat.{ℕ, ◌≤◌, ◌<◌}
 use lib.ListN.{length}
 use native.Mathlib.Omega.{arith}
-use Rattle.json_tokens.specs.Tokens.{blanks, closing, separator}
+use Rattle.json_tokens.proofs.Laws.{then_at, then-broken}
+use Rattle.json_tokens.specs.Tokens.{and_then, string, blanks, closing, separator}
 use Rattle.json_tokens.proofs.Bounds.{Within, bounds}
 use Rattle.json_values.specs.Json.{Next, item, wrong, Items, items, no_items, list_of, items_end, element, member, elements, members, value}
-use Rattle.json_values.specs.Ends.{member_end, held_end, container_end, close_end}
+use Rattle.json_values.specs.Ends.{member_end, held_value, container_end, close_end}
 use Rattle.json_values.specs.declared.Container.{Container}
 use Rattle.json_values.specs.declared.Container.TheVariants.{Array, Object}
 use Rattle.json_values.specs.Fold.{folded_in}
@@ -101,6 +102,26 @@ module _ {A : Type 0} {one : ℕ → Next A} {s : List ℕ} {end : ℕ → Optio
         go None q = fold-broken ends tt w.left item_at.1 c q
 
 -- ---- an array and an object
+abbrev held_end : Container → (ℕ → Option ℕ) → List ℕ → ℕ → Option ℕ
+held_end Array v s i = v i
+held_end Object v s i = member_end v s i
+
+-- an item, by where its value begins
+held-is : (k : Container) (v : ℕ → Option ℕ) (s : List ℕ) (i : ℕ) → held_end k v s i ≡ and_then (held_value k s i) v
+unfolding member_end and_then
+held-is Array v s i = refl
+held-is Object v s i = go (string s i)
+  where
+    go : (x : Option ℕ) → and_then x (λ k. and_then (separator 58 s k) v) ≡ and_then (and_then x (separator 58 s)) v
+    go (Some k) = refl
+    go None = refl
+
+pub held-none : (k : Container) (v : ℕ → Option ℕ) (s : List ℕ) (i : ℕ) → held_value k s i ≡ None → held_end k v s i ≡ None
+held-none k v s i h = held-is k v s i ∙ then-broken v h
+
+pub held-at : (k : Container) (v : ℕ → Option ℕ) (s : List ℕ) (i : ℕ) {x : Option ℕ} (p : ℕ) → held_value k s i ≡ Some p → v p ≡ x → held_end k v s i ≡ x
+held-at k v s i p h q = held-is k v s i ∙ then_at v h ∙ q
+
 abbrev pub Held : Container → ℕ → List ℕ → ℕ → Option ℕ → Type 0
 Held Array d s e r = Past (elements-tell d s) 93 is-bracket e r
 Held Object d s e r = Past (members-tell d s) 125 is-brace e r

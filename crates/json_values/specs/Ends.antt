@@ -1,5 +1,5 @@
 -- What contracts say of members and of what holds items, in terms of the code. Assumes nothing: these are definitions.
-use Rattle.std.specs.Prelude.{ℕ, List, Option}
+use Rattle.std.specs.Prelude.{ℕ, List, Option, Some}
 use Rattle.text.specs.Text.{colon}
 use Rattle.json_tokens.specs.Bytes.{close_array, close_object}
 use Rattle.json_tokens.specs.Tokens.{and_then, closing, separator, string}
@@ -11,10 +11,10 @@ use Rattle.json_values.specs.declared.Container.TheVariants.{Array, Object}
 unfoldable pub member_end : (ℕ → Option ℕ) → List ℕ → ℕ → Option ℕ
 member_end value s i = and_then (string s i) (λ k. and_then (separator colon s k) value)
 
--- an element of an array or a member of an object
-abbrev pub held_end : Container → (ℕ → Option ℕ) → List ℕ → ℕ → Option ℕ
-held_end Array value s i = value i
-held_end Object value s i = member_end value s i
+-- where the value of an element or of a member begins
+abbrev pub held_value : Container → List ℕ → ℕ → Option ℕ
+held_value Array s i = Some i
+held_value Object s i = and_then (string s i) (separator colon s)
 
 -- an array or an object, from past its opening bracket
 abbrev pub container_end : Container → (ℕ → Option ℕ) → List ℕ → ℕ → Option ℕ

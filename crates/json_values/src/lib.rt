@@ -18,7 +18,7 @@
 
 ghost use Rattle.std.specs.Prelude.{◌≡◌, cond, eqb, ◌-◌, ◌≤◌, ◌<◌, length, take, drop};
 ghost use Rattle.json_values.specs.Json.{items_end, elements, members, value};
-ghost use Rattle.json_values.specs.Ends.{member_end, held_end, container_end, close_end};
+ghost use Rattle.json_values.specs.Ends.{held_value, container_end, close_end};
 ghost use Rattle.json_values.specs.Names.{short_meaning, hex_value, escape_meaning, meaning, same, means};
 ghost use Rattle.json_values.specs.Escapes.{PastEscape, Spelled, begins_otherwise, PlainEnd};
 
@@ -87,9 +87,10 @@ fn container_end(s: &[u8], at: usize, depth: usize, container: Container) -> Opt
     if let Some(empty) = close_end(s, at, container) {
         return Some(empty);
     }
-    let mut e = held_end(s, skip_blanks(s, at), depth, container)?;
+    let first = held_value(s, skip_blanks(s, at), container)?;
+    let mut e = value_end(s, first, depth)?;
     while let Some(next) = comma_end(s, e) {
-        e = held_end(s, next, depth, container)?;
+        e = value_end(s, held_value(s, next, container)?, depth)?;
     }
     close_end(s, e, container)
 }
@@ -104,25 +105,14 @@ fn close_end(s: &[u8], at: usize, container: Container) -> Option<usize>
     }
 }
 
-// Past an element of an array or a member of an object.
-#[cycle(values)]
-fn held_end(s: &[u8], at: usize, depth: usize, container: Container) -> Option<usize>
-    ensures { result ≡ held_end container (value depth s.now) s.now at }
+// Where the value of an item begins: an element is one, and a member has it past its name and a colon.
+fn held_value(s: &[u8], at: usize, container: Container) -> Option<usize>
+    ensures { result ≡ held_value container s.now at }
 {
     match container {
-        Container::Array => value_end(s, at, depth),
-        Container::Object => member_end(s, at, depth),
+        Container::Array => Some(at),
+        Container::Object => colon_end(s, string_end(s, at)?),
     }
-}
-
-// Past a member of an object.
-#[cycle(values)]
-fn member_end(s: &[u8], at: usize, depth: usize) -> Option<usize>
-    ensures { result ≡ member_end (value depth s.now) s.now at }
-{
-    let name = string_end(s, at)?;
-    let value = colon_end(s, name)?;
-    value_end(s, value, depth)
 }
 
 // Whether the string from `from` to `to`, quotes included, means the name. Most strings that do not are told by their first byte, before

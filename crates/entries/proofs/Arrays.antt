@@ -19,7 +19,8 @@ use Rattle.edit.specs.declared.Side.{Side}
 use Rattle.json_tokens.specs.Tokens.{blanks, closing, separator}
 use Rattle.json_tokens.specs.Ends.{end_of}
 use Rattle.json_tokens.proofs.Laws.{end-at}
-use Rattle.json_tokens.proofs.Bounds.{bounds, closing-in}
+use Rattle.json_values.proofs.Bounds.{value_in}
+use Rattle.json_tokens.proofs.Bounds.{bounds, end-broken, closing-in}
 use Rattle.json_values.specs.Json.{Span, Items, items, no_items, items_end, element, elements, value}
 use Rattle.json_values.specs.Fold.{fold_from, folded_in}
 use Rattle.json_values.proofs.Laws.{value-array}
@@ -27,7 +28,7 @@ use Rattle.json_values.proofs.Fold.{Loop, Left, Stands, made, over_elements, no-
 use Rattle.entries.specs.Places.{and_then, all, contents, array_at}
 use Rattle.entries.specs.Rows.{Row, Entry, sided, entry_of, entries_at, sided_at, is_bad, number_at, numbers_at}
 use Rattle.entries.specs.Found.{entry_place_of, row_from, price_span, size_span, entry_place_at}
-use Rattle.entries.specs.Tally.{told_not, with_entry, one_more, or_not, one_span, spans_tally, array_tally, told_at, met, Counted, Met}
+use Rattle.entries.specs.Tally.{told_not, closed, with_entry, one_more, or_not, one_span, spans_tally, array_tally, told_at, met, Counted, Met}
 use Rattle.entries.specs.declared.Form.{Form}
 use Rattle.entries.specs.declared.EntryPlace.{EntryPlace}
 use Rattle.entries.specs.declared.Tally.{Tally}
@@ -213,18 +214,18 @@ module _ (base : ℕ) (s : List ℕ) (d : ℕ) (form : Form) (side : Side) (t : 
         broken = value-array s 0 d opens ∙ ap items_end (sym h)
 
   -- ---- the array is empty, or its first entry is to begin at k
-  module _ (room : length before ≡ buffer_words) (few : met t ≤ base) (e : ℕ) (h : e ≡ end_of (closing 93 s 1)) where
-    pub going-empty : (depth : ℕ) → suc d ≡ depth → byte_at s 0 ≡ 91 → (e ≡ 0 → ⊥) → Met base s depth form side t 0 before before (record { end = e; tally = t })
+  module _ (room : length before ≡ buffer_words) (few : met t ≤ base) where
+    pub going-empty : (depth : ℕ) → suc d ≡ depth → byte_at s 0 ≡ 91 → (e : ℕ) → closing 93 s 1 ≡ Some e → Met base s depth form side t 0 before before (record { end = e; tally = t })
     unfolding elements fold_from
-    going-empty depth deep opens n =
-        met-items depth deep opens [] e t before (fold-empty (passing d s) [] 1 e h n ∙ passed-all d s (elements (value d s) s 1)) refl (filled_none room) (omega arith) room
+    going-empty depth deep opens e h =
+        met-items depth deep opens [] e t before (fold-empty (passing d s) [] 1 e h ∙ passed-all d s (elements (value d s) s 1)) refl (filled_none room) (omega arith) room
 
-    pub going_start : e ≡ 0 → (k : ℕ) → k ≡ blanks s 1 → Going k t before
+    pub going_start : closing 93 s 1 ≡ None → (k : ℕ) → k ≡ blanks s 1 → Going k t before
     unfolding elements fold_from
-    going_start z k b =
+    going_start h k b =
         record {
           passed = [];
-          left = subst (Left (passing d s) [] k) (passed-all d s (elements (value d s) s 1)) (fold_start (passing d s) [] 1 e h z k b);
+          left = subst (Left (passing d s) [] k) (passed-all d s (elements (value d s) s 1)) (fold_start (passing d s) [] 1 h k b);
           told = refl;
           filled = filled_none room;
           few = omega arith;
@@ -246,7 +247,7 @@ module _ (base : ℕ) (s : List ℕ) (d : ℕ) (form : Form) (side : Side) (t : 
       this = record { from = i; to = m.end }
 
       stands : Stands (element (value d s)) s i this m.end
-      stands = element-stands d s i m.end ends n
+      stands = element-stands d s i m.end (end-at (value d s i) m.end ends n)
 
       this-is : found ≡ entry_place_of m.end (entry this)
       this-is = found-is form d s i found refl m.end (end-at (value d s i) m.end ends n)
@@ -292,18 +293,18 @@ module _ (base : ℕ) (s : List ℕ) (d : ℕ) (form : Form) (side : Side) (t : 
           (put.entries ∙ ap₂ (λ (n : ℕ) (y : EntryPlace). set (entries_in buffer) n (record { side = side; price = number_at s (price_span y); size = number_at s (size_span y) })) met-now f)
           (g.filled b.front b.reads-front))
 
-      -- ---- past the comma, at l, the next entry is to begin; without a comma the array ends, at u
-      module _ (l : ℕ) (h : l ≡ end_of (separator 44 s m.end)) where
-        pub going-further : (l ≡ 0 → ⊥) → (i < m.end) × (m.end ≤ l) × (i < length s)
+      -- ---- past the comma, at l, the next entry is to begin; without a comma the array ends, if it does
+      module _ (l : ℕ) (h : separator 44 s m.end ≡ Some l) where
+        pub going-further : (i < m.end) × (m.end ≤ l) × (i < length s)
         going-further = fold-further (passing d s) g.passed g.left stands l h
 
-        pub going_on : (l ≡ 0 → ⊥) → Going l m.tally after
-        going_on some =
+        pub going_on : Going l m.tally after
+        going_on =
             let f = few-told in
-            let p = going-further some in
+            let p = going-further in
             record {
               passed = g.passed ++ (this ∷ []);
-              left = fold_on (passing d s) g.passed g.left stands l h some refl;
+              left = fold_on (passing d s) g.passed g.left stands l h refl;
               told = all_told;
               filled = all-filled;
               few = omega arith;
@@ -311,20 +312,19 @@ module _ (base : ℕ) (s : List ℕ) (d : ℕ) (form : Form) (side : Side) (t : 
               room = c.room;
             }
 
-        module _ (depth : ℕ) (deep : suc d ≡ depth) (opens : byte_at s 0 ≡ 91) (z : l ≡ 0) (u : ℕ) (x : u ≡ end_of (closing 93 s m.end)) where
-          pub going-last : (u ≡ 0 → ⊥) → Met base s depth form side t 0 before after (record { end = u; tally = m.tally })
-          going-last some =
-              let f = few-told in
-              let b = bounds u (closing-in s 93 m.end (omega arith)) (end-at (closing 93 s m.end) u x some) in
-              met-items depth deep opens (g.passed ++ (this ∷ [])) u m.tally after (fold-last (passing d s) g.passed g.left stands l h z u x some refl) all_told all-filled (omega arith) c.room
-
-          pub going-broken : u ≡ 0 → Met base s depth form side t 0 before after (told_not 0)
-          going-broken none = met-none depth deep opens after (fold-broken (passing d s) g.passed g.left stands l h z u x none) c.room
+      module _ (depth : ℕ) (deep : suc d ≡ depth) (opens : byte_at s 0 ≡ 91) (h : separator 44 s m.end ≡ None) where
+        pub going-closed : (x : Option ℕ) → x ≡ closing 93 s m.end → Met base s depth form side t 0 before after (closed x m)
+        unfolding closed
+        going-closed (Some u) x =
+            let f = few-told in
+            let b = bounds u (closing-in s 93 m.end (omega arith)) (sym x) in
+            met-items depth deep opens (g.passed ++ (this ∷ [])) u m.tally after (fold-last (passing d s) g.passed g.left stands h u (sym x) refl) all_told all-filled (omega arith) c.room
+        going-closed None x = met-none depth deep opens after (fold-broken (passing d s) g.passed g.left stands h (sym x)) c.room
 
     -- what stands there is not JSON
     pub going-wrong : (depth : ℕ) → suc d ≡ depth → byte_at s 0 ≡ 91 → m.end ≡ 0 → Met base s depth form side t 0 before after (told_not 0)
     going-wrong depth deep opens z =
-        met-none depth deep opens after (fold-wrong (passing d s) g.passed g.left (no-element d s i m.end ends z)) c.room
+        met-none depth deep opens after (fold-wrong (passing d s) g.passed g.left (no-element d s i (end-broken m.end (omega arith) (value_in d s i) ends z))) c.room
 
 -- ---- a value that is no array
 module _ (base : ℕ) (s : List ℕ) (depth : ℕ) (form : Form) (side : Side) (t : Tally) (at : ℕ) (before : List ℕ) (h : byte_at s at ≡ 91 → ⊥) where

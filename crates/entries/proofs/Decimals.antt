@@ -152,13 +152,13 @@ module _ (s : List ℕ) (at : ℕ) (opens : byte_at s at ≡ 91) (k : ℕ) (begi
 
 -- ---- the entry that they begin, which ends at e
 
-module _ (form : Form) (depth : ℕ) (s : List ℕ) (at : ℕ) (a : Amounts) (d : TwoDecimals s at a) (e : ℕ) (fits : EntryEnd form depth s a.end e)
-    (more : e ≡ 0 → ⊥) where
+module _ (form : Form) (depth : ℕ) (s : List ℕ) (at : ℕ) (a : Amounts) (d : TwoDecimals s at a) (end : Option ℕ) (fits : EntryEnd form depth s a.end end)
+    (e : ℕ) (is : end ≡ Some e) where
   abbrev found : EntryPlace
   found = entry_place_at form depth s at
 
   found-is : found ≡ entry_place_of e (Some (row_from at d.found))
-  found-is = fits.some more at d.found d.two d.ends
+  found-is = fits.some e is at d.found d.two d.ends
 
   pub decimals-formed : found.well_formed ≡ true
   unfolding entry_place_of

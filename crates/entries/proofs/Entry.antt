@@ -1,6 +1,6 @@
 -- One entry, by the tokens at its front.
 -- Assumes nothing.
-use Rattle.std.specs.Prelude.{None, Option, Some, ℕ}
+use Rattle.std.specs.Prelude.{None, Option, Some, ℕ, unwrap_or}
 use mathlib.Core.Path.{◌≡◌, refl, sym, ap, ◌∙◌}
 use mathlib.Core.List.{List, [], ◌∷◌}
 use mathlib.Core.Bool.{Bool, true, false, true≢false, ◌&&◌}
@@ -21,7 +21,7 @@ use Rattle.json_values.proofs.Walk.{Walk, walk, walk_ends, walk-wrong, walk_is, 
 use Rattle.entries.specs.Places.{and_then, is_string, contents, array_at}
 use Rattle.entries.specs.Rows.{Row, row_k, row_m, row_of, entry_of}
 use Rattle.entries.specs.Found.{entry_place_of, price_span, size_span, entry_place_at}
-use Rattle.entries.specs.Front.{Two, Front, RestEnd, end_in, EntryEnd, EndedAt}
+use Rattle.entries.specs.Front.{Two, Front, RestEnd, EntryEnd, EndedAt}
 use Rattle.entries.specs.declared.Form.{Form}
 use Rattle.entries.specs.declared.Form.TheVariants.{Triple, Pair}
 use Rattle.entries.specs.declared.EntryPlace.{EntryPlace}
@@ -148,11 +148,6 @@ module _ (s : List ℕ) (at : ℕ) where
       neither-second z c g = both (λ d row w. after-price d row w (stops-string d s q z c g))
 
 -- ---- past two strings
-pub end-in : (r : ℕ) → (r ≡ 0 → ⊥) → end_in r ≡ Some r
-unfolding end_in
-end-in zero n = absurd (n refl)
-end-in (suc r) n = refl
-
 module _ (d : ℕ) (s : List ℕ) (at : ℕ) (f : EntryPlace) (t : Two s at f) where
   abbrev price : Span
   price = price_span f
@@ -223,7 +218,7 @@ module _ (d : ℕ) (s : List ℕ) (at : ℕ) (f : EntryPlace) (t : Two s at f) w
   pub triple-no-third : (j : ℕ) → separator 44 s f.end ≡ Some j → string s j ≡ None → (to : ℕ) → entry_of Triple (suc d) s (record { from = at; to = to }) ≡ None
   triple-no-third j q h to = read-array Triple d s at to t.opens ∙ halt d (triple-halts (record { from = at; to = to })) (past_two (row_in (row_k s (record { from = at; to = to })))) (stops-string d s f.end j q h)
 
-  module _ (j e : ℕ) (q : separator 44 s f.end ≡ Some j) (h : string s j ≡ Some e) (r : ℕ) (rest : RestEnd d s e r) where
+  module _ (j e : ℕ) (q : separator 44 s f.end ≡ Some j) (h : string s j ≡ Some e) (r : Option ℕ) (rest : RestEnd d s e r) where
     abbrev time : Span
     time = record { from = j; to = e }
 
@@ -231,25 +226,34 @@ module _ (d : ℕ) (s : List ℕ) (at : ℕ) (f : EntryPlace) (t : Two s at f) w
         → Walk (one d s) 93 s (λ (y : Items Span). answer (prepended price (prepended size (prepended time y)))) e (next (one d s) 93 s false e) (answer (whole d s at))
     past_three answer = past-string d s (λ (y : Items Span). answer (prepended price (prepended size y))) (past_two answer) j e q h
 
-    pub triple-is : (r ≡ 0 → ⊥) → told r ≡ entry_place_at Triple (suc d) s at
+    pub triple-is : (n : ℕ) → r ≡ Some n → told n ≡ entry_place_at Triple (suc d) s at
     unfolding list items_end prepended found_in entry_place_of row_k
-    triple-is n =
+    triple-is n z =
         let w = past_three (found_in (row_k s) at) in
-        go (list (one d s) 93 s (suc w.left) false e) (rest w.left w.enough ∙ end-in r n) ∙ w.makes ∙ sym (found-array Triple d s at t.opens)
+        go (list (one d s) 93 s (suc w.left) false e) (rest w.left w.enough ∙ z) ∙ w.makes ∙ sym (found-array Triple d s at t.opens)
       where
-        go : (x : Items Span) → items_end x ≡ Some r → told r ≡ found_in (row_k s) at (prepended price (prepended size (prepended time x)))
-        go (items l k) g = let z : r ≡ k = cc in rw (price-is, size_is, string-is s j e h, z)
+        go : (x : Items Span) → items_end x ≡ Some n → told n ≡ found_in (row_k s) at (prepended price (prepended size (prepended time x)))
+        go (items l k) g = let z : n ≡ k = cc in rw (price-is, size_is, string-is s j e h, z)
         go no_items g = broken-at refl g
 
-    pub triple-none : r ≡ 0 → (to : ℕ) → entry_of Triple (suc d) s (record { from = at; to = to }) ≡ None
-    unfolding list end_in items_end prepended contents and_then
+    pub triple-none : r ≡ None → (to : ℕ) → entry_of Triple (suc d) s (record { from = at; to = to }) ≡ None
+    unfolding list items_end prepended contents and_then
     triple-none z to =
         let w = past_three (row_in (row_k s (record { from = at; to = to }))) in
-        read-array Triple d s at to t.opens ∙ sym w.makes ∙ go (list (one d s) 93 s (suc w.left) false e) (rest w.left w.enough ∙ ap end_in z)
+        read-array Triple d s at to t.opens ∙ sym w.makes ∙ go (list (one d s) 93 s (suc w.left) false e) (rest w.left w.enough ∙ z)
       where
         go : (x : Items Span) → items_end x ≡ None → row_in (row_k s (record { from = at; to = to })) (prepended price (prepended size (prepended time x))) ≡ None
         go (items l k) g = broken-at g refl
         go no_items g = refl
+
+pub none-some : {A B : Type 0} {x : A} → None ≡ Some x → B
+none-some h = let z : ◌≡◌ {A = ℕ} 0 1 = cc in absurd (omega arith)
+
+-- ---- an end as one number
+pub end-or-zero : (x : Option ℕ) → unwrap_or x 0 ≡ end_of x
+unfolding end_of
+end-or-zero (Some e) = refl
+end-or-zero None = refl
 
 -- ---- what is told of the front
 pub front-none : (s : List ℕ) (at : ℕ) (f : EntryPlace) → f ≡ entry_place_of 0 None → Neither s at → Front s at f
@@ -259,20 +263,17 @@ front-none s at f h n = record { two = λ g. absurd (true≢false (sym g ∙ ap 
 -- ---- the rest of an array: r is the answer for all of it
 module _ (d : ℕ) (s : List ℕ) (i : ℕ) (r : Option ℕ) (w : Walk (one d s) 93 s items_end i (next (one d s) 93 s false i) r) where
   -- no comma: what is left is the bracket
-  pub rest-close : separator 44 s i ≡ None → (e : ℕ) → e ≡ end_of (closing 93 s i) → r ≡ end_in e
-  unfolding items_end end_of end_in
-  rest-close q e h = go (closing 93 s i) refl h
+  pub rest-close : separator 44 s i ≡ None → closing 93 s i ≡ r
+  unfolding items_end
+  rest-close q = go (closing 93 s i) refl
     where
-      go : (x : Option ℕ) → closing 93 s i ≡ x → e ≡ end_of x → r ≡ end_in e
-      go (Some k) c g =
-          let b = bounds k (closing-in s 93 i (omega arith)) c in
-          let z : (e ≡ 0 → ⊥) = λ y. omega arith in
-          sym (walk_ends (one d s) 93 s items_end w k (later-ends (one d s) 93 s i k q c)) ∙ sym (ap Some g) ∙ sym (end-in e z)
-      go None c g = sym (walk-wrong (one d s) 93 s items_end w (later-wrong (one d s) 93 s i q c)) ∙ sym (ap end_in g)
+      go : (x : Option ℕ) → closing 93 s i ≡ x → x ≡ r
+      go (Some k) c = walk_ends (one d s) 93 s items_end w k (later-ends (one d s) 93 s i k q c)
+      go None c = walk-wrong (one d s) 93 s items_end w (later-wrong (one d s) 93 s i q c)
 
   module _ (j : ℕ) (q : separator 44 s i ≡ Some j) where
-    pub rest-wrong : value d s j ≡ None → r ≡ end_in 0
-    unfolding items_end end_in
+    pub rest-wrong : value d s j ≡ None → r ≡ None
+    unfolding items_end
     rest-wrong v = sym (walk-wrong (one d s) 93 s items_end w (later-item (one d s) 93 s i j q ∙ element-wrong (value d s) j v))
 
     module _ (e : ℕ) (v : value d s j ≡ Some e) where
@@ -290,19 +291,19 @@ module _ (d : ℕ) (s : List ℕ) (i : ℕ) (r : Option ℕ) (w : Walk (one d s)
           record { left = u.left; enough = u.enough; makes = sym (before-end a _) ∙ u.makes }
 
 -- a pair ends with the bracket past its two strings
-pub pair_end : (d : ℕ) (s : List ℕ) (at r : ℕ) → r ≡ end_of (closing 93 s at) → EntryEnd Pair (suc d) s at r
+pub pair_end : (d : ℕ) (s : List ℕ) (at : ℕ) (r : Option ℕ) → r ≡ closing 93 s at → EntryEnd Pair (suc d) s at r
 unfolding entry_place_of
 pair_end d s at r h =
     record {
-      some = λ n from f two ends. sym (pair_is d s from f two r (ap (closing 93 s) ends ∙ end-at (closing 93 s at) r h n));
-      none = λ z from f two ends. pair-none d s from f two (ap (closing 93 s) ends ∙ end-broken r (omega arith) (closing-in s 93 at (omega arith)) h z);
+      some = λ e z from f two ends. sym (pair_is d s from f two e (ap (closing 93 s) ends ∙ sym h ∙ z));
+      none = λ z from f two ends. pair-none d s from f two (ap (closing 93 s) ends ∙ sym h ∙ z);
     }
 
 -- an entry by its front and its end
-pub found-ended : (form : Form) (depth : ℕ) (s : List ℕ) (at : ℕ) (f : EntryPlace) → Two s at f → (e : ℕ) → EntryEnd form depth s f.end e
+pub found-ended : (form : Form) (depth : ℕ) (s : List ℕ) (at : ℕ) (f : EntryPlace) → Two s at f → (e : Option ℕ) → EntryEnd form depth s f.end e
     → (r : EntryPlace) → EndedAt depth s at f e r → r ≡ entry_place_at form depth s at
-found-ended form depth s at f two e fits r h = go (eqb e 0) refl
+found-ended form depth s at f two e fits r h = go e refl
   where
-    go : (b : Bool) → eqb e 0 ≡ b → r ≡ entry_place_at form depth s at
-    go true q = let z = eqb-true e 0 q in h.none z ∙ found_none form depth s at (fits.none z at f two refl)
-    go false q = let n = eqb-false e 0 q in h.some n ∙ sym (fits.some n at f two refl)
+    go : (x : Option ℕ) → e ≡ x → r ≡ entry_place_at form depth s at
+    go None z = h.none z ∙ found_none form depth s at (fits.none z at f two refl)
+    go (Some n) z = h.some n z ∙ sym (fits.some n z at f two refl)

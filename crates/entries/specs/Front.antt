@@ -25,21 +25,16 @@ pub record Front (s : List ℕ) (at : ℕ) (f : EntryPlace) : Type 0 where
   pub two : f.well_formed ≡ true → Two s at f
   pub neither : f.well_formed ≡ false → (form : Form) (depth to : ℕ) → entry_of form depth s (record { from = at; to = to }) ≡ None
 
--- A number as an end: nothing ends at 0.
-unfoldable pub end_in : ℕ → Option ℕ
-end_in zero = None
-end_in (suc n) = Some (suc n)
-
 -- The array whose element ends at `at` ends at r, in however many steps, if they are enough; its elements have this depth.
-abbrev pub RestEnd : ℕ → List ℕ → ℕ → ℕ → Type 0
-RestEnd depth s at r = (n : ℕ) → length s ≤ n + at → items_end (list (element (value depth s)) close_array s (suc n) false at) ≡ end_in r
+abbrev pub RestEnd : ℕ → List ℕ → ℕ → Option ℕ → Type 0
+RestEnd depth s at r = (n : ℕ) → length s ≤ n + at → items_end (list (element (value depth s)) close_array s (suc n) false at) ≡ r
 
--- An entry whose two strings end at `at` ends at r; an r of 0 says that what follows is no entry's.
-pub record EntryEnd (form : Form) (depth : ℕ) (s : List ℕ) (at r : ℕ) : Type 0 where
-  pub some : (r ≡ 0 → ⊥) → (from : ℕ) (f : EntryPlace) → Two s from f → f.end ≡ at → entry_place_at form depth s from ≡ entry_place_of r (Some (row_from from f))
-  pub none : r ≡ 0 → (from : ℕ) (f : EntryPlace) → Two s from f → f.end ≡ at → (to : ℕ) → entry_of form depth s (record { from = from; to = to }) ≡ None
+-- An entry whose two strings end at `at` ends where r says; without an r what follows is no entry's.
+pub record EntryEnd (form : Form) (depth : ℕ) (s : List ℕ) (at : ℕ) (r : Option ℕ) : Type 0 where
+  pub some : (e : ℕ) → r ≡ Some e → (from : ℕ) (f : EntryPlace) → Two s from f → f.end ≡ at → entry_place_at form depth s from ≡ entry_place_of e (Some (row_from from f))
+  pub none : r ≡ None → (from : ℕ) (f : EntryPlace) → Two s from f → f.end ≡ at → (to : ℕ) → entry_of form depth s (record { from = from; to = to }) ≡ None
 
--- The entry at `at` whose front is f, if it ends at e; an e of 0 says that it is none.
-pub record EndedAt (depth : ℕ) (s : List ℕ) (at : ℕ) (f : EntryPlace) (e : ℕ) (r : EntryPlace) : Type 0 where
-  pub some : (e ≡ 0 → ⊥) → r ≡ entry_place_of e (Some (row_from at f))
-  pub none : e ≡ 0 → r ≡ entry_place_of (end_of (value depth s at)) None
+-- The entry at `at` whose front is f, if it ends; without an end it is none.
+pub record EndedAt (depth : ℕ) (s : List ℕ) (at : ℕ) (f : EntryPlace) (end : Option ℕ) (r : EntryPlace) : Type 0 where
+  pub some : (e : ℕ) → end ≡ Some e → r ≡ entry_place_of e (Some (row_from at f))
+  pub none : end ≡ None → r ≡ entry_place_of (end_of (value depth s at)) None

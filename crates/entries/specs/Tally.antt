@@ -25,6 +25,11 @@ not_entries = record { bids = 0; asks = 0; broken_at = 0; strict_at = 0; well_fo
 abbrev pub told_not : ℕ → Entries
 told_not end = record { end = end; tally = not_entries }
 
+-- What was met in an array that ends there, or not JSON.
+unfoldable pub closed : Option ℕ → Entries → Entries
+closed (Some end) met = record { end = end; tally = met.tally }
+closed None met = told_not 0
+
 -- ---- one entry more
 
 unfoldable pub earliest : ℕ → Bool → ℕ → ℕ

@@ -10,7 +10,7 @@
 //     edit::entry_in(&buffer, 0)     // the first of them, if read.tally.bids is not 0
 #![tactic(auto)]
 
-ghost use Rattle.std.specs.Prelude.{◌≡◌, true, false, ◌||◌, suc, ◌+◌, ◌≤◌, ◌<◌, ◌^◌, length, None};
+ghost use Rattle.std.specs.Prelude.{◌≡◌, IfSome, true, false, ◌||◌, suc, ◌+◌, ◌≤◌, ◌<◌, ◌^◌, length, None};
 ghost use Rattle.text.specs.Text.{byte_at};
 ghost use Rattle.decimal.specs.Decimal.{number, read};
 ghost use Rattle.decimal.specs.Reads.{parsed};
@@ -21,15 +21,15 @@ ghost use Rattle.json_values.specs.Json.{value};
 ghost use Rattle.json_values.specs.Names.{inner};
 ghost use Rattle.entries.specs.Rows.{is_bad_price, is_bad_size, number_in};
 ghost use Rattle.entries.specs.Found.{entry_place_of, entry_place_at, Quoted, Laid};
-ghost use Rattle.entries.specs.Tally.{none_yet, told_not, earliest, with_entry, Counted, Met};
+ghost use Rattle.entries.specs.Tally.{none_yet, told_not, closed, earliest, with_entry, Counted, Met};
 ghost use Rattle.entries.specs.Front.{Front, RestEnd, EntryEnd, EndedAt};
 ghost use Rattle.entries.specs.Decimals.{QuotedAt, TwoDecimals};
 
-use decimal::{Decimal, Parsed, ParsedFront, parse};
+use decimal::{Decimal, parse, parse_at};
 use edit::{BUFFER_WORDS, Side, put};
 use json_tokens::{OPEN_ARRAY, QUOTE, array_close_end, comma_end, skip_blanks, string_end};
 use json_values::{MAX_DEPTH, value_end};
-use text::{byte_at, either};
+use text::byte_at;
 
 // How deep arrays and objects may nest in an entry of a message of dialect K or M.
 pub const ENTRY_DEPTH: usize = MAX_DEPTH - 3;
@@ -78,7 +78,7 @@ pub struct Entries {
     pub tally: Tally,
 }
 
-// The price and the size of an entry, and the position past the size. An end of 0 says that they were not read.
+// The price and the size of an entry, and the position past the size.
 #[derive(Clone, Copy)]
 struct Amounts {
     price: Decimal,
@@ -86,7 +86,7 @@ struct Amounts {
     end: usize,
 }
 
-// A decimal in quotes, and the position past them. An end of 0 says that none is there.
+// A decimal in quotes, and the position past them.
 #[derive(Clone, Copy)]
 struct QuotedDecimal {
     decimal: Decimal,
@@ -120,7 +120,7 @@ pub fn entries_at(
     ensures { Met 0 s.now depth form side before at buffer.old buffer.new result }
 {
     if byte_at(s, at) != OPEN_ARRAY {
-        return told_not(value_end(s, at, depth));
+        return told_not(value_end(s, at, depth).unwrap_or(0));
     }
     let read = entries_in(&s[at..], at, depth, form, side, before, buffer);
     if read.end == 0 {
@@ -149,7 +149,7 @@ pub fn entry_at(s: &[u8], at: usize, depth: usize, form: Form) -> EntryPlace
 }
 
 // What the string from `from` to `to`, quotes included, says. The decimal is read where it lies.
-pub fn parse_quoted(s: &[u8], from: usize, to: usize) -> Parsed
+pub fn parse_quoted(s: &[u8], from: usize, to: usize) -> Option<Decimal>
     requires { Quoted s.now from to }
     ensures { parsed result ≡ read (inner s.now (record { from = from; to = to })) }
 {
@@ -159,27 +159,24 @@ pub fn parse_quoted(s: &[u8], from: usize, to: usize) -> Parsed
 }
 
 // Whether the text of a price breaks a rule of decimals, by what it says.
-pub fn is_bad_price(price: Parsed) -> bool
+#[tactic(auto, unfolding(crate::specs::Rows::is_bad_price, decimal::specs::Reads::parsed))]
+pub fn is_bad_price(price: Option<Decimal>) -> bool
     ensures { result ≡ is_bad_price (parsed price) }
 {
     match price {
-        Parsed::Number(d) => decimal::is_zero(d),
-        Parsed::Refused => true,
+        Some(d) => decimal::is_zero(d),
+        None => true,
     }
 }
 
 // The same of a size: in a snapshot it must not be zero either.
-pub fn is_bad_size(size: Parsed, snapshot: bool) -> bool
+#[tactic(auto, unfolding(crate::specs::Rows::is_bad_size, decimal::specs::Reads::parsed))]
+pub fn is_bad_size(size: Option<Decimal>, snapshot: bool) -> bool
     ensures { result ≡ is_bad_size snapshot (parsed size) }
 {
     match size {
-        Parsed::Number(d) => {
-            if snapshot {
-                return decimal::is_zero(d);
-            }
-            false
-        }
-        Parsed::Refused => true,
+        Some(d) => snapshot && decimal::is_zero(d),
+        None => true,
     }
 }
 
@@ -198,12 +195,8 @@ fn entries_in(
     requires { (2 ≤ depth) × (before.bids + before.asks ≤ base) × (base + length s.now < 2 ^ 63) × (byte_at s.now 0 ≡ open_array) × (length buffer.old ≡ buffer_words) }
     ensures { Met base s.now depth form side before 0 buffer.old buffer.new result }
 {
-    let none = array_close_end(s, 1);
-    if 0 < none {
-        return Entries {
-            end: none,
-            tally: before,
-        };
+    if let Some(end) = array_close_end(s, 1) {
+        return Entries { end, tally: before };
     }
     let mut i = skip_blanks(s, 1);
     let mut tally = before;
@@ -213,17 +206,25 @@ fn entries_in(
         if past == 0 {
             return told_not(0);
         }
-        let j = comma_end(s, past);
-        if j == 0 {
-            let end = array_close_end(s, past);
-            if end == 0 {
-                return told_not(0);
-            }
-            let all = more.tally;
-            return Entries { end, tally: all };
-        }
+        let Some(next) = comma_end(s, past) else {
+            return closed(more, array_close_end(s, past));
+        };
         tally = more.tally;
-        i = j;
+        i = next;
+    }
+}
+
+// What was met in an array that ends at `end`, or not JSON.
+#[tactic(auto, unfolding(crate::specs::Tally::closed))]
+fn closed(met: Entries, end: Option<usize>) -> Entries
+    ensures { result ≡ closed end met }
+{
+    match end {
+        Some(end) => Entries {
+            end,
+            tally: met.tally,
+        },
+        None => told_not(0),
     }
 }
 
@@ -242,15 +243,13 @@ fn next_entry(
     requires { (1 ≤ depth) × (before.bids + before.asks ≤ base + at) × (base + length s.now < 2 ^ 63) × (length buffer.old ≡ buffer_words) }
     ensures { Counted s.now side before (base + at) (entry_place_at form depth s.now at) buffer.old buffer.new result }
 {
-    let front = two_amounts(s, at);
-    if 0 < front.end {
-        let end = entry_end(s, front.end, depth, form);
-        if 0 < end {
+    if let Some(front) = two_amounts(s, at) {
+        if let Some(end) = entry_end(s, front.end, depth, form) {
             let price = front.price;
             let size = front.size;
             put(buffer, before.bids + before.asks, side, price, size);
             let broken = decimal::is_zero(price);
-            let strict = either(broken, decimal::is_zero(size));
+            let strict = broken || decimal::is_zero(size);
             let tally = with_entry(before, side, base + at, broken, strict);
             return Entries { end, tally };
         }
@@ -285,8 +284,8 @@ fn any_entry(
             number_of(size),
         );
         let bad = is_bad_price(price);
-        let broken = either(bad, is_bad_size(size, false));
-        let strict = either(bad, is_bad_size(size, true));
+        let broken = bad || is_bad_size(size, false);
+        let strict = bad || is_bad_size(size, true);
         let tally = with_entry(before, side, at, broken, strict);
         return Entries {
             end: found.end,
@@ -320,12 +319,7 @@ fn with_entry(before: Tally, side: Side, at: usize, broken: bool, strict: bool) 
 fn earliest(known: usize, is_one: bool, at: usize) -> usize
     ensures { result ≡ earliest known is_one at }
 {
-    if known == 0 {
-        if is_one {
-            return at;
-        }
-    }
-    known
+    if known == 0 && is_one { at } else { known }
 }
 
 // A value that ends at `end` and is no array of entries.
@@ -354,18 +348,15 @@ fn two_strings(s: &[u8], at: usize) -> EntryPlace
         return no_entry(0);
     }
     let price_from = skip_blanks(s, at + 1);
-    let price_to = string_end(s, price_from);
-    if price_to == 0 {
+    let Some(price_to) = string_end(s, price_from) else {
         return no_entry(0);
-    }
-    let size_from = comma_end(s, price_to);
-    if size_from == 0 {
+    };
+    let Some(size_from) = comma_end(s, price_to) else {
         return no_entry(0);
-    }
-    let size_to = string_end(s, size_from);
-    if size_to == 0 {
+    };
+    let Some(size_to) = string_end(s, size_from) else {
         return no_entry(0);
-    }
+    };
     EntryPlace {
         end: size_to,
         well_formed: true,
@@ -376,9 +367,9 @@ fn two_strings(s: &[u8], at: usize) -> EntryPlace
     }
 }
 
-// Past the entry whose second string ends at `at`, or 0 where what follows does not fit. It is inlined into the loops that read entries;
+// Past the entry whose second string ends at `at`, if what follows fits. It is inlined into the loops that read entries;
 // `triple_end`, which `entry_at` calls too, is not, and a pair does not pay for it.
-fn entry_end(s: &[u8], at: usize, depth: usize, form: Form) -> usize
+fn entry_end(s: &[u8], at: usize, depth: usize, form: Form) -> Option<usize>
     requires { 1 ≤ depth }
     ensures { EntryEnd form depth s.now at result }
 {
@@ -389,52 +380,39 @@ fn entry_end(s: &[u8], at: usize, depth: usize, form: Form) -> usize
 }
 
 // The same of a triple, whose elements have this depth: a third string, and whatever else the array has.
-fn triple_end(s: &[u8], at: usize, depth: usize) -> usize
+fn triple_end(s: &[u8], at: usize, depth: usize) -> Option<usize>
     ensures { EntryEnd Form.Triple (suc depth) s.now at result }
 {
-    let third = comma_end(s, at);
-    if third == 0 {
-        return 0;
-    }
-    let past = string_end(s, third);
-    if past == 0 {
-        return 0;
-    }
+    let third = comma_end(s, at)?;
+    let past = string_end(s, third)?;
     rest_end(s, past, depth)
 }
 
 // Past the array that has an element which ends at `at`; the elements have this depth.
-fn rest_end(s: &[u8], at: usize, depth: usize) -> usize
+fn rest_end(s: &[u8], at: usize, depth: usize) -> Option<usize>
     ensures { RestEnd depth s.now at result }
 {
-    let mut i = at;
-    loop {
-        let j = comma_end(s, i);
-        if j == 0 {
-            return array_close_end(s, i);
-        }
-        let e = value_end(s, j, depth);
-        if e == 0 {
-            return 0;
-        }
-        i = e;
+    let mut end = at;
+    while let Some(next) = comma_end(s, end) {
+        end = value_end(s, next, depth)?;
     }
+    array_close_end(s, end)
 }
 
 // The value at `at`, which is no entry.
 fn passed_over(s: &[u8], at: usize, depth: usize) -> EntryPlace
     ensures { result ≡ entry_place_of (end_of (value depth s.now at)) None }
 {
-    no_entry(value_end(s, at, depth))
+    no_entry(value_end(s, at, depth).unwrap_or(0))
 }
 
-// The entry at `at` that has this front and ends at `end`; an end of 0 says that it is none, and the value is passed over.
-fn ended_at(s: &[u8], at: usize, depth: usize, front: EntryPlace, end: usize) -> EntryPlace
+// The entry at `at` that has this front and ends at `end`. Without an end it is none, and the value is passed over.
+fn ended_at(s: &[u8], at: usize, depth: usize, front: EntryPlace, end: Option<usize>) -> EntryPlace
     ensures { EndedAt depth s.now at front end result }
 {
-    if end == 0 {
+    let Some(end) = end else {
         return passed_over(s, at, depth);
-    }
+    };
     EntryPlace {
         end,
         well_formed: true,
@@ -462,78 +440,46 @@ fn no_entry(end: usize) -> EntryPlace
 // ---- its price and its size
 
 // The decimal that was read, or 0.
-pub fn number_of(text: Parsed) -> Decimal
+#[tactic(auto, unfolding(crate::specs::Rows::number_in, decimal::specs::Reads::parsed))]
+pub fn number_of(text: Option<Decimal>) -> Decimal
     ensures { number result ≡ number_in (parsed text) }
 {
     match text {
-        Parsed::Number(d) => d,
-        Parsed::Refused => decimal::zero(),
+        Some(d) => d,
+        None => decimal::zero(),
     }
 }
 
-// The two decimals in quotes that the array at `at` begins with, and the position past the second; an end of 0 where they are not there.
-fn two_amounts(s: &[u8], at: usize) -> Amounts
-    ensures { (result.end ≡ 0 → ⊥) → TwoDecimals s.now at result }
+// The two decimals in quotes that the array at `at` begins with, if they are there, and the position past the second.
+fn two_amounts(s: &[u8], at: usize) -> Option<Amounts>
+    ensures { IfSome result (TwoDecimals s.now at) }
 {
     if byte_at(s, at) != OPEN_ARRAY {
-        return no_amounts();
+        return None;
     }
-    let first = quoted_decimal(s, skip_blanks(s, at + 1));
-    if first.end == 0 {
-        return no_amounts();
-    }
-    let next = comma_end(s, first.end);
-    if next == 0 {
-        return no_amounts();
-    }
-    let second = quoted_decimal(s, next);
-    let price = first.decimal;
-    let size = second.decimal;
-    Amounts {
-        price,
-        size,
+    let first = quoted_decimal(s, skip_blanks(s, at + 1))?;
+    let next = comma_end(s, first.end)?;
+    let second = quoted_decimal(s, next)?;
+    Some(Amounts {
+        price: first.decimal,
+        size: second.decimal,
         end: second.end,
-    }
+    })
 }
 
-// The decimal in quotes at `at`. Digits and a point stand for themselves in a string, so that it is read in one go.
-fn quoted_decimal(s: &[u8], at: usize) -> QuotedDecimal
-    ensures { (result.end ≡ 0 → ⊥) → QuotedAt s.now at result }
+// The decimal in quotes at `at`, if one is there. Digits and a point stand for themselves in a string, so that it is read in one go.
+fn quoted_decimal(s: &[u8], at: usize) -> Option<QuotedDecimal>
+    ensures { IfSome result (QuotedAt s.now at) }
 {
     if byte_at(s, at) != QUOTE {
-        return no_decimal();
+        return None;
     }
-    match decimal::parse_at(s, at + 1) {
-        ParsedFront::Number(decimal, end) => {
-            if byte_at(s, end) != QUOTE {
-                return no_decimal();
-            }
-            QuotedDecimal {
-                decimal,
-                end: end + 1,
-            }
-        }
-        ParsedFront::Refused => no_decimal(),
+    let front = parse_at(s, at + 1)?;
+    if byte_at(s, front.end) != QUOTE {
+        return None;
     }
-}
-
-// No two decimals in quotes.
-fn no_amounts() -> Amounts
-    ensures { result.end ≡ 0 }
-{
-    Amounts {
-        price: decimal::zero(),
-        size: decimal::zero(),
-        end: 0,
-    }
-}
-
-// No decimal in quotes.
-fn no_decimal() -> QuotedDecimal
-    ensures { result.end ≡ 0 }
-{
-    QuotedDecimal {
-        decimal: decimal::zero(),
-        end: 0,
-    }
+    Some(QuotedDecimal {
+        decimal: front.decimal,
+        end: front.end + 1,
+    })
 }

@@ -4,13 +4,19 @@ use mathlib.Core.Path.{◌≡◌, refl, sym, ap₂, ◌∙◌, subst}
 use Rattle.decimal.specs.Decimal.{number}
 use Rattle.decimal.specs.Limits.{Within}
 use Rattle.decimal.specs.Reads.{parsed}
-use Rattle.entries.specs.Rows.{number_at}
+use Rattle.entries.specs.Rows.{number_at, is_bad_price, is_bad_size}
 use Rattle.entries.specs.Found.{price_span, size_span}
 use Rattle.entries.proofs.Numbers.{number-within}
 use Rattle.entries.proofs.Decimals.{bad-by, price-by, size-by}
 use Rattle.entries.proofs.Counting.{counted-entry, counted-other}
 use Rattle.entries.proofs.any_entry.Goals as goal
-use Rattle.entries.proofs.any_entry.Goals.{After-number_of-then-found}
+use Rattle.entries.proofs.any_entry.Goals.{After-number_of-then-found, then-bad, else-bad, then-bad-2, else-bad-2}
+
+or-true : {a : Bool} (b : Bool) → a ≡ true → (a || b) ≡ true
+or-true b h = rw h
+
+or-next : {a b : Bool} → a ≡ false → (a || b) ≡ b
+or-next h = rw h
 
 pub parse_quoted-price-requires : goal.parse_quoted-price-requires
 parse_quoted-price-requires c = (c.requires.0 c.if-found.true).0
@@ -46,10 +52,18 @@ returns-then-found c =
     let z = c.parse_quoted-size in
     let price = c.is_bad_price-bad.ensures in
     let bad = bad-by a.s.now a.at a.found (parsed p.result) (parsed z.result) p.ensures z.ensures in
+    let broken : c.if-bad.broken ≡ (is_bad_price (parsed p.result) || is_bad_size false (parsed z.result)) =
+        elim c.if-bad.branch [
+          | then-bad w ↦ w.broken-is ∙ w.if-bad.true ∙ sym (or-true _ (sym price ∙ w.if-bad.true))
+          | else-bad w ↦ w.broken-is ∙ w.is_bad_size-broken.ensures ∙ sym (or-next (sym price ∙ w.if-bad.false))
+        ] in
+    let strict : c.if-bad-2.strict ≡ (is_bad_price (parsed p.result) || is_bad_size true (parsed z.result)) =
+        elim c.if-bad-2.branch [
+          | then-bad-2 w ↦ w.strict-is ∙ w.if-bad-2.true ∙ sym (or-true _ (sym price ∙ w.if-bad-2.true))
+          | else-bad-2 w ↦ w.strict-is ∙ w.is_bad_size-strict.ensures ∙ sym (or-next (sym price ∙ w.if-bad-2.false))
+        ] in
     counted-entry a.s.now a.side a.before a.at a.found a.buffer.now _ c.if-found.true refl
-    c.either-broken.result c.either-strict.result c.with_entry-tally.ensures
-    (c.either-broken.ensures ∙ ap₂ (λ (x y : Bool). x || y) price c.is_bad_size.ensures ∙ bad false)
-    (c.either-strict.ensures ∙ ap₂ (λ (x y : Bool). x || y) price c.is_bad_size-then-found.ensures ∙ bad true)
+    c.if-bad.broken c.if-bad-2.strict c.with_entry-tally.ensures (broken ∙ bad false) (strict ∙ bad true)
     _ (number n.number_of.result) (number n.number_of-then-found.result) c.put.ensures (price-number n) (size_number n)
 
 pub returns : goal.returns

@@ -1,12 +1,18 @@
 -- `entries::ended_at` meets its contract: it hands on the front that was found, or passes the value over.
 -- Assumes nothing.
-use mathlib.Core.Path.{refl}
-use Rattle.entries.specs.Found.{entry_place_of}
+use Rattle.std.specs.Prelude.{None, Some, ℕ, ◌≡◌}
+use mathlib.Core.Path.{sym, ap, ◌∙◌, refl}
+use native.Mathlib.Omega.{arith}
+use Rattle.entries.specs.Found.{entry_place_of, row_from}
 use Rattle.entries.proofs.ended_at.Goals as goal
 
-pub returns-then-end-eq0 : goal.returns-then-end-eq0
-returns-then-end-eq0 c = record { some = λ n. absurd (n c.if-end-eq0.true); none = λ z. c.passed_over.ensures }
+pub returns-in_default : goal.returns-in_default
+returns-in_default c = record { some = λ e z. absurd (c.in_default.not-Some e z); none = λ z. c.passed_over.ensures }
 
 pub returns : goal.returns
 unfolding entry_place_of
-returns c = record { some = λ n. refl; none = λ z. absurd (c.if-end-eq0.false z) }
+returns c =
+    record {
+      some = λ e z. let q : c.in-Some.end ≡ e = cc (sym c.in-Some.is ∙ z) in ap (λ (k : ℕ). entry_place_of k (Some (row_from c.args.at c.args.front))) q;
+      none = λ z. let n : ◌≡◌ {A = ℕ} 0 1 = cc (sym c.in-Some.is ∙ z) in absurd (omega arith);
+    }

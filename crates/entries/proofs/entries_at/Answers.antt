@@ -6,6 +6,7 @@ use lib.ListN.{length, drop, length-drop}
 use Rattle.text.specs.Text.{byte_at}
 use Rattle.json_tokens.proofs.Laws.{in-byte}
 use Rattle.json_tokens.proofs.Shift.{byte-shift}
+use Rattle.entries.proofs.Entry.{end-or-zero}
 use Rattle.entries.proofs.Arrays.{met-other}
 use Rattle.entries.proofs.Shift.{part-is, met-inside, met-later, met-later-broken}
 use Rattle.entries.proofs.entries_at.Goals as goal
@@ -19,7 +20,7 @@ module _ (c : Else-byte_at-ne-OPEN_ARRAY) where
 pub returns-then-byte_at-ne-OPEN_ARRAY : goal.returns-then-byte_at-ne-OPEN_ARRAY
 returns-then-byte_at-ne-OPEN_ARRAY c =
     let a = c.args in
-    rw (c.told_not.ensures, c.value_end.ensures)
+    rw (c.told_not.ensures, c.unwrap_or.ensures, end-or-zero c.value_end.result, c.value_end.ensures)
     (met-other 0 a.s.now a.depth a.form a.side a.before a.at a.buffer.now (λ z. c.if-byte_at-ne-OPEN_ARRAY.true (c.byte_at.ensures ∙ z)) c.requires.2)
 
 pub slice_bounds-entries_in-count : goal.slice_bounds-entries_in-count

@@ -3,9 +3,8 @@
 use mathlib.Core.Bool.{true≢false}
 use mathlib.Core.Path.{◌∙◌, ap, refl, sym}
 use native.Mathlib.Omega.{arith}
-use Rattle.json_tokens.proofs.Bounds.{end-broken, separator-in, string-in}
-use Rattle.json_tokens.proofs.Laws.{end-at, in-byte}
-use Rattle.json_tokens.specs.Tokens.{separator, string}
+use Rattle.json_tokens.proofs.Laws.{in-byte}
+use Rattle.json_tokens.specs.Tokens.{string}
 use Rattle.entries.proofs.Entry.{front-none, neither-array, neither-comma, neither-first, neither-second}
 use Rattle.entries.proofs.two_strings.Goals as goal
 
@@ -22,56 +21,42 @@ overflow_add-at c =
     let l = in-byte s a.at 91 (omega arith) (sym c.byte_at.ensures ∙ c.if-byte_at-ne-OPEN_ARRAY.false) in
     omega arith
 
-pub returns-then-price_to-eq0 : goal.returns-then-price_to-eq0
-returns-then-price_to-eq0 c =
-    let a = c.args in
-    let s = a.s.now in
+pub returns-in_default : goal.returns-in_default
+returns-in_default c =
+    let s = c.args.s.now in
     let opens = sym c.byte_at.ensures ∙ c.if-byte_at-ne-OPEN_ARRAY.false in
-    let p = c.skip_blanks-price_from.result in
-    let b = c.skip_blanks-price_from.ensures in
-    let q = c.string_end-price_to.result in
-    let y = end-broken q (omega arith) (string-in s p) c.string_end-price_to.ensures c.if-price_to-eq0.true in
-    front-none s a.at _ c.no_entry-then-price_to-eq0.ensures (neither-first s a.at opens (ap (string s) (sym b) ∙ y))
+    front-none s c.args.at _ c.no_entry-in_default.ensures (neither-first s c.args.at opens (ap (string s) (sym c.skip_blanks-price_from.ensures) ∙ sym c.string_end.ensures ∙ c.in_default.is))
 
-pub returns-then-size_from-eq0 : goal.returns-then-size_from-eq0
-returns-then-size_from-eq0 c =
-    let a = c.args in
-    let s = a.s.now in
+pub returns-in_default-comma_end : goal.returns-in_default-comma_end
+returns-in_default-comma_end c =
+    let s = c.args.s.now in
     let opens = sym c.byte_at.ensures ∙ c.if-byte_at-ne-OPEN_ARRAY.false in
-    let p = c.skip_blanks-price_from.result in
-    let b = c.skip_blanks-price_from.ensures in
-    let q = c.string_end-price_to.result in
-    let h = end-at (string s p) q c.string_end-price_to.ensures c.if-price_to-eq0.false in
-    let z = c.comma_end-size_from.result in
-    let y = end-broken z (omega arith) (separator-in s 44 q (omega arith)) c.comma_end-size_from.ensures c.if-size_from-eq0.true in
-    front-none s a.at _ c.no_entry-then-size_from-eq0.ensures (neither-comma s a.at opens p q b h y)
+    let p = c.skip_blanks-price_from in
+    let q = c.in-Some in
+    front-none s c.args.at _ c.no_entry-in_default-comma_end.ensures
+    (neither-comma s c.args.at opens p.result q.price_to p.ensures (sym c.string_end.ensures ∙ q.is) (sym c.comma_end.ensures ∙ c.in_default-comma_end.is))
 
-pub returns-then-size_to-eq0 : goal.returns-then-size_to-eq0
-returns-then-size_to-eq0 c =
-    let a = c.args in
-    let s = a.s.now in
+pub returns-in_default-string_end : goal.returns-in_default-string_end
+returns-in_default-string_end c =
+    let s = c.args.s.now in
     let opens = sym c.byte_at.ensures ∙ c.if-byte_at-ne-OPEN_ARRAY.false in
-    let p = c.skip_blanks-price_from.result in
-    let b = c.skip_blanks-price_from.ensures in
-    let q = c.string_end-price_to.result in
-    let h = end-at (string s p) q c.string_end-price_to.ensures c.if-price_to-eq0.false in
-    let z = c.comma_end-size_from.result in
-    let g = end-at (separator 44 s q) z c.comma_end-size_from.ensures c.if-size_from-eq0.false in
-    let e = c.string_end-size_to.result in
-    let y = end-broken e (omega arith) (string-in s z) c.string_end-size_to.ensures c.if-size_to-eq0.true in
-    front-none s a.at _ c.no_entry-then-size_to-eq0.ensures (neither-second s a.at opens p q b h z g y)
+    let p = c.skip_blanks-price_from in
+    let q = c.in-Some in
+    let z = c.in-Some-comma_end in
+    front-none s c.args.at _ c.no_entry-in_default-string_end.ensures
+    (neither-second s c.args.at opens p.result q.price_to p.ensures (sym c.string_end.ensures ∙ q.is) z.size_from (sym c.comma_end.ensures ∙ z.is) (sym c.string_end-2.ensures ∙ c.in_default-string_end.is))
 
 pub returns : goal.returns
 returns c =
-    let a = c.args in
-    let s = a.s.now in
     let opens = sym c.byte_at.ensures ∙ c.if-byte_at-ne-OPEN_ARRAY.false in
-    let p = c.skip_blanks-price_from.result in
-    let b = c.skip_blanks-price_from.ensures in
-    let q = c.string_end-price_to.result in
-    let h = end-at (string s p) q c.string_end-price_to.ensures c.if-price_to-eq0.false in
-    let z = c.comma_end-size_from.result in
-    let g = end-at (separator 44 s q) z c.comma_end-size_from.ensures c.if-size_from-eq0.false in
-    let e = c.string_end-size_to.result in
-    let y = end-at (string s z) e c.string_end-size_to.ensures c.if-size_to-eq0.false in
-    record { two = λ t. record { opens = opens; begins = b; price = h; comma = g; size = y; ends = refl }; neither = λ t. absurd (true≢false t) }
+    record {
+      two = λ t. record {
+        opens = opens;
+        begins = c.skip_blanks-price_from.ensures;
+        price = sym c.string_end.ensures ∙ c.in-Some.is;
+        comma = sym c.comma_end.ensures ∙ c.in-Some-comma_end.is;
+        size = sym c.string_end-2.ensures ∙ c.in-Some-string_end.is;
+        ends = refl;
+      };
+      neither = λ t. absurd (true≢false t);
+    }

@@ -118,7 +118,7 @@ fn tell_refusal(
     let answer = refusal(dialect, depth, name, text);
     out.print(number_of(answer))?;
     write(out, meaning(answer))?;
-    if matches!(answer, Answer::BadDecimal) {
+    if answer == Answer::BadDecimal {
         tell_bad(out, dialect, depth, name, text)?;
     }
     Ok(())

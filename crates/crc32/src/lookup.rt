@@ -1,5 +1,5 @@
 // A state moved by so many bytes, from the tables: eight look-ups in the one table that has them all.
-ghost use Rattle.std.specs.Prelude.{◌≡◌, ◌*◌, ◌≤◌, ◌<◌};
+ghost use Rattle.std.specs.Prelude.{◌≡◌, ◌*◌};
 ghost use Rattle.crc32_spec.specs.Crc.{bits};
 
 use crc32_tables::moved0;
@@ -13,7 +13,7 @@ pub fn shift(s: u32, n: u64) -> u32
     let mut state = s;
     let mut left = n;
     while 28 <= left {
-        let step = one_step(left);
+        let step = left.min(55);
         state = moved1(state, step - 28);
         left -= step;
         if left == 0 {
@@ -21,12 +21,4 @@ pub fn shift(s: u32, n: u64) -> u32
         }
     }
     moved0(state, left)
-}
-
-// How many bytes of those left the second table moves a state by.
-fn one_step(left: u64) -> u64
-    requires { 28 ≤ left }
-    ensures { (28 ≤ result) × (result < 56) × (result ≤ left) }
-{
-    if left < 56 { left } else { 55 }
 }

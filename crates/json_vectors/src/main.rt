@@ -18,7 +18,7 @@ use json_tokens::{
     object_close_end, scalar_end, skip_blanks, string_end,
 };
 use json_values::{MAX_DEPTH, array_end, is_name, object_end, value_end};
-use lines::{LINE_END, find};
+use lines::LINE_END;
 use reading::read_full;
 use std::io;
 
@@ -43,15 +43,9 @@ fn newline(out: &impl Print) -> io::Result<()> {
 // ---- the table
 
 fn run_lines(out: &impl Print, s: &[u8]) -> io::Result<()> {
-    let mut i = 0;
-    while i < s.len() {
-        let e = find(s, i, LINE_END);
-        line(out, &s[i..e])?;
+    for whole in s.split_inclusive(|b| *b == LINE_END) {
+        line(out, whole.strip_suffix(b"\n").unwrap_or(whole))?;
         newline(out)?;
-        if s.len() <= e {
-            return Ok(());
-        }
-        i = e + 1;
     }
     Ok(())
 }
@@ -60,33 +54,29 @@ fn line(out: &impl Print, s: &[u8]) -> io::Result<()> {
     if s.len() < 2 {
         return write(out, s);
     }
-    let c = s[0];
-    if c == b'+' {
-        sign(out, &s[2..])?;
-    } else if c == b'-' {
-        sign(out, &s[2..])?;
-    } else if c == b'=' {
-        name_sign(out, &s[2..])?;
-    } else if c == b'!' {
-        name_sign(out, &s[2..])?;
+    let text = &s[2..];
+    match s[0] {
+        b'+' | b'-' => sign(out, text)?,
+        b'=' | b'!' => name_sign(out, text)?,
+        _ => (),
     }
     write(out, s)?;
-    if c == b'e' {
-        newline(out)?;
-        elements(out, &s[2..])?;
-    } else if c == b'm' {
-        newline(out)?;
-        members(out, &s[2..])?;
+    match s[0] {
+        b'e' => {
+            newline(out)?;
+            elements(out, text)
+        }
+        b'm' => {
+            newline(out)?;
+            members(out, text)
+        }
+        _ => Ok(()),
     }
-    Ok(())
 }
 
 fn sign(out: &impl Print, s: &[u8]) -> io::Result<()> {
-    if is_json(s) {
-        write(out, b"+ ")
-    } else {
-        write(out, b"- ")
-    }
+    sign_of(out, s)?;
+    write(out, b" ")
 }
 
 // A string, a blank and a name.
@@ -221,10 +211,8 @@ fn container(out: &impl Print, s: &[u8], from: usize, to: usize) -> io::Result<(
 }
 
 fn part(out: &impl Print, s: &[u8], from: usize, to: usize) -> io::Result<()> {
-    if from <= to {
-        if to <= s.len() {
-            write(out, &s[from..to])?;
-        }
+    if from <= to && to <= s.len() {
+        write(out, &s[from..to])?;
     }
     Ok(())
 }
@@ -240,26 +228,47 @@ fn end(out: &impl Print, e: usize) -> io::Result<()> {
 
 // ---- rows of bytes
 
+// Where in a text a byte is put.
+#[derive(Clone, Copy)]
+enum Place {
+    BetweenQuotes,
+    PastBackslash,
+    FirstHexDigit,
+    LastHexDigit,
+    Alone,
+    BeforeOne,
+    PastOne,
+    BetweenElements,
+}
+
 fn rows(out: &impl Print) -> io::Result<()> {
-    row(out, b"# each byte between quotes\n", 0)?;
-    row(out, b"# each byte past a backslash\n", 1)?;
-    row(out, b"# each byte as the first hex digit\n", 2)?;
-    row(out, b"# each byte as the last hex digit\n", 3)?;
-    row(out, b"# each byte alone\n", 4)?;
-    row(out, b"# each byte before a 1\n", 5)?;
-    row(out, b"# each byte past a 1\n", 6)?;
-    row(out, b"# each byte between two elements\n", 7)
+    row(out, b"# each byte between quotes\n", Place::BetweenQuotes)?;
+    row(out, b"# each byte past a backslash\n", Place::PastBackslash)?;
+    row(
+        out,
+        b"# each byte as the first hex digit\n",
+        Place::FirstHexDigit,
+    )?;
+    row(
+        out,
+        b"# each byte as the last hex digit\n",
+        Place::LastHexDigit,
+    )?;
+    row(out, b"# each byte alone\n", Place::Alone)?;
+    row(out, b"# each byte before a 1\n", Place::BeforeOne)?;
+    row(out, b"# each byte past a 1\n", Place::PastOne)?;
+    row(
+        out,
+        b"# each byte between two elements\n",
+        Place::BetweenElements,
+    )
 }
 
 // The answers for each byte at a place: 8 lines of 32.
-fn row(out: &impl Print, heading: &[u8], place: u8) -> io::Result<()> {
+fn row(out: &impl Print, heading: &[u8], place: Place) -> io::Result<()> {
     write(out, heading)?;
     for b in 0..=255u8 {
-        if place < 4 {
-            in_string(out, place, b)?;
-        } else {
-            outside(out, place, b)?;
-        }
+        at_place(out, place, b)?;
         if b % 32 == 31 {
             newline(out)?;
         }
@@ -267,34 +276,19 @@ fn row(out: &impl Print, heading: &[u8], place: u8) -> io::Result<()> {
     Ok(())
 }
 
-fn in_string(out: &impl Print, place: u8, b: u8) -> io::Result<()> {
-    if place == 0 {
-        sign_of(out, &[b'"', b, b'"'])
-    } else if place == 1 {
-        sign_of(out, &[b'"', b'\\', b, b'"'])
-    } else if place == 2 {
-        sign_of(out, &[b'"', b'\\', b'u', b, b'0', b'0', b'0', b'"'])
-    } else {
-        sign_of(out, &[b'"', b'\\', b'u', b'0', b'0', b'0', b, b'"'])
-    }
-}
-
-fn outside(out: &impl Print, place: u8, b: u8) -> io::Result<()> {
-    if place == 4 {
-        sign_of(out, &[b])
-    } else if place == 5 {
-        sign_of(out, &[b, b'1'])
-    } else if place == 6 {
-        sign_of(out, &[b'1', b])
-    } else {
-        sign_of(out, &[b'[', b'1', b, b'1', b']'])
+fn at_place(out: &impl Print, place: Place, b: u8) -> io::Result<()> {
+    match place {
+        Place::BetweenQuotes => sign_of(out, &[b'"', b, b'"']),
+        Place::PastBackslash => sign_of(out, &[b'"', b'\\', b, b'"']),
+        Place::FirstHexDigit => sign_of(out, &[b'"', b'\\', b'u', b, b'0', b'0', b'0', b'"']),
+        Place::LastHexDigit => sign_of(out, &[b'"', b'\\', b'u', b'0', b'0', b'0', b, b'"']),
+        Place::Alone => sign_of(out, &[b]),
+        Place::BeforeOne => sign_of(out, &[b, b'1']),
+        Place::PastOne => sign_of(out, &[b'1', b]),
+        Place::BetweenElements => sign_of(out, &[b'[', b'1', b, b'1', b']']),
     }
 }
 
 fn sign_of(out: &impl Print, s: &[u8]) -> io::Result<()> {
-    if is_json(s) {
-        write(out, b"+")
-    } else {
-        write(out, b"-")
-    }
+    write(out, if is_json(s) { b"+" } else { b"-" })
 }

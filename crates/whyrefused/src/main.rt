@@ -7,7 +7,7 @@
 
 ghost use Rattle.std.specs.Prelude.{◌≤◌, length, IfOk};
 
-use answer::number_of;
+use answer::{Answer, number_of};
 use lines::{LINE_END, find, move_to_front};
 use settings::{Dialect, Settings};
 use std::io;
@@ -19,17 +19,10 @@ const INPUT: usize = 65536;
 // What is carried over of a line: as much as shows that it is too long for a message.
 const CARRIED: usize = message::MAX_MESSAGE + 1;
 
-// The settings, which are those of a shut book as long as line 1 was not read.
-#[derive(Clone, Copy)]
-struct Terms {
-    settings: Settings,
-    opened: bool,
-}
-
-// The settings after some lines, and where the next line begins.
+// The settings after some lines, none as long as line 1 was not read, and where the next line begins.
 #[derive(Clone, Copy)]
 struct Told {
-    terms: Terms,
+    settings: Option<Settings>,
     next: usize,
 }
 
@@ -38,19 +31,17 @@ fn main(rt: HostRuntime) -> io::Result<()> {
     run(&rt, &mut rt.stdin(), &mut input)
 }
 
-// Tells of block after block until the input ends.
+// Tells of block after block until the input ends. A counted loop, since each loop must end.
 fn run(out: &impl Print, input: &mut impl Read, buffer: &mut [u8]) -> io::Result<()> {
-    let start = 0;
-    let mut terms = no_terms();
+    let mut settings = None;
     let mut held = 0;
     for _ in 0..u64::MAX {
         let to = read_on(input, buffer, held)?;
         if to == held {
-            return finish(out, terms, &buffer[start..held]);
+            return finish(out, settings, &buffer[..held]);
         }
-        let told = tell_lines(out, terms, &buffer[start..to])?;
-        let after = told.terms;
-        terms = after;
+        let told = tell_lines(out, settings, &buffer[..to])?;
+        settings = told.settings;
         held = move_to_front(buffer, told.next, to, CARRIED);
     }
     Ok(())
@@ -66,73 +57,52 @@ fn read_on(input: &mut impl Read, buffer: &mut [u8], from: usize) -> io::Result<
 }
 
 // Tells of the lines that end in a text.
-fn tell_lines(out: &impl Print, before: Terms, s: &[u8]) -> io::Result<Told>
+fn tell_lines(out: &impl Print, before: Option<Settings>, s: &[u8]) -> io::Result<Told>
     ensures { IfOk result (λ told. told.next ≤ length s.now) }
 {
-    let mut terms = before;
+    let mut settings = before;
     let mut next = 0;
     while next < s.len() {
         let end = find(s, next, LINE_END);
         if s.len() <= end {
-            return Ok(Told { terms, next });
+            return Ok(Told { settings, next });
         }
-        terms = tell_line(out, terms, &s[next..end])?;
+        settings = tell_line(out, settings, &s[next..end])?;
         next = end + 1;
     }
-    Ok(Told { terms, next })
+    Ok(Told { settings, next })
 }
 
 // A last line that has no line end.
-fn finish(out: &impl Print, terms: Terms, line: &[u8]) -> io::Result<()> {
-    if 0 < line.len() {
-        tell_line(out, terms, line)?;
+fn finish(out: &impl Print, settings: Option<Settings>, line: &[u8]) -> io::Result<()> {
+    if !line.is_empty() {
+        tell_line(out, settings, line)?;
     }
     Ok(())
 }
 
-fn tell_line(out: &impl Print, terms: Terms, line: &[u8]) -> io::Result<Terms> {
-    if terms.opened {
-        tell(out, terms.settings, line)?;
-        return Ok(terms);
-    }
-    Ok(Terms {
-        settings: settings_on(line),
-        opened: true,
-    })
-}
-
-fn no_terms() -> Terms {
-    Terms {
-        settings: settings_on(b""),
-        opened: false,
+fn tell_line(
+    out: &impl Print,
+    settings: Option<Settings>,
+    line: &[u8],
+) -> io::Result<Option<Settings>> {
+    match settings {
+        Some(kept) => {
+            tell(out, kept, line)?;
+            Ok(settings)
+        }
+        None => Ok(Some(settings_on(line))),
     }
 }
 
 fn settings_on(line: &[u8]) -> Settings {
     let first = line_text::read_settings(line);
-    let dialect = first.dialect;
-    let name = first.name;
-    settings::choose(dialect, first.depth, &line[name..])
+    settings::choose(first.dialect, first.depth, &line[first.name..])
 }
 
 fn tell(out: &impl Print, kept: Settings, text: &[u8]) -> io::Result<()> {
-    let dialect = kept.dialect;
-    let name = kept.name;
-    tell_message(out, dialect, kept.depth, &name, kept.length, text)
-}
-
-// The name is the first `most` bytes of `name`.
-fn tell_message(
-    out: &impl Print,
-    dialect: Dialect,
-    depth: usize,
-    name: &[u8],
-    most: usize,
-    text: &[u8],
-) -> io::Result<()> {
-    let from = 0;
-    if most <= name.len() {
-        tell_refusal(out, dialect, depth, &name[from..most], text)?;
+    if let Some(name) = kept.name.get(..kept.length) {
+        tell_refusal(out, kept.dialect, kept.depth, name, text)?;
     }
     write(out, b"\n")
 }
@@ -144,36 +114,33 @@ fn tell_refusal(
     name: &[u8],
     text: &[u8],
 ) -> io::Result<()> {
-    let n = refusal(dialect, depth, name, text);
-    out.print(n)?;
-    tell_meaning(out, n)?;
-    if n == 8 {
+    let answer = refusal(dialect, depth, name, text);
+    out.print(number_of(answer))?;
+    write(out, meaning(answer))?;
+    if answer == Answer::BadDecimal {
         tell_bad(out, dialect, depth, name, text)?;
     }
     Ok(())
 }
 
-// The number of the first of checks 1 to 8 that fails, or 0.
-fn refusal(dialect: Dialect, depth: usize, name: &[u8], text: &[u8]) -> u64 {
+// What the first of checks 1 to 8 that fails answers, or that the message is taken.
+fn refusal(dialect: Dialect, depth: usize, name: &[u8], text: &[u8]) -> Answer {
     match message::read(dialect, depth, name, text) {
-        Err(answer) => number_of(answer),
-        Ok(_) => 0,
+        Err(answer) => answer,
+        Ok(_) => Answer::Taken,
     }
 }
 
-fn tell_meaning(out: &impl Print, n: u64) -> io::Result<()> {
-    match n {
-        0 => write(out, b" passes checks 1 to 8"),
-        1 => write(out, b" the settings are bad"),
-        2 => write(out, b" the message is too long"),
-        3 => write(out, b" it is not JSON, or nested too deep"),
-        5 => write(out, b" it is not this book's"),
-        6 => write(out, b" the layout is broken"),
-        7 => write(out, b" too many entries on one side"),
-        _ => write(
-            out,
-            b" a price or a size is no decimal, or is zero where it must not be",
-        ),
+fn meaning(answer: Answer) -> &'static [u8] {
+    match answer {
+        Answer::Taken => b" passes checks 1 to 8",
+        Answer::Shut => b" the settings are bad",
+        Answer::TooLong => b" the message is too long",
+        Answer::NotJson => b" it is not JSON, or nested too deep",
+        Answer::NotOurs => b" it is not this book's",
+        Answer::BadLayout => b" the layout is broken",
+        Answer::TooManyEntries => b" too many entries on one side",
+        _ => b" a price or a size is no decimal, or is zero where it must not be",
     }
 }
 

@@ -12,9 +12,9 @@ pub loop-left-init : goal.loop-left-init
 loop-left-init c = refl
 
 -- what is left after a step moves the state to the same result
-after-step : (c : After-moved1-state) → bits (8 * (c.loop-left.left - c.one_step-step.result)) c.moved1-state.result ≡ bits (8 * c.args.n) c.args.s
+after-step : (c : After-moved1-state) → bits (8 * (c.loop-left.left - c.min-step.result)) c.moved1-state.result ≡ bits (8 * c.args.n) c.args.s
 after-step c =
-    step-moved c.one_step-step.result c.loop-left.left c.loop-left.state _ _ (omega arith) (omega arith) c.moved1-state.ensures
+    step-moved c.min-step.result c.loop-left.left c.loop-left.state _ _ (omega arith) (omega arith) c.moved1-state.ensures
     c.loop-left.invariant
 
 pub returns-then-left-eq0 : goal.returns-then-left-eq0

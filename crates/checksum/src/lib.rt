@@ -51,13 +51,13 @@ fn piece_of(text: SumText, price: Decimal, size: Decimal, table: &[u32]) -> Piec
 }
 
 // The checksum of a K book, of whose levels the `most` best a side are summed.
-pub fn k_checksum<'a>(
+pub fn k_checksum(
     most: usize,
-    bids: &'a [u64; MAX_WORDS],
+    bids: &[u64; MAX_WORDS],
     bid_count: usize,
-    asks: &'a [u64; MAX_WORDS],
+    asks: &[u64; MAX_WORDS],
     ask_count: usize,
-    table: &'a [u32],
+    table: &[u32],
 ) -> u32
     requires { Good Bids (kept_in bids.now bid_count) × Good Asks (kept_in asks.now ask_count) × All (Carries k_piece) (held (kept_in bids.now bid_count)) × All (Carries k_piece) (held (kept_in asks.now ask_count)) × ShiftTable table.now }
     ensures { result ≡ crc (k_checksum_text most (map shown (held (kept_in bids.now bid_count))) (map shown (held (kept_in asks.now ask_count)))) }
@@ -67,13 +67,13 @@ pub fn k_checksum<'a>(
 }
 
 // The checksum of an M book, of whose levels the `most` best a side are summed.
-pub fn m_checksum<'a>(
+pub fn m_checksum(
     most: usize,
-    bids: &'a [u64; MAX_WORDS],
+    bids: &[u64; MAX_WORDS],
     bid_count: usize,
-    asks: &'a [u64; MAX_WORDS],
+    asks: &[u64; MAX_WORDS],
     ask_count: usize,
-    table: &'a [u32],
+    table: &[u32],
 ) -> u32
     requires { Good Bids (kept_in bids.now bid_count) × Good Asks (kept_in asks.now ask_count) × All (Carries m_piece) (held (kept_in bids.now bid_count)) × All (Carries m_piece) (held (kept_in asks.now ask_count)) × ShiftTable table.now }
     ensures { result ≡ crc (m_checksum_text most (map shown (held (kept_in bids.now bid_count))) (map shown (held (kept_in asks.now ask_count)))) }
@@ -90,12 +90,12 @@ pub fn m_checksum<'a>(
 }
 
 // The state after the pieces of the levels from one place to another.
-fn sum_levels<'a>(
+fn sum_levels(
     state: u32,
-    words: &'a [u64; MAX_WORDS],
+    words: &[u64; MAX_WORDS],
     from: usize,
     to: usize,
-    table: &'a [u32],
+    table: &[u32],
 ) -> u32
     requires { (from ≤ to) × (to ≤ max_levels) × (length words.now ≡ max_words) × ShiftTable table.now }
     ensures { result ≡ summed state (drop from (take to (levels_in words.now))) }
@@ -115,12 +115,12 @@ fn sum_levels<'a>(
 
 // The state after the pieces of the first n bids and asks in turn. The two of a turn are put together first, so that a
 // turn waits for one step of the turn before it and not for two.
-fn sum_pairs<'a>(
+fn sum_pairs(
     state: u32,
-    bids: &'a [u64; MAX_WORDS],
-    asks: &'a [u64; MAX_WORDS],
+    bids: &[u64; MAX_WORDS],
+    asks: &[u64; MAX_WORDS],
     n: usize,
-    table: &'a [u32],
+    table: &[u32],
 ) -> u32
     requires { (n ≤ max_levels) × (length bids.now ≡ max_words) × (length asks.now ≡ max_words) × ShiftTable table.now }
     ensures { result ≡ summed state (interleaved n (take n (levels_in bids.now)) (take n (levels_in asks.now))) }

@@ -5,7 +5,7 @@ use Rattle.text.specs.Text.{ascii, is_digit, joined}
 use Rattle.decimal.specs.Digits.{leading, value_from, fixed, significant_in, significant, written}
 use Rattle.decimal.specs.Decimal.{Number, is_whole, fractional, pointed, prefix, read, text, after_point, without_point, without_zeros, stripped, value}
 use Rattle.decimal.specs.Limits.{order_of, order}
-use Rattle.decimal.specs.declared.Order.TheVariants.{Equal}
+use Rattle.std.specs.declared.cmp.Ordering.TheVariants.{Equal}
 use Rattle.crc32_spec.specs.Crc.{bit, bits, step, run, crc}
 use Rattle.edit.specs.Edit.{PriceLevel}
 use Rattle.level.specs.Ranked.{All}

@@ -9,7 +9,7 @@
 //     checksum::k_checksum(10, &bids.words, bids.count, &asks.words, asks.count, table)  // of the ten best asks, then the ten best bids
 #![tactic(auto)]
 
-ghost use Rattle.std.specs.Prelude.{◌≡◌, map, ◌≤◌, min, length, take, drop};
+ghost use Rattle.std.specs.Prelude.{◌≡◌, map, ◌≤◌, length, take, drop};
 ghost use Rattle.decimal.specs.Decimal.{number};
 ghost use Rattle.decimal.specs.Limits.{Within};
 ghost use Rattle.crc32.specs.Table.{ShiftTable};
@@ -51,66 +51,57 @@ fn piece_of(text: SumText, price: Decimal, size: Decimal, table: &[u32]) -> Piec
 }
 
 // The checksum of a K book, of whose levels the `most` best a side are summed.
-pub fn k_checksum<'a>(
+pub fn k_checksum(
     most: usize,
-    bids: &'a [u64; MAX_WORDS],
+    bids: &[u64; MAX_WORDS],
     bid_count: usize,
-    asks: &'a [u64; MAX_WORDS],
+    asks: &[u64; MAX_WORDS],
     ask_count: usize,
-    table: &'a [u32],
+    table: &[u32],
 ) -> u32
     requires { Good Bids (kept_in bids.now bid_count) × Good Asks (kept_in asks.now ask_count) × All (Carries k_piece) (held (kept_in bids.now bid_count)) × All (Carries k_piece) (held (kept_in asks.now ask_count)) × ShiftTable table.now }
     ensures { result ≡ crc (k_checksum_text most (map shown (held (kept_in bids.now bid_count))) (map shown (held (kept_in asks.now ask_count)))) }
 {
-    let after_asks = sum_levels(crc32::START, asks, 0, at_most(ask_count, most), table);
-    sum_levels(after_asks, bids, 0, at_most(bid_count, most), table) ^ crc32::START
+    let after_asks = sum_levels(crc32::START, asks, 0, ask_count.min(most), table);
+    sum_levels(after_asks, bids, 0, bid_count.min(most), table) ^ crc32::START
 }
 
 // The checksum of an M book, of whose levels the `most` best a side are summed.
-pub fn m_checksum<'a>(
+pub fn m_checksum(
     most: usize,
-    bids: &'a [u64; MAX_WORDS],
+    bids: &[u64; MAX_WORDS],
     bid_count: usize,
-    asks: &'a [u64; MAX_WORDS],
+    asks: &[u64; MAX_WORDS],
     ask_count: usize,
-    table: &'a [u32],
+    table: &[u32],
 ) -> u32
     requires { Good Bids (kept_in bids.now bid_count) × Good Asks (kept_in asks.now ask_count) × All (Carries m_piece) (held (kept_in bids.now bid_count)) × All (Carries m_piece) (held (kept_in asks.now ask_count)) × ShiftTable table.now }
     ensures { result ≡ crc (m_checksum_text most (map shown (held (kept_in bids.now bid_count))) (map shown (held (kept_in asks.now ask_count)))) }
 {
-    let bid_end = at_most(bid_count, most);
-    let ask_end = at_most(ask_count, most);
-    if bid_end == 0 {
-        if ask_end == 0 {
-            return 0;
-        }
+    let bid_end = bid_count.min(most);
+    let ask_end = ask_count.min(most);
+    if bid_end == 0 && ask_end == 0 {
+        return 0;
     }
-    let both = at_most(bid_end, ask_end);
+    let both = bid_end.min(ask_end);
     let paired = sum_pairs(M_START, bids, asks, both, table);
     let after_bids = sum_levels(paired, bids, both, bid_end, table);
     sum_levels(after_bids, asks, both, ask_end, table) ^ crc32::START
 }
 
-fn at_most(n: usize, most: usize) -> usize
-    ensures { result ≡ min n most }
-{
-    if n < most { n } else { most }
-}
-
 // The state after the pieces of the levels from one place to another.
-fn sum_levels<'a>(
+fn sum_levels(
     state: u32,
-    words: &'a [u64; MAX_WORDS],
+    words: &[u64; MAX_WORDS],
     from: usize,
     to: usize,
-    table: &'a [u32],
+    table: &[u32],
 ) -> u32
     requires { (from ≤ to) × (to ≤ max_levels) × (length words.now ≡ max_words) × ShiftTable table.now }
     ensures { result ≡ summed state (drop from (take to (levels_in words.now))) }
 {
     let mut sum = state;
-    let mut i = from;
-    while i < to {
+    for i in from..to {
         let level = level::level_in(words, i);
         sum = crc32::combine_with(
             table,
@@ -118,33 +109,30 @@ fn sum_levels<'a>(
             level::sum_of(level),
             level::length_of(level) as usize,
         );
-        i += 1;
     }
     sum
 }
 
 // The state after the pieces of the first n bids and asks in turn. The two of a turn are put together first, so that a
 // turn waits for one step of the turn before it and not for two.
-fn sum_pairs<'a>(
+fn sum_pairs(
     state: u32,
-    bids: &'a [u64; MAX_WORDS],
-    asks: &'a [u64; MAX_WORDS],
+    bids: &[u64; MAX_WORDS],
+    asks: &[u64; MAX_WORDS],
     n: usize,
-    table: &'a [u32],
+    table: &[u32],
 ) -> u32
     requires { (n ≤ max_levels) × (length bids.now ≡ max_words) × (length asks.now ≡ max_words) × ShiftTable table.now }
     ensures { result ≡ summed state (interleaved n (take n (levels_in bids.now)) (take n (levels_in asks.now))) }
 {
     let mut sum = state;
-    let mut i = 0;
-    while i < n {
+    for i in 0..n {
         let bid = level::level_in(bids, i);
         let ask = level::level_in(asks, i);
         let bid_length = level::length_of(bid) as usize;
         let ask_length = level::length_of(ask) as usize;
         let pair = crc32::combine_with(table, level::sum_of(bid), level::sum_of(ask), ask_length);
         sum = crc32::combine_with(table, sum, pair, bid_length + ask_length);
-        i += 1;
     }
     sum
 }

@@ -16,9 +16,9 @@ returns c =
     let a = s.args in
     let bids = levels_in a.bids.now in
     let asks = levels_in a.asks.now in
-    let first = c.sum_levels-after_asks.ensures ∙ ap (λ (n : ℕ). summed start (take n asks)) c.at_most.ensures ∙ ap (summed start) (take_min a.ask_count a.most asks) in
+    let first = c.sum_levels-after_asks.ensures ∙ ap (λ (n : ℕ). summed start (take n asks)) c.min.ensures ∙ ap (summed start) (take_min a.ask_count a.most asks) in
     ap finish
     (c.sum_levels.ensures
-    ∙ ap₂ (λ (sum n : ℕ). summed sum (take n bids)) first c.at_most-2.ensures
+    ∙ ap₂ (λ (sum n : ℕ). summed sum (take n bids)) first c.min-2.ensures
     ∙ ap (summed (summed start (take a.most (take a.ask_count asks)))) (take_min a.bid_count a.most bids))
     ∙ k-summed a.most (take a.bid_count bids) (take a.ask_count asks) s.requires.2 s.requires.3

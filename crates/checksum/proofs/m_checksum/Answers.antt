@@ -9,14 +9,14 @@ use Rattle.level.specs.Kept.{held}
 use Rattle.checksum.specs.Carried.{summed}
 use Rattle.checksum.proofs.Pieces.{enough, m-none, m-all}
 use Rattle.checksum.proofs.m_checksum.Goals as goal
-use Rattle.checksum.proofs.m_checksum.Goals.{then-bid_end-eq0+else-ask_end-eq0, else-bid_end-eq0}
+use Rattle.checksum.proofs.m_checksum.Goals.{else-bid_end-eq0-via-then-bid_end-eq0+else-ask_end-eq0, else-bid_end-eq0-via-else-bid_end-eq0}
 
 pub returns-then-ask_end-eq0 : goal.returns-then-ask_end-eq0
 unfolding held
 returns-then-ask_end-eq0 c =
     let a = c.args in
-    m-none a.most a.bid_count a.ask_count c.at_most-bid_end.result c.at_most-ask_end.result (levels_in a.bids.now) (levels_in a.asks.now)
-    c.at_most-bid_end.ensures c.at_most-ask_end.ensures c.if-bid_end-eq0.true c.if-ask_end-eq0.true
+    m-none a.most a.bid_count a.ask_count c.min-bid_end.result c.min-ask_end.result (levels_in a.bids.now) (levels_in a.asks.now)
+    c.min-bid_end.ensures c.min-ask_end.ensures c.if-bid_end-eq0.true c.if-ask_end-eq0.true
 
 pub returns : goal.returns
 unfolding held
@@ -25,13 +25,13 @@ returns c =
     let a = s.args in
     let bids = levels_in a.bids.now in
     let asks = levels_in a.asks.now in
-    let b = c.at_most-bid_end in
-    let k = c.at_most-ask_end in
-    let both = c.at_most-both in
+    let b = c.min-bid_end in
+    let k = c.min-ask_end in
+    let both = c.min-both in
     ap finish
     (c.sum_levels.ensures
     ∙ ap (λ (sum : ℕ). summed sum (drop both.result (take k.result asks)))
     (c.sum_levels-after_bids.ensures ∙ ap (λ (sum : ℕ). summed sum (drop both.result (take b.result bids))) c.sum_pairs-paired.ensures))
     ∙ m-all a.most a.bid_count a.ask_count b.result k.result bids asks b.ensures k.ensures both.result
     (enough a.bid_count a.bids.now s.requires.0.few s.requires.0.room) (enough a.ask_count a.asks.now s.requires.1.few s.requires.1.room) both.ensures
-    (elim c.if-bid_end-eq0.branch [ then-bid_end-eq0+else-ask_end-eq0 w ↦ inr w.if-ask_end-eq0.false | else-bid_end-eq0 w ↦ inl w.if-bid_end-eq0.false ]) s.requires.2 s.requires.3
+    (elim c.else-bid_end-eq0.branch [ else-bid_end-eq0-via-then-bid_end-eq0+else-ask_end-eq0 w ↦ inr w.if-ask_end-eq0.false | else-bid_end-eq0-via-else-bid_end-eq0 w ↦ inl w.if-bid_end-eq0.false ]) s.requires.2 s.requires.3

@@ -1,4 +1,3 @@
-use Prim.Native.Nat.{◌-◌, ◌≤◌}
 use mathlib.Core.Path.{◌≡◌}
 use lib.ListN.{take, drop}
 use Rattle.level.specs.Words.{levels_in}
@@ -7,7 +6,4 @@ use Rattle.checksum.proofs.sum_levels.Given as goal
 
 abbrev pub invariant-loop-i : goal.invariant-loop-i
 invariant-loop-i l =
-    (summed l.sum (drop l.i (take l.to (levels_in l.words))) ≡ summed l.state (drop l.from (take l.to (levels_in l.words)))) × (l.i ≤ l.to)
-
-abbrev pub decreases-loop-i : goal.decreases-loop-i
-decreases-loop-i l = l.to - l.i
+    summed l.sum (drop l.i (take l.to (levels_in l.words))) ≡ summed l.state (drop l.from (take l.to (levels_in l.words)))

@@ -11,12 +11,11 @@ ghost use Rattle.line_text.specs.Opening.{by_letter, by_edition, dialect_of, lin
 ghost use Rattle.line_text.specs.Reply.{reply_text, counts_text};
 
 use answer::{Answer, number_of};
-use decimal::ParsedWhole;
 use lines::find;
 use settings::{Dialect, Edition};
 use writer::{lay, lay_number, lay_whole};
 
-const BLANK: u8 = 32;
+const BLANK: u8 = b' ';
 
 // The longest reply: three numbers of 20 digits, two blanks and a line end.
 pub const MAX_REPLY: usize = 63;
@@ -42,43 +41,16 @@ pub fn read_settings(line: &[u8]) -> FirstLine
 }
 
 // The dialect that a word names.
+#[tactic(auto, using(std::proofs::lemmas::Bool::Decides::nat_tests), unfolding(crate::specs::Opening::dialect_of, crate::specs::Opening::by_letter, crate::specs::Opening::by_edition))]
 fn dialect_of(word: &[u8]) -> Dialect
     ensures { result ≡ dialect_of word.now }
 {
-    if word.len() == 1 {
-        return by_letter(word[0]);
+    match word {
+        b"K" => Dialect::K,
+        b"M" | b"M1" => Dialect::M(Edition::M1),
+        b"M2" => Dialect::M(Edition::M2),
+        _ => Dialect::Unknown,
     }
-    if word.len() == 2 {
-        if word[0] == b'M' {
-            return by_edition(word[1]);
-        }
-        return Dialect::Unknown;
-    }
-    Dialect::Unknown
-}
-
-fn by_letter(c: u8) -> Dialect
-    ensures { result ≡ by_letter c }
-{
-    if c == b'K' {
-        return Dialect::K;
-    }
-    if c == b'M' {
-        return Dialect::M(Edition::M1);
-    }
-    Dialect::Unknown
-}
-
-fn by_edition(d: u8) -> Dialect
-    ensures { result ≡ by_edition d }
-{
-    if d == b'1' {
-        return Dialect::M(Edition::M1);
-    }
-    if d == b'2' {
-        return Dialect::M(Edition::M2);
-    }
-    Dialect::Unknown
 }
 
 // The depth and the name, from a position on.
@@ -91,12 +63,12 @@ fn read_depth(line: &[u8], at: usize, dialect: Dialect) -> FirstLine
         return no_settings(line);
     }
     match decimal::parse_whole(&line[at..end]) {
-        ParsedWhole::Number(depth) => FirstLine {
+        Some(depth) => FirstLine {
             dialect,
             depth: depth as usize,
             name: end + 1,
         },
-        ParsedWhole::Refused => no_settings(line),
+        None => no_settings(line),
     }
 }
 

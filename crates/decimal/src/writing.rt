@@ -126,17 +126,29 @@ impl Tail {
                     return Some(POINT);
                 }
                 self.decimals -= 1;
+                Some(self.pop_digit())
             }
-            Part::Units => self.part = Part::Higher,
+            Part::Units => {
+                self.part = Part::Higher;
+                Some(self.pop_digit())
+            }
             Part::Higher => {
                 if self.digits == 0 {
                     return None;
                 }
+                Some(self.pop_digit())
             }
         }
+    }
+
+    // Takes the last off the digits up to the ninth decimal.
+    fn pop_digit(&mut self) -> u8
+        ensures byte { result ≡ 48 + self.old.digits % 10 }
+        ensures others { self.new ≡ record { digits = self.old.digits / 10; decimals = self.old.decimals; past = self.old.past; part = self.old.part } }
+    {
         let byte = last_digit(self.digits);
         self.digits /= 10;
-        Some(byte)
+        byte
     }
 }
 

@@ -1,11 +1,9 @@
 -- `pop` meets its contract: each part of the text gives up its last byte.
-use Rattle.std.proofs.Common.{◌≡◌, ℕ, ◌/◌, ◌%◌, List, [], ◌∷◌, ◌++◌, sym, refl, ap, ◌∙◌, subst}
-use Rattle.decimal.specs.Digits.{digit}
+use Rattle.std.proofs.Common.{◌≡◌, ℕ, ◌/◌, [], ◌∷◌, ◌++◌, sym, refl, ap, ◌∙◌, ap₂}
 use Rattle.decimal.specs.Tail.{remaining}
 use Rattle.decimal.specs.declared.Tail.{Tail}
 use Rattle.decimal.proofs.Text.{tail-past, tail-point, tail-fraction, tail-units, tail_none, tail-higher}
 use Rattle.decimal.proofs.Tail.pop.Goals as goal
-use Rattle.decimal.proofs.Tail.pop.Goals.{in-Fraction+else-self-eq0, in-Units, in-Higher+else-self-eq0-2}
 
 pub returns-then-self-gt9 : goal.returns-then-self-gt9
 returns-then-self-gt9 c =
@@ -19,21 +17,21 @@ returns-then-self-eq0 c = tail-point c.args.self.now c.in-Fraction.is c.if-self-
 pub returns-then-self-eq0-2 : goal.returns-then-self-eq0-2
 returns-then-self-eq0-2 c = (tail_none c.args.self.now c.in-Higher.is c.if-self-gt9.false c.if-self-eq0-2.true, refl)
 
--- the last digit off a tail whose part or decimals changed before
-Popped : Tail → ℕ → Tail → Type 0
-Popped t b m = b ≡ digit (m.digits % 10) → remaining t ≡ remaining (record { digits = m.digits / 10; decimals = m.decimals; past = m.past; part = m.part }) ++ (b ∷ [])
+-- a digit taken off, which leaves the tail that stands before it
+off : (t : Tail) {u v : Tail} {b n : ℕ} → b ≡ n → u ≡ v → remaining t ≡ remaining v ++ (n ∷ []) → remaining t ≡ remaining u ++ (b ∷ [])
+off t e r h = h ∙ ap₂ (λ (x : Tail) (y : ℕ). remaining x ++ (y ∷ [])) (sym r) (sym e)
 
-with : (l : List ℕ) {whole : List ℕ} {b n : ℕ} → b ≡ n → whole ≡ l ++ (n ∷ []) → whole ≡ l ++ (b ∷ [])
-with l e h = h ∙ ap (λ (x : ℕ). l ++ (x ∷ [])) (sym e)
-
-pub returns : goal.returns
-unfolding Popped
-returns c =
+pub returns-else-self-eq0 : goal.returns-else-self-eq0
+returns-else-self-eq0 c =
     let t = c.args.self.now in
-    let near = c.if-self-gt9.false in
-    let byte = c.last_digit-byte.ensures in
-    elim c.match-self-div10.branch [
-      | in-Fraction+else-self-eq0 w ↦ subst (Popped t c.last_digit-byte.result) (sym w.self-is) (λ e. with _ e (tail-fraction t w.in-Fraction.is near w.if-self-eq0.false)) byte
-      | in-Units w ↦ subst (Popped t c.last_digit-byte.result) (sym w.self-is) (λ e. with _ e (tail-units t w.in-Units.is near)) byte
-      | in-Higher+else-self-eq0-2 w ↦ subst (Popped t c.last_digit-byte.result) (sym w.self-is) (λ e. with _ e (tail-higher t w.in-Higher.is near w.if-self-eq0-2.false)) byte
-    ]
+    off t c.pop_digit.ensures.byte c.pop_digit.ensures.others (tail-fraction t c.in-Fraction.is c.if-self-gt9.false c.if-self-eq0.false)
+
+pub returns-in-Units : goal.returns-in-Units
+returns-in-Units c =
+    let t = c.args.self.now in
+    off t c.pop_digit-in-Units.ensures.byte c.pop_digit-in-Units.ensures.others (tail-units t c.in-Units.is c.if-self-gt9.false)
+
+pub returns-else-self-eq0-2 : goal.returns-else-self-eq0-2
+returns-else-self-eq0-2 c =
+    let t = c.args.self.now in
+    off t c.pop_digit-in-Higher.ensures.byte c.pop_digit-in-Higher.ensures.others (tail-higher t c.in-Higher.is c.if-self-gt9.false c.if-self-eq0-2.false)

@@ -1,14 +1,12 @@
 -- Laws of the settings on line 1, case by case. Assumes nothing.
 use Rattle.std.specs.Prelude.{None, Some}
 use Prim.Native.Nat.{ℕ, suc, ◌+◌, ◌-◌, ◌≤◌, ◌<◌}
-use mathlib.Core.Path.{◌≡◌, refl, sym, ap, ap₂, ◌∙◌}
-use mathlib.Core.Bool.{cond}
-use mathlib.Core.List.{List, [], ◌∷◌}
+use mathlib.Core.Path.{◌≡◌, sym, ap, ap₂, ◌∙◌}
+use mathlib.Core.List.{List}
 use native.Mathlib.Nat.{le_refl}
 use native.Mathlib.Omega.{arith}
-use borrow.Author.Tests.{lt-ltb, le-ltb, eq-eqb, ne_eqb}
-use lib.Dec.{eqb}
-use lib.ListN.{length, get_or, take, drop, length-drop, drop_of_length-le}
+use borrow.Author.Tests.{lt-ltb, le-ltb}
+use lib.ListN.{length, take, drop, length-drop, drop_of_length-le}
 use lib.Seq.{take_all, drop-drop}
 use Rattle.lines.specs.Lines.{bytes_before}
 use Rattle.decimal.specs.Whole.{read_whole}
@@ -16,7 +14,7 @@ use Rattle.settings.specs.Settings.{Config, shut}
 use Rattle.settings.specs.declared.Dialect.{Dialect}
 use Rattle.settings.specs.declared.Dialect.TheVariants.{Unknown}
 use Rattle.line_text.specs.declared.FirstLine.{FirstLine}
-use Rattle.line_text.specs.Opening.{space, by_letter, by_edition, dialect_of, with_depth, depth_and_name, line_one, config_on, Found}
+use Rattle.line_text.specs.Opening.{space, dialect_of, with_depth, depth_and_name, line_one, config_on, Found}
 
 pub found_as : {line : List ℕ} {a b : Config} {r : FirstLine} → a ≡ b → Found line a r → Found line b r
 found_as e f = record { same = f.same ∙ e; within = f.within }
@@ -72,34 +70,6 @@ module _ (line : List ℕ) (e : ℕ) (is : e ≡ bytes_before space line) where
       let k : e + 1 ≡ suc (bytes_before space line) = omega arith in
       let w : dialect_of (take e line) ≡ dialect_of (take (bytes_before space line) line) = ap (λ (i : ℕ). dialect_of (take i line)) is in
       ap₂ (λ (d : Dialect) (i : ℕ). depth_and_name d (drop i line)) w k ∙ sym (rw (lt-ltb (bytes_before space line) (length line) (omega arith), line_one))
-
--- a word of one byte, of two, and any other
-pub one_byte : (w : List ℕ) → length w ≡ 1 → by_letter (get_or w 0 0) ≡ dialect_of w
-unfolding dialect_of
-one_byte [] h = absurd (omega (arith, h))
-one_byte (c ∷ []) h = refl
-one_byte (c ∷ (d ∷ w)) h = absurd (omega (arith, h))
-
-two_bytes : (w : List ℕ) → length w ≡ 2 → cond (eqb (get_or w 0 0) 77) (by_edition (get_or w 1 0)) Unknown ≡ dialect_of w
-unfolding dialect_of
-two_bytes [] h = absurd (omega (arith, h))
-two_bytes (c ∷ []) h = absurd (omega (arith, h))
-two_bytes (c ∷ (d ∷ [])) h = refl
-two_bytes (c ∷ (d ∷ (e ∷ w))) h = absurd (omega (arith, h))
-
-module _ (w : List ℕ) (two : length w ≡ 2) where
-  pub edition-word : get_or w 0 0 ≡ 77 → by_edition (get_or w 1 0) ≡ dialect_of w
-  edition-word h = rw (eq-eqb (get_or w 0 0) 77 h) at (two_bytes w two)
-
-  pub letter-other : (get_or w 0 0 ≡ 77 → ⊥) → Unknown ≡ dialect_of w
-  letter-other n = rw (ne_eqb (get_or w 0 0) 77 n) at (two_bytes w two)
-
-pub other_word : (w : List ℕ) → (length w ≡ 1 → ⊥) → (length w ≡ 2 → ⊥) → Unknown ≡ dialect_of w
-unfolding dialect_of
-other_word [] h k = refl
-other_word (c ∷ []) h k = absurd (h refl)
-other_word (c ∷ (d ∷ [])) h k = absurd (k refl)
-other_word (c ∷ (d ∷ (e ∷ w))) h k = refl
 
 -- what was found, with the name as a part of the line that goes on to its end
 pub found-config : (line : List ℕ) (t : Config) (r : FirstLine) → Found line t r

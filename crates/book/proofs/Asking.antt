@@ -33,7 +33,7 @@ use Rattle.decimal.specs.Buffer.{overlaid}
 use Rattle.reference.specs.Reference as r·
 use Rattle.reference.specs.Reference.{Status, shut as shut', waiting, live, is_shut, Reference, opened, stands, no_level, side_of, Question, how_many, level_at, which_number, how_many_updates, counts, level, amount, zeros, Response, respond, refusal, replied, question, does}
 use Rattle.book.specs.Shown.{shows, book_of, Good, Opened, AnswersCounts, AnswersLevel, AnswersAmount}
-use Rattle.book.specs.Asking.{level_in, WithoutLevel}
+use Rattle.book.specs.Asking.{told, level_in, WithoutLevel}
 use Rattle.reference.specs.declared.Scope.{Scope}
 use Rattle.reference.specs.declared.Scope.TheVariants.{Current, LastGood}
 use Rattle.lifecycle.specs.declared.State.{State}
@@ -168,6 +168,24 @@ module _ (b : Book) (scope : Scope) where
   pub updates-no : yes ≡ false → (a : Answer) → a ≡ refusal_of (status_of b.lifecycle.state) → AnswersAmount b (how_many_updates scope) (record { book = b; answer = a; value = 0 })
   unfolding respond shows
   updates-no = amount-no (how_many_updates scope) b.updates (λ x. refl) (λ x. refl)
+
+  pub number-told : AnswersAmount b (which_number scope) (told b scope b.number)
+  unfolding told
+  number-told = go yes refl
+    where
+      go : (t : Bool) → yes ≡ t
+          → AnswersAmount b (which_number scope) (cond t (record { book = b; answer = Taken; value = b.number }) (record { book = b; answer = refusal_of (status_of b.lifecycle.state); value = 0 }))
+      go true h = number-yes h
+      go false h = number-no h _ refl
+
+  pub updates-told : AnswersAmount b (how_many_updates scope) (told b scope b.updates)
+  unfolding told
+  updates-told = go yes refl
+    where
+      go : (t : Bool) → yes ≡ t
+          → AnswersAmount b (how_many_updates scope) (cond t (record { book = b; answer = Taken; value = b.updates }) (record { book = b; answer = refusal_of (status_of b.lifecycle.state); value = 0 }))
+      go true h = updates-yes h
+      go false h = updates-no h _ refl
 
 -- a header answers as every good book that has it
 pub counts-told : (h : Header) (scope : Scope) (r : Counts) → r ≡ counts_of h.lifecycle scope h.bids h.asks → (bids asks : List ℕ) → Good (book_of bids asks h)

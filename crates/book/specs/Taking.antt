@@ -7,6 +7,7 @@ use Rattle.settings.specs.Rules.{rules_of}
 use Rattle.settings.specs.declared.Dialect.{Dialect}
 use Rattle.edit.specs.Edit.{Numbers, for_side, side_of}
 use Rattle.edit.specs.Buffer.{entries_in}
+use Rattle.edit.specs.declared.Side.{Side}
 use Rattle.edit.specs.declared.Side.TheVariants.{Bids, Asks}
 use Rattle.level.specs.Words.{level_price, shown}
 use Rattle.level.specs.Side.{crosses}
@@ -133,6 +134,11 @@ weighed o d replaced over bids asks =
 abbrev pub weighed_sides : Outline → Dialect → SideAfter → SideAfter → Answer
 weighed_sides o d bids asks =
     weighed o d (bids.replaced || asks.replaced) (ltb (rules_of d).levels bids.count || ltb (rules_of d).levels asks.count) bids.levels asks.levels
+
+-- A message that has no entries for the other side than this one.
+abbrev pub ForSide : Side → Outline → Type 0
+ForSide Bids o = o.asks ≡ 0
+ForSide Asks o = o.bids ≡ 0
 
 -- A message that passes the checks of its text is tried: where it is taken, the words are those of the book after it; where it is refused, those of the
 -- book before it are to be put back. A side without entries keeps its words.

@@ -21,7 +21,7 @@ ghost use Rattle.lifecycle.specs.Lifecycle.{counts_of};
 ghost use Rattle.crc32.specs.Table.{ShiftTable};
 ghost use Rattle.reference.specs.Reference.{receive, which_number, how_many_updates};
 ghost use Rattle.book.specs.Shown.{shows, book_of, header_of, parts_of, Good, Opened, Received, ReceivedIn, AnswersCounts, AnswersLevel, AnswersAmount, Wrote};
-ghost use Rattle.book.specs.Asking.{level_in, WithoutLevel};
+ghost use Rattle.book.specs.Asking.{level_in, told, WithoutLevel};
 
 use answer::Answer;
 use decimal::{Decimal, Written};
@@ -261,15 +261,7 @@ impl Book {
         requires { Good self }
         ensures { AnswersAmount self (which_number scope) result }
     {
-        let lifecycle = self.lifecycle;
-        if stands(lifecycle, scope) {
-            return NumberReply {
-                book: self,
-                answer: Answer::Taken,
-                value: self.number,
-            };
-        }
-        no_value(self, refusal(lifecycle))
+        self.told(scope, self.number)
     }
 
     // How many updates were taken since the last snapshot.
@@ -277,12 +269,20 @@ impl Book {
         requires { Good self }
         ensures { AnswersAmount self (how_many_updates scope) result }
     {
+        self.told(scope, self.updates)
+    }
+
+    // What the book tells of a number of its own.
+    #[tactic(auto, unfolding(crate::specs::Asking::told))]
+    fn told(self, scope: Scope, value: u64) -> NumberReply
+        ensures { result ≡ told self scope value }
+    {
         let lifecycle = self.lifecycle;
         if stands(lifecycle, scope) {
             return NumberReply {
                 book: self,
                 answer: Answer::Taken,
-                value: self.updates,
+                value,
             };
         }
         no_value(self, refusal(lifecycle))

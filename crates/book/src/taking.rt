@@ -9,7 +9,7 @@ ghost use Rattle.settings.specs.Rules.{rules_of};
 ghost use Rattle.sides.specs.Worked.{Sound, side_after};
 ghost use Rattle.reference.specs.Reference.{checksum_of};
 ghost use Rattle.book.specs.Shown.{book_of, Good, ReceivedIn, ReceivedAs};
-ghost use Rattle.book.specs.Taking.{Passed, Ready, SidesAfter, Tried, after_in, judged_checksum, weighed_sides, taken_header, refused_as};
+ghost use Rattle.book.specs.Taking.{Passed, Ready, SidesAfter, Tried, ForSide, after_in, judged_checksum, weighed_sides, taken_header, refused_as};
 
 use crate::{Answered, Header};
 use answer::{Answer, is_taken};
@@ -20,7 +20,6 @@ use lifecycle::{count_before, is_over, judge, judge_sides, live, refused, update
 use settings::{Dialect, SumText, rules_of};
 use side::Applied;
 use sides::{apply_entries, is_crossed};
-use text::either;
 
 // The book after a message, in the words of its sides that are lent. A refusal gives the words back as they were.
 pub fn receive(
@@ -38,63 +37,44 @@ pub fn receive(
     let mut buffer = [0; BUFFER_WORDS];
     match judge(settings, lifecycle, header.number, s, &mut buffer) {
         Err(refusal) => refuse(header, refusal),
-        Ok(outline) => {
-            if outline.bids == 0 {
-                return take_asks(header, outline, bids, asks, &buffer, table);
-            }
-            if outline.asks == 0 {
-                return take_bids(header, outline, bids, asks, &buffer, table);
-            }
-            take_both(header, outline, bids, asks, &buffer, table)
+        Ok(outline) if outline.bids == 0 => {
+            take_side(Side::Asks, header, outline, bids, asks, &buffer, table)
+        }
+        Ok(outline) if outline.asks == 0 => {
+            take_side(Side::Bids, header, outline, bids, asks, &buffer, table)
+        }
+        Ok(outline) => take_both(header, outline, bids, asks, &buffer, table),
+    }
+}
+
+// A message that passes the checks of its text and has entries for one side alone: only the words of that side are kept for a refusal.
+fn take_side(
+    own: Side,
+    header: Header,
+    outline: Outline,
+    bids: &mut [u64; MAX_WORDS],
+    asks: &mut [u64; MAX_WORDS],
+    buffer: &[u64; BUFFER_WORDS],
+    table: &[u32],
+) -> Answered
+    requires { Ready (book_of bids.old asks.old header) outline buffer.now × ShiftTable table.now × ForSide own outline }
+    ensures { ReceivedAs (book_of bids.old asks.old header) (after_in (book_of bids.old asks.old header) outline buffer.now) bids.new asks.new result }
+{
+    let last = match own {
+        Side::Bids => *bids,
+        Side::Asks => *asks,
+    };
+    let answered = try_entries(header, outline, bids, asks, buffer, table);
+    if !is_taken(answered.answer) {
+        match own {
+            Side::Bids => *bids = last,
+            Side::Asks => *asks = last,
         }
     }
-}
-
-// A message that passes the checks of its text and has entries for the asks alone: only their words are kept for a refusal.
-fn take_asks(
-    header: Header,
-    outline: Outline,
-    bids: &mut [u64; MAX_WORDS],
-    asks: &mut [u64; MAX_WORDS],
-    buffer: &[u64; BUFFER_WORDS],
-    table: &[u32],
-) -> Answered
-    requires { Ready (book_of bids.old asks.old header) outline buffer.now × ShiftTable table.now × (outline.bids ≡ 0) }
-    ensures { ReceivedAs (book_of bids.old asks.old header) (after_in (book_of bids.old asks.old header) outline buffer.now) bids.new asks.new result }
-{
-    let last = *asks;
-    let answered = try_entries(header, outline, bids, asks, buffer, table);
-    let answer = answered.answer;
-    if is_taken(answer) {
-        return answered;
-    }
-    *asks = last;
     answered
 }
 
-// The same for the bids alone.
-fn take_bids(
-    header: Header,
-    outline: Outline,
-    bids: &mut [u64; MAX_WORDS],
-    asks: &mut [u64; MAX_WORDS],
-    buffer: &[u64; BUFFER_WORDS],
-    table: &[u32],
-) -> Answered
-    requires { Ready (book_of bids.old asks.old header) outline buffer.now × ShiftTable table.now × (outline.asks ≡ 0) }
-    ensures { ReceivedAs (book_of bids.old asks.old header) (after_in (book_of bids.old asks.old header) outline buffer.now) bids.new asks.new result }
-{
-    let last = *bids;
-    let answered = try_entries(header, outline, bids, asks, buffer, table);
-    let answer = answered.answer;
-    if is_taken(answer) {
-        return answered;
-    }
-    *bids = last;
-    answered
-}
-
-// The same for both.
+// The same with entries for both.
 fn take_both(
     header: Header,
     outline: Outline,
@@ -109,12 +89,10 @@ fn take_both(
     let last_bids = *bids;
     let last_asks = *asks;
     let answered = try_entries(header, outline, bids, asks, buffer, table);
-    let answer = answered.answer;
-    if is_taken(answer) {
-        return answered;
+    if !is_taken(answered.answer) {
+        *bids = last_bids;
+        *asks = last_asks;
     }
-    *bids = last_bids;
-    *asks = last_asks;
     answered
 }
 
@@ -236,22 +214,22 @@ fn refuse(header: Header, answer: Answer) -> Answered
 
 // Checks 9, 12, 16 and 13, by what the entries made of the sides: whether some price was met twice, whether levels are over the limit,
 // and which levels are left.
-fn weigh<'a>(
+fn weigh(
     outline: Outline,
     dialect: Dialect,
     bid_side: Applied,
     ask_side: Applied,
-    bids: &'a [u64; MAX_WORDS],
-    asks: &'a [u64; MAX_WORDS],
-    table: &'a [u32],
+    bids: &[u64; MAX_WORDS],
+    asks: &[u64; MAX_WORDS],
+    table: &[u32],
 ) -> Answer
     requires { Sound (rules_of dialect).text Bids (kept_in bids.now bid_side.left) × Sound (rules_of dialect).text Asks (kept_in asks.now ask_side.left) × ShiftTable table.now }
     ensures { result ≡ weighed_sides outline dialect (side_after bids.now bid_side) (side_after asks.now ask_side) }
 {
     let kind = outline.kind;
     let rules = rules_of(dialect);
-    let replaced = either(bid_side.replaced, ask_side.replaced);
-    let over = either(rules.levels < bid_side.count, rules.levels < ask_side.count);
+    let replaced = bid_side.replaced | ask_side.replaced;
+    let over = (rules.levels < bid_side.count) | (rules.levels < ask_side.count);
     let crossed = is_crossed(bids, bid_side.left, asks, ask_side.left);
     let answer = judge_sides(kind, replaced, is_over(rules.cut, over), crossed);
     if is_taken(answer) {
@@ -269,33 +247,33 @@ fn weigh<'a>(
 }
 
 // Check 13.
-fn judge_checksum<'a>(
+fn judge_checksum(
     outline: Outline,
     dialect: Dialect,
-    bids: &'a [u64; MAX_WORDS],
+    bids: &[u64; MAX_WORDS],
     bid_count: usize,
-    asks: &'a [u64; MAX_WORDS],
+    asks: &[u64; MAX_WORDS],
     ask_count: usize,
-    table: &'a [u32],
+    table: &[u32],
 ) -> Answer
     requires { Sound (rules_of dialect).text Bids (kept_in bids.now bid_count) × Sound (rules_of dialect).text Asks (kept_in asks.now ask_count) × ShiftTable table.now }
     ensures { result ≡ judged_checksum outline dialect (kept_in bids.now bid_count) (kept_in asks.now ask_count) }
 {
-    if outline.printed {
-        if outline.checksum != checksum_of(dialect, bids, bid_count, asks, ask_count, table) {
-            return Answer::WrongChecksum;
-        }
+    if outline.printed
+        && outline.checksum != checksum_of(dialect, bids, bid_count, asks, ask_count, table)
+    {
+        return Answer::WrongChecksum;
     }
     Answer::Taken
 }
 
-fn checksum_of<'a>(
+fn checksum_of(
     dialect: Dialect,
-    bids: &'a [u64; MAX_WORDS],
+    bids: &[u64; MAX_WORDS],
     bid_count: usize,
-    asks: &'a [u64; MAX_WORDS],
+    asks: &[u64; MAX_WORDS],
     ask_count: usize,
-    table: &'a [u32],
+    table: &[u32],
 ) -> u32
     requires { Sound (rules_of dialect).text Bids (kept_in bids.now bid_count) × Sound (rules_of dialect).text Asks (kept_in asks.now ask_count) × ShiftTable table.now }
     ensures { result ≡ checksum_of (rules_of dialect) (record { bids = map shown (held (kept_in bids.now bid_count)); asks = map shown (held (kept_in asks.now ask_count)) }) }

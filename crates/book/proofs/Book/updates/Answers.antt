@@ -1,15 +1,8 @@
--- `updates` meets its contract: by whether the question is answered.
-use Rattle.book.proofs.Asking.{updates-yes, updates-no}
-use mathlib.Core.Path.{sym, subst, ◌∙◌}
+-- `updates` meets its contract: what is told of that number.
+use mathlib.Core.Path.{sym, subst}
 use Rattle.book.specs.Shown.{AnswersAmount}
+use Rattle.book.proofs.Asking.{updates-told}
 use Rattle.book.proofs.Book.updates.Goals as goal
 
-pub returns-then-stands : goal.returns-then-stands
-returns-then-stands c =
-    let a = c.args in
-    updates-yes a.self a.scope (sym c.stands.ensures ∙ c.if-stands.true)
-
 pub returns : goal.returns
-returns c =
-    let a = c.args in
-    subst (AnswersAmount a.self _) (sym c.no_value.ensures) (updates-no a.self a.scope (sym c.stands.ensures ∙ c.if-stands.false) c.refusal.result c.refusal.ensures)
+returns c = let a = c.args in subst (AnswersAmount a.self _) (sym c.told.ensures) (updates-told a.self a.scope)

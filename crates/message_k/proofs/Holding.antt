@@ -83,24 +83,24 @@ module _ {s : List ℕ} {t : Members} {i k j : ℕ} {before after : List ℕ} {r
   abbrev here : Pair
   here = record { name = record { from = i; to = k }; value = record { from = j; to = r.end } }
 
-  module _ {all : Option (List Entry)} (g : Holding s t.tally i before all) (stands : Stands (member (value 14 s) s) s i here r.end) (l : ℕ) where
+  module _ {all : Option (List Entry)} (g : Holding s t.tally i before all) where
     next : Tells s (with_held s g.x here) r.tally × Kept s (with_held s g.x here) after
     next = h.added.kept r.end v g.x g.tells g.kept
 
   -- a comma follows
   pub holding-on : {all : Option (List Entry)} → Holding s t.tally i before all → Stands (member (value 14 s) s) s i here r.end
-      → (l : ℕ) → l ≡ end_of (separator 44 s r.end) → (l ≡ 0 → ⊥) → Holding s r.tally l after all
-  holding-on g stands l c n =
-      let q = next g stands l in
-      record { x = with_held s g.x here; left = fold_on (over_held s) g.x g.left stands l c n refl; tells = q.0; kept = q.1 }
+      → (l : ℕ) → separator 44 s r.end ≡ Some l → Holding s r.tally l after all
+  holding-on g stands l c =
+      let q = next g in
+      record { x = with_held s g.x here; left = fold_on (over_held s) g.x g.left stands l c refl; tells = q.0; kept = q.1 }
 
   -- the object ends
   pub holding-last : {all : Option (List Entry)} → Holding s t.tally i before all → Stands (member (value 14 s) s) s i here r.end
-      → (l : ℕ) → l ≡ end_of (separator 44 s r.end) → l ≡ 0 → (u : ℕ) → u ≡ end_of (closing 125 s r.end) → (u ≡ 0 → ⊥)
+      → separator 44 s r.end ≡ None → (u : ℕ) → closing 125 s r.end ≡ Some u
       → Tells s all r.tally × Kept s all after
-  holding-last {all} g stands l c z u y n =
-      let q = next g stands l in
-      let e : with_held s g.x here ≡ all = fold-last (over_held s) g.x g.left stands l c z u y n refl in
+  holding-last {all} g stands z u y =
+      let q = next g in
+      let e : with_held s g.x here ≡ all = fold-last (over_held s) g.x g.left stands z u y refl in
       (subst (λ (x : Option (List Entry)). Tells s x r.tally) e q.0, subst (λ (x : Option (List Entry)). Kept s x after) e q.1)
 
 -- ---- what was read of the value at `at`

@@ -1,6 +1,6 @@
 -- Check 6 by what is told of the objects is check 6 of the objects.
 -- Assumes nothing.
-use Rattle.std.specs.Prelude.{None, Option, Some}
+use Rattle.std.specs.Prelude.{None, Option, Some, is_some, unwrap_or}
 use mathlib.Core.Path.{◌≡◌, refl, sym, ap, ◌∙◌, subst}
 use mathlib.Core.List.{List, [], ◌∷◌, ◌++◌, append-nil}
 use mathlib.Core.Bool.{Bool, true, false, true≢false, ◌&&◌, ◌||◌, cond, and-eq-true_iff}
@@ -25,7 +25,7 @@ use Rattle.layout.specs.Scan.{is_printed, sum_of, no_outline, outline_of, outlin
 use Rattle.layout.specs.MemberSpans.{few}
 use Rattle.layout.proofs.Laws.{outline-of, laid-entries}
 use Rattle.message_k.specs.LayoutK.{times, together, is_snapshot, each_has_one, last_of, is_update, entries_k, objects_layout}
-use Rattle.message_k.specs.MembersK.{is_read, or_zero, is_bids, is_asks, with_held, held_in, more_summed, no_members, has_more, snapshot_by, update_by, outline_by}
+use Rattle.message_k.specs.MembersK.{is_bids, is_asks, with_held, held_in, more_summed, no_members, has_more, snapshot_by, update_by, outline_by}
 use Rattle.message_k.specs.declared.Members.{Members}
 use Rattle.message_k.proofs.Counts.{few-zero, few-one, few-most, few-some, few-rises, some_or, none-and, once_last, and-on}
 use Rattle.message_k.proofs.Tells.{sums_of, Tells, values-append, snapshot-asks-count, snapshot-bids-count, asks-count, bids-count, checksum-count}
@@ -158,9 +158,9 @@ module _ (s : List ℕ) (objects : List (List Pair)) where
 
     -- the one `c`
     sum_laid : is_update s objects ≡ true → (x : Option ℕ)
-        → cond (is_read x) (outline_from Update t.tally true (or_zero x) 0) no_outline
+        → cond (is_some x) (outline_from Update t.tally true (unwrap_or x 0) 0) no_outline
         ≡ outline_of s (and_then x (λ sum. laid Update (printed sum) 0 (entries_k s (ascii "b") (ascii "a") objects)))
-    unfolding is_read or_zero and_then is_printed sum_of outline_of
+    unfolding and_then is_printed sum_of outline_of
     sum_laid g (Some n) =
         outline-of s Update (printed n) 0 (entries_k s (ascii "b") (ascii "a") objects) t.tally
         (subst (λ (x : Option (List Entry)). tallies·.Tells s x t.tally) (update-entries g) h.entries)

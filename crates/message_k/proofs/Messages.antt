@@ -1,6 +1,6 @@
 -- What is told of the elements is what the message is.
 -- Assumes nothing.
-use Rattle.std.specs.Prelude.{None, Option, Some, ℕ}
+use Rattle.std.specs.Prelude.{None, Option, Some, is_some, ℕ}
 use mathlib.Core.Path.{◌≡◌, refl, sym, ap, ◌∙◌, subst}
 use mathlib.Core.List.{List, [], ◌∷◌, ◌++◌, append-nil}
 use mathlib.Core.Bool.{true, false, true≢false, cond}
@@ -25,7 +25,7 @@ use Rattle.layout.specs.Scan.{outline_of, not_framed, scan_of, scan_at}
 use Rattle.json_values.specs.Fold.{fold_from, folded_in}
 use Rattle.layout.specs.declared.Scan.{Scan}
 use Rattle.message_k.specs.LayoutK.{together, Frame, frame_of, ours_k, objects_layout, layout_k, envelope_k}
-use Rattle.message_k.specs.MembersK.{is_read, with_held, held_in, with_member, no_members, closed_at, members_of}
+use Rattle.message_k.specs.MembersK.{with_held, held_in, with_member, no_members, closed_at, members_of}
 use Rattle.message_k.specs.PartsK.{up_to_six, PartsRead, no_parts, with_outer, with_part, ended_at, parts_in, ours_by, framed_as, one_object, two_objects}
 use Rattle.message_k.specs.declared.Parts.{Parts}
 use Rattle.message_k.proofs.Tells.{Tells, tells_none, tells-on}
@@ -38,8 +38,8 @@ module _ (s : List ℕ) where
   told_of e ms = tells-on s (no_members 0) [] ms e (tells_none s 0)
 
   one-laid : (w : Option ℕ) (e : ℕ) (x : Option (List Pair))
-      → one_object (is_read w) (members_of s (no_members 0) e x) ≡ outline_of s (and_then w (λ n. and_then (and_then x (λ b. Some (b ∷ []))) (objects_layout s)))
-  unfolding and_then is_read members_of outline_of
+      → one_object (is_some w) (members_of s (no_members 0) e x) ≡ outline_of s (and_then w (λ n. and_then (and_then x (λ b. Some (b ∷ []))) (objects_layout s)))
+  unfolding and_then members_of outline_of
   one-laid None e x = sym (one-no-whole false (members_of s (no_members 0) e x) refl)
   one-laid (Some n) e None = sym (one-no-object true (no_members e) refl refl)
   one-laid (Some n) e (Some ms) =
@@ -49,9 +49,9 @@ module _ (s : List ℕ) where
       ∙ objects-laid s (ms ∷ []) t (tells-alone s ms t h) _ _ (one-snapshot s ms t h) (one-update s ms t h)
 
   two-laid : (w : Option ℕ) (e k : ℕ) (x y : Option (List Pair))
-      → two_objects (is_read w) (members_of s (no_members 0) e x) (members_of s (members_of s (no_members 0) e x) k y)
+      → two_objects (is_some w) (members_of s (no_members 0) e x) (members_of s (members_of s (no_members 0) e x) k y)
       ≡ outline_of s (and_then w (λ n. and_then (and_then x (λ b. and_then (and_then y (λ c. Some (c ∷ []))) (λ bs. Some (b ∷ bs)))) (objects_layout s)))
-  unfolding and_then is_read members_of outline_of
+  unfolding and_then members_of outline_of
   two-laid None e k x y = sym (two-not false (members_of s (no_members 0) e x) (members_of s (members_of s (no_members 0) e x) k y) refl)
   two-laid (Some n) e k None y = sym (two-not true (no_members e) (members_of s (no_members e) k y) refl)
   two-laid (Some n) e k (Some ms) None = sym (two-not true (closed_at e (fold_from (with_member s) (no_members 0) ms)) (no_members k) refl)

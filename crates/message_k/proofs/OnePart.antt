@@ -1,6 +1,6 @@
 -- One more element, by its place.
 -- Assumes nothing.
-use Rattle.std.specs.Prelude.{Some}
+use Rattle.std.specs.Prelude.{Some, is_some}
 use mathlib.Core.Path.{◌≡◌, sym, ap, ◌∙◌}
 use mathlib.Core.List.{List}
 use mathlib.Core.Bool.{Bool, true, false, cond}
@@ -11,7 +11,7 @@ use Rattle.json_tokens.specs.Ends.{end_of}
 use Rattle.json_tokens.proofs.Laws.{end-at}
 use Rattle.json_values.specs.Json.{value}
 use Rattle.entries.specs.Places.{object_at, whole_at}
-use Rattle.message_k.specs.MembersK.{is_read, no_members, members_of, members_at}
+use Rattle.message_k.specs.MembersK.{no_members, members_of, members_at}
 use Rattle.message_k.specs.PartsK.{up_to_six, with_outer, with_part}
 use Rattle.message_k.specs.declared.Members.{Members}
 use Rattle.message_k.specs.declared.Outer.{Outer}
@@ -20,7 +20,7 @@ use Rattle.message_k.proofs.Objects.{object-is, object-end}
 
 -- ---- what is told but for the objects
 module _ (s : List ℕ) (t : Outer) (from to : ℕ) {n : ℕ} (h : n ≡ up_to_six t.count) where
-  pub outer-first : t.count ≡ 0 → (b : Bool) → b ≡ is_read (whole_at s (record { from = from; to = to }))
+  pub outer-first : t.count ≡ 0 → (b : Bool) → b ≡ is_some (whole_at s (record { from = from; to = to }))
       → record { count = n; channel_from = t.pair_from; channel_to = t.pair_to; pair_from = from; pair_to = to; whole = b }
       ≡ with_outer s t (record { from = from; to = to })
   unfolding with_outer

@@ -1,5 +1,5 @@
 -- What is told of the objects of a message of dialect K, in numbers. Assumes nothing: these are definitions.
-use Rattle.std.specs.Prelude.{ℕ, ◌≤◌, ◌≡◌, Bool, true, false, ◌&&◌, ◌||◌, cond, List, leb, ltb, eqb, length, None, Option, Some}
+use Rattle.std.specs.Prelude.{ℕ, ◌≤◌, ◌≡◌, Bool, true, false, ◌&&◌, ◌||◌, cond, List, leb, ltb, eqb, length, None, Option, Some, is_some, unwrap_or}
 use Rattle.text.specs.Text.{ascii, byte_at}
 use Rattle.edit.specs.Buffer.{buffer_words}
 use Rattle.edit.specs.declared.Side.{Side}
@@ -21,14 +21,6 @@ use Rattle.layout.specs.MemberSpans.{few_more, no_member_span, with_member_span}
 use Rattle.layout.specs.declared.Outline.{Outline}
 use Rattle.message_k.specs.declared.Sum.{Sum}
 use Rattle.message_k.specs.declared.Members.{Members}
-
-unfoldable pub is_read : {A : Type 0} → Option A → Bool
-is_read (Some a) = true
-is_read None = false
-
-unfoldable pub or_zero : Option ℕ → ℕ
-or_zero (Some n) = n
-or_zero None = 0
 
 -- ---- one more member
 
@@ -61,7 +53,7 @@ abbrev pub no_sum : Sum
 no_sum = record { mark = no_member_span; well_formed = false; sum = 0 }
 
 unfoldable pub more_summed : List ℕ → Sum → Span → Sum
-more_summed s t a = record { mark = with_member_span t.mark a; well_formed = is_read (quoted_checksum_at s a); sum = or_zero (quoted_checksum_at s a) }
+more_summed s t a = record { mark = with_member_span t.mark a; well_formed = is_some (quoted_checksum_at s a); sum = unwrap_or (quoted_checksum_at s a) 0 }
 
 unfoldable pub sum_with : List ℕ → Sum → Pair → Sum
 sum_with s t m = cond (means s m.name (ascii "c")) (more_summed s t m.value) t

@@ -1,5 +1,5 @@
 -- What is told of the elements of a message of dialect K. Assumes nothing: these are definitions.
-use Rattle.std.specs.Prelude.{ℕ, ◌+◌, Bool, true, false, ◌&&◌, cond, ◌≡◌, List, [], ◌∷◌, ◌++◌, leb, eqb, length, Some}
+use Rattle.std.specs.Prelude.{ℕ, ◌+◌, Bool, true, false, ◌&&◌, cond, ◌≡◌, List, [], ◌∷◌, ◌++◌, leb, eqb, length, Some, is_some}
 use Rattle.text.specs.Text.{ascii, byte_at}
 use Rattle.decimal.specs.Digits.{written}
 use Rattle.edit.specs.Buffer.{buffer_words}
@@ -13,7 +13,7 @@ use Rattle.layout.specs.Scan.{no_outline}
 use Rattle.json_values.specs.Fold.{folded_in}
 use Rattle.layout.specs.declared.Outline.{Outline}
 use Rattle.layout.specs.declared.Scan.{Scan}
-use Rattle.message_k.specs.MembersK.{is_read, no_members, members_of, held_in, has_more, snapshot_by, update_by, outline_by}
+use Rattle.message_k.specs.MembersK.{no_members, members_of, held_in, has_more, snapshot_by, update_by, outline_by}
 use Rattle.message_k.specs.declared.Members.{Members}
 use Rattle.message_k.specs.declared.Outer.{Outer}
 use Rattle.message_k.specs.declared.Parts.{Parts}
@@ -34,7 +34,7 @@ with_outer s t a =
       channel_to = t.pair_to;
       pair_from = a.from;
       pair_to = a.to;
-      whole = cond (eqb t.count 0) (is_read (whole_at s a)) t.whole;
+      whole = cond (eqb t.count 0) (is_some (whole_at s a)) t.whole;
     }
 
 -- An array of no elements that ends at e.

@@ -7,21 +7,21 @@
 //     if told.end == 0 { .. }
 #![tactic(auto)]
 
-ghost use Rattle.std.specs.Prelude.{◌≡◌, ◌++◌, ◌≤◌, ◌<◌, length, Some};
+ghost use Rattle.std.specs.Prelude.{◌≡◌, ◌++◌, ◌≤◌, ◌<◌, length, Some, is_some};
 ghost use Rattle.text.specs.Text.{ascii};
 ghost use Rattle.decimal.specs.Digits.{written};
 ghost use Rattle.json_values.specs.Json.{elements, value};
 ghost use Rattle.json_values.specs.Names.{means};
-ghost use Rattle.entries.specs.Places.{whole_at};
+ghost use Rattle.entries.specs.Places.{quoted_checksum_at, whole_at};
 ghost use Rattle.layout.specs.Depths.{item_depth, side_depth};
 ghost use Rattle.edit.specs.Buffer.{buffer_words};
 ghost use Rattle.entries.specs.Tally.{met};
 ghost use Rattle.layout.specs.Scan.{Scanned};
 ghost use Rattle.message_k.specs.LayoutK.{envelope_k};
-ghost use Rattle.message_k.specs.MembersK.{is_read, more_summed, MemberRead, EntriesRead, SumRead, no_members, closed_at, ObjectRead, has_more, snapshot_by, update_by, outline_by};
+ghost use Rattle.message_k.specs.MembersK.{more_summed, MemberRead, EntriesRead, SumRead, no_members, closed_at, ObjectRead, has_more, snapshot_by, update_by, outline_by};
 ghost use Rattle.message_k.specs.PartsK.{up_to_six, no_outer, with_outer, no_parts, PartsRead, framed_as, one_object, two_objects};
 
-use decimal::{ParsedChecksum, ParsedWhole, parse_checksum, parse_whole};
+use decimal::{parse_checksum, parse_whole};
 use edit::{BUFFER_WORDS, Side};
 use entries::{Form, Tally, entries_at, none_yet};
 use json_tokens::{
@@ -33,7 +33,7 @@ use layout::{
     ITEM_DEPTH, Kind, MemberSpan, Outline, SIDE_DEPTH, Scan, few_more, no_member_span, no_outline,
     not_framed, outline_of, with_member_span,
 };
-use text::{both, byte_at};
+use text::byte_at;
 
 // The member `c`.
 #[derive(Clone, Copy)]
@@ -98,7 +98,7 @@ pub fn k_message(
     ensures { Scanned (envelope_k depth name.now) s.now at buffer.new result }
 {
     if byte_at(s, at) != OPEN_ARRAY {
-        return not_framed(value_end(s, at, MAX_DEPTH));
+        return not_framed(value_end(s, at, MAX_DEPTH).unwrap_or(0));
     }
     let parts = k_parts(s, at + 1, buffer);
     let outer = parts.outer;
@@ -122,9 +122,8 @@ fn k_parts(s: &[u8], at: usize, buffer: &mut [u64; BUFFER_WORDS]) -> Parts
     requires { length buffer.old ≡ buffer_words }
     ensures { PartsRead s.now (elements (value item_depth s.now) s.now at) buffer.new result }
 {
-    let none = array_close_end(s, at);
-    if 0 < none {
-        return no_parts(none);
+    if let Some(end) = array_close_end(s, at) {
+        return no_parts(end);
     }
     let mut i = skip_blanks(s, at);
     let mut parts = no_parts(0);
@@ -137,50 +136,45 @@ fn k_parts(s: &[u8], at: usize, buffer: &mut [u64; BUFFER_WORDS]) -> Parts
             parts.two = k_object(s, parts.one, i, buffer);
             parts.two.end
         } else {
-            item_end(s, i, ITEM_DEPTH)
+            item_end(s, i, ITEM_DEPTH).unwrap_or(0)
         };
         if past == 0 {
             return no_parts(0);
         }
         parts.outer = pass(s, outer, i, past);
-        let j = comma_end(s, past);
-        if j == 0 {
-            parts.end = array_close_end(s, past);
-            if parts.end == 0 {
+        let Some(next) = comma_end(s, past) else {
+            let Some(end) = array_close_end(s, past) else {
                 return no_parts(0);
-            }
+            };
+            parts.end = end;
             return parts;
-        }
-        i = j;
+        };
+        i = next;
     }
 }
 
 // One more element, from `from` to `to`.
+#[tactic(auto, unfolding(crate::specs::PartsK::with_outer), using(std::proofs::lemmas::Bool::Decides::nat_tests))]
 fn pass(s: &[u8], outer: Outer, from: usize, to: usize) -> Outer
     requires { value item_depth s.now from ≡ Some to }
     ensures { result ≡ with_outer s.now outer (record { from = from; to = to }) }
 {
-    let count = up_to_six(outer.count);
-    if outer.count == 0 {
-        return Outer {
-            count,
-            channel_from: outer.pair_from,
-            channel_to: outer.pair_to,
-            pair_from: from,
-            pair_to: to,
-            whole: is_whole(s, from, to),
-        };
-    }
+    let whole = if outer.count == 0 {
+        is_whole(s, from, to)
+    } else {
+        outer.whole
+    };
     Outer {
-        count,
+        count: up_to_six(outer.count),
         channel_from: outer.pair_from,
         channel_to: outer.pair_to,
         pair_from: from,
         pair_to: to,
-        whole: outer.whole,
+        whole,
     }
 }
 
+#[tactic(auto, unfolding(crate::specs::PartsK::up_to_six), using(std::proofs::lemmas::Bool::Decides::nat_tests))]
 fn up_to_six(n: usize) -> usize
     ensures { result ≡ up_to_six n }
 {
@@ -215,12 +209,9 @@ fn no_parts(end: usize) -> Parts
 // Whether the value from `from` to `to` is a whole number.
 fn is_whole(s: &[u8], from: usize, to: usize) -> bool
     requires { value item_depth s.now from ≡ Some to }
-    ensures { result ≡ is_read (whole_at s.now (record { from = from; to = to })) }
+    ensures { result ≡ is_some (whole_at s.now (record { from = from; to = to })) }
 {
-    match parse_whole(&s[from..to]) {
-        ParsedWhole::Number(_) => true,
-        ParsedWhole::Refused => false,
-    }
+    parse_whole(&s[from..to]).is_some()
 }
 
 // The value at `at` as an object, with `before` told of the objects before it.
@@ -229,38 +220,33 @@ fn k_object(s: &[u8], before: Members, at: usize, buffer: &mut [u64; BUFFER_WORD
     ensures { ObjectRead s.now before at buffer.old buffer.new result }
 {
     if byte_at(s, at) != OPEN_OBJECT {
-        return no_members(value_end(s, at, ITEM_DEPTH));
+        return no_members(value_end(s, at, ITEM_DEPTH).unwrap_or(0));
     }
-    let none = object_close_end(s, at + 1);
-    if none != 0 {
-        return closed(before, none);
+    if let Some(end) = object_close_end(s, at + 1) {
+        return closed(before, end);
     }
     let mut i = skip_blanks(s, at + 1);
     let mut members = before;
     loop {
-        let name_to = string_end(s, i);
-        if name_to == 0 {
+        let Some(name_to) = string_end(s, i) else {
             return no_members(0);
-        }
-        let from = colon_end(s, name_to);
-        if from == 0 {
+        };
+        let Some(from) = colon_end(s, name_to) else {
             return no_members(0);
-        }
+        };
         let more = k_member(s, members, i, name_to, from, buffer);
         let to = more.end;
         if to == 0 {
             return no_members(0);
         }
-        let j = comma_end(s, to);
-        if j == 0 {
-            let end = object_close_end(s, to);
-            if end == 0 {
+        let Some(next) = comma_end(s, to) else {
+            let Some(end) = object_close_end(s, to) else {
                 return no_members(0);
-            }
+            };
             return closed(more, end);
-        }
+        };
         members = by_fields(more);
-        i = j;
+        i = next;
     }
 }
 
@@ -298,7 +284,7 @@ fn k_member(
         next.snapshot_bids = few_more(next.snapshot_bids);
         return with_entries(s, next, from, Side::Bids, buffer);
     }
-    next.end = value_end(s, from, SIDE_DEPTH);
+    next.end = value_end(s, from, SIDE_DEPTH).unwrap_or(0);
     next
 }
 
@@ -341,43 +327,38 @@ fn with_checksum(s: &[u8], members: Members, from: usize) -> Members
     ensures { SumRead s.now members from result }
 {
     let mut next = members;
-    let end = item_end(s, from, SIDE_DEPTH);
-    next.end = end;
-    if end == 0 {
+    let Some(end) = item_end(s, from, SIDE_DEPTH) else {
+        next.end = 0;
         return next;
-    }
+    };
+    next.end = end;
     next.checksum = summed(s, next.checksum, from, end);
     next
 }
 
 // One more member `c`, whose value lies from `from` to `to`.
+#[tactic(auto, unfolding(crate::specs::MembersK::more_summed))]
 fn summed(s: &[u8], sum: Sum, from: usize, to: usize) -> Sum
     requires { value side_depth s.now from ≡ Some to }
     ensures { result ≡ more_summed s.now sum (record { from = from; to = to }) }
 {
-    let before = sum.mark;
-    let mark = with_member_span(before, from, to);
+    let read = quoted_checksum(s, from, to);
+    Sum {
+        mark: with_member_span(sum.mark, from, to),
+        well_formed: read.is_some(),
+        sum: read.unwrap_or(0),
+    }
+}
+
+// The checksum that the value from `from` to `to` holds, if it is a string that holds one.
+fn quoted_checksum(s: &[u8], from: usize, to: usize) -> Option<u32>
+    requires { value side_depth s.now from ≡ Some to }
+    ensures { result ≡ quoted_checksum_at s.now (record { from = from; to = to }) }
+{
     if byte_at(s, from) != QUOTE {
-        return Sum {
-            mark,
-            well_formed: false,
-            sum: 0,
-        };
+        return None;
     }
-    let first = from + 1;
-    let last = to - 1;
-    match parse_checksum(&s[first..last]) {
-        ParsedChecksum::Number(n) => Sum {
-            mark,
-            well_formed: true,
-            sum: n,
-        },
-        ParsedChecksum::Refused => Sum {
-            mark,
-            well_formed: false,
-            sum: 0,
-        },
-    }
+    parse_checksum(&s[from + 1..to - 1])
 }
 
 // A value that ends at `end` and is no object.
@@ -440,27 +421,26 @@ fn by_fields(members: Members) -> Members
 }
 
 // The layout of a message of one object; `whole` is whether its first element is a whole number.
+#[tactic(auto, unfolding(crate::specs::PartsK::one_object))]
 fn one_object(whole: bool, one: Members) -> Outline
     ensures { result ≡ one_object whole one }
 {
-    if whole {
-        if one.is_object {
-            let none = no_members(0);
-            let update = is_update(has_more(none, one), none, one);
-            return k_outline(is_snapshot(one), update, one);
-        }
-        return no_outline();
+    if whole && one.is_object {
+        let none = no_members(0);
+        let update = is_update(has_more(none, one), none, one);
+        return k_outline(is_snapshot(one), update, one);
     }
     no_outline()
 }
 
 // The layout of a message of two objects; `two` is told of both.
+#[tactic(auto, unfolding(crate::specs::PartsK::two_objects))]
 fn two_objects(whole: bool, one: Members, two: Members) -> Outline
     ensures { result ≡ two_objects whole one two }
 {
-    if both(whole, both(one.is_object, two.is_object)) {
+    if whole && one.is_object && two.is_object {
         let none = no_members(0);
-        let each = both(has_more(none, one), has_more(one, two));
+        let each = has_more(none, one) && has_more(one, two);
         return k_outline(false, is_update(each, one, two), two);
     }
     no_outline()
@@ -468,81 +448,55 @@ fn two_objects(whole: bool, one: Members, two: Members) -> Outline
 
 // Whether an object has `a` or `b`, where `before` is told before it and `after` with it. Counts stop at two, so this says
 // something only where each name is met once at the most.
+#[tactic(auto, unfolding(crate::specs::MembersK::has_more), using(std::proofs::lemmas::Bool::Decides::nat_tests))]
 fn has_more(before: Members, after: Members) -> bool
     ensures { result ≡ has_more before after }
 {
-    if before.asks < after.asks {
-        true
-    } else if before.bids < after.bids {
-        true
-    } else {
-        false
-    }
+    before.asks < after.asks || before.bids < after.bids
 }
 
 // Whether the one object is a snapshot's.
+#[tactic(auto, unfolding(crate::specs::MembersK::snapshot_by), using(std::proofs::lemmas::Bool::Decides::nat_tests))]
 fn is_snapshot(one: Members) -> bool
     ensures { result ≡ snapshot_by one }
 {
-    if one.snapshot_asks != 1 {
-        return false;
-    }
-    if one.snapshot_bids != 1 {
-        return false;
-    }
-    if one.asks != 0 {
-        return false;
-    }
-    if one.bids != 0 {
-        return false;
-    }
-    if one.checksum.mark.times == 0 {
-        true
-    } else {
-        false
-    }
+    one.snapshot_asks == 1
+        && one.snapshot_bids == 1
+        && one.asks == 0
+        && one.bids == 0
+        && one.checksum.mark.times == 0
 }
 
 // Whether the objects are an update's: `each` says that each has `a` or `b`, and `before` is told before the last object.
-#[tactic(auto, unfolding(crate::specs::MembersK::update_by))]
+#[tactic(auto, unfolding(crate::specs::MembersK::update_by), using(std::proofs::lemmas::Bool::Decides::nat_tests))]
 fn is_update(each: bool, before: Members, all: Members) -> bool
     ensures { result ≡ update_by each before all }
 {
-    if 1 < all.asks {
-        return false;
-    }
-    if 1 < all.bids {
-        return false;
-    }
-    if !each {
-        return false;
-    }
-    if all.checksum.mark.times != 1 {
-        return false;
-    }
-    if before.checksum.mark.times != 0 {
-        return false;
-    }
-    if all.snapshot_asks != 0 {
-        return false;
-    }
-    if all.snapshot_bids == 0 { true } else { false }
+    all.asks <= 1
+        && all.bids <= 1
+        && each
+        && all.checksum.mark.times == 1
+        && before.checksum.mark.times == 0
+        && all.snapshot_asks == 0
+        && all.snapshot_bids == 0
 }
 
 // The layout of a message whose objects are a snapshot's, an update's or neither.
+#[tactic(auto, unfolding(crate::specs::MembersK::outline_by))]
 fn k_outline(snapshot: bool, update: bool, all: Members) -> Outline
     ensures { result ≡ outline_by snapshot update all }
 {
     if snapshot {
         return outline_of(Kind::Snapshot, all.tally, false, 0, 0);
     }
-    if both(update, all.checksum.well_formed) {
+    if update && all.checksum.well_formed {
         return outline_of(Kind::Update, all.tally, true, all.checksum.sum, 0);
     }
     no_outline()
 }
 
 // A message of four or five elements, which ends at `end`.
+#[tactic(auto, unfolding(crate::specs::PartsK::ours_by))]
 fn framed(s: &[u8], end: usize, outer: Outer, depth: usize, name: &[u8], outline: Outline) -> Scan
     requires { (10 ≤ depth) × (depth ≤ 100) }
     ensures { result ≡ framed_as depth name.now s.now end outer outline }
@@ -556,7 +510,7 @@ fn framed(s: &[u8], end: usize, outer: Outer, depth: usize, name: &[u8], outline
     Scan {
         end,
         framed: true,
-        ours: both(channel, pair),
+        ours: channel && pair,
         outline,
     }
 }
@@ -579,7 +533,7 @@ fn two_digits(depth: usize) -> [u8; 7]
     requires { (10 ≤ depth) × (depth < 100) }
     ensures { result ≡ ascii "book-" ++ written depth }
 {
-    let tens = (48 + depth / 10) as u8;
-    let ones = (48 + depth % 10) as u8;
-    [98, 111, 111, 107, 45, tens, ones]
+    let tens = b'0' + (depth / 10) as u8;
+    let ones = b'0' + (depth % 10) as u8;
+    [b'b', b'o', b'o', b'k', b'-', tens, ones]
 }

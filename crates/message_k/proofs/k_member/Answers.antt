@@ -1,6 +1,8 @@
 -- `k_member` meets its contract: by its name.
 -- Assumes nothing.
-use mathlib.Core.Path.{sym, refl, ◌∙◌}
+use mathlib.Core.Path.{sym, refl, ap, ◌∙◌}
+use Rattle.json_tokens.specs.Ends.{end_of}
+use Rattle.entries.proofs.Entry.{end-or-zero}
 use Rattle.message_k.proofs.OneMember.{read_as, read-bs, read_a, read-b, read-c, read-other}
 use Rattle.message_k.proofs.k_member.Goals as goal
 
@@ -34,6 +36,6 @@ pub returns : goal.returns
 returns c =
     let b = c in
     let a = b.args in
-    read-other a.s.now a.members (record { from = a.name_from; to = a.name_to }) a.from b.requires.0 a.buffer.now b.requires.1 c.value_end.result c.value_end.ensures
+    read-other a.s.now a.members (record { from = a.name_from; to = a.name_to }) a.from b.requires.0 a.buffer.now b.requires.1 c.unwrap_or.result (c.unwrap_or.ensures ∙ end-or-zero c.value_end.result ∙ ap end_of c.value_end.ensures)
     (sym c.is_name.ensures ∙ c.if-is_name.false) (sym c.is_name-2.ensures ∙ c.if-is_name-2.false) (sym c.is_name-3.ensures ∙ c.if-is_name-3.false)
     (sym c.is_name-4.ensures ∙ c.if-is_name-4.false) (sym c.is_name-5.ensures ∙ c.if-is_name-5.false)

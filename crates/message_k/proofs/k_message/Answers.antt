@@ -4,6 +4,8 @@ use mathlib.Core.Path.{◌≡◌, sym, ap, ◌∙◌}
 use native.Mathlib.Omega.{arith}
 use Rattle.text.specs.Text.{byte_at}
 use Rattle.json_tokens.proofs.Laws.{in-byte}
+use Rattle.json_tokens.specs.Ends.{end_of}
+use Rattle.entries.proofs.Entry.{end-or-zero}
 use Rattle.layout.specs.Scan.{not_framed}
 use Rattle.message_k.specs.PartsK.{framed_as}
 use Rattle.message_k.proofs.Messages.{told_by, told-four, told-five, told-other, told_none, told_array, keeps-other, keeps-array}
@@ -23,7 +25,7 @@ returns-then-byte_at-ne-OPEN_ARRAY c =
     let d = a.depth in
     let n = a.name.now in
     let other : (byte_at s a.at ≡ 91 → ⊥) = λ z. c.if-byte_at-ne-OPEN_ARRAY.true (c.byte_at.ensures ∙ z) in
-    record { told = c.not_framed.ensures ∙ ap not_framed c.value_end.ensures ∙ told_none d n s a.at other; kept = keeps-other d n s a.at a.buffer.now other }
+    record { told = c.not_framed.ensures ∙ ap not_framed (c.unwrap_or.ensures ∙ end-or-zero c.value_end.result ∙ ap end_of c.value_end.ensures) ∙ told_none d n s a.at other; kept = keeps-other d n s a.at a.buffer.now other }
 
 pub overflow_add-at : goal.overflow_add-at
 overflow_add-at c =

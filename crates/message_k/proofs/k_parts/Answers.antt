@@ -1,82 +1,86 @@
 -- `k_parts` meets its contract: wherever the loop stands, what was told with what the elements left will add is the answer, and the buffer has the
 -- entries of the objects that were read.
 -- Assumes nothing.
-use mathlib.Core.Path.{◌≡◌, refl, ap, ◌∙◌}
+use mathlib.Core.Path.{◌≡◌, refl, sym, ap, ◌∙◌}
 use mathlib.Core.List.{List, [], ◌∷◌, ◌++◌}
 use Prim.Native.Nat.{ℕ, ◌≤◌}
 use native.Mathlib.Omega.{arith}
-use Rattle.json_values.specs.Json.{element, elements, value}
+use Rattle.json_tokens.proofs.Bounds.{end-broken}
+use Rattle.json_tokens.specs.Ends.{end_of}
+use Rattle.json_values.specs.Json.{Span, wrong, element, elements, value}
+use Rattle.json_values.proofs.Bounds.{value_in}
 use Rattle.json_values.proofs.Fold.{Stands, no-element, element-stands, fold-empty, fold_start, fold-wrong, fold-further, fold_on, fold-last, fold-broken}
 use Rattle.entries.specs.Tally.{met}
+use Rattle.entries.proofs.Entry.{end-or-zero}
 use Rattle.message_k.specs.MembersK.{no_members, members_at}
 use Rattle.message_k.specs.PartsK.{no_parts, with_outer, parts_in}
 use Rattle.message_k.specs.declared.Members.{Members}
 use Rattle.message_k.specs.declared.Outer.{Outer}
+use Rattle.message_k.specs.declared.Parts.{Parts}
 use Rattle.message_k.proofs.OnePart.{Step, with_outer_of, step-one, step-two, step_other, step_value, step_part}
 use Rattle.message_k.proofs.Bearing.{over_parts, over_spans, Bears, no-element as none_yet, bears-few, Moved, moved-one, moved-two, moved_other, bears-next, parts-broken, parts-read}
 use Rattle.message_k.proofs.k_parts.Goals as goal
-use Rattle.message_k.proofs.k_parts.Goals.{then-outer-eq1, else-outer-eq1+then-outer-eq2, else-outer-eq1+else-outer-eq2}
-use Rattle.message_k.proofs.k_parts.Lts as lts
-use Rattle.message_k.proofs.k_parts.Tie as tie
-use Rattle.message_k.proofs.k_parts.Reads as reads
+use Rattle.message_k.proofs.k_parts.Goals.{Joined-outer-eq1, then-outer-eq1, else-outer-eq1+then-outer-eq2, else-outer-eq1+else-outer-eq2}
 
--- Places in the code.
-abbrev At-loop-buffer : Type 0
-At-loop-buffer = lts.At-loop tie.the-claims reads.Pre reads.Post goal.the-invariant-loop-buffer goal.the-decreases-loop-buffer
-
-abbrev Joined-outer-eq1 : Type 0
-Joined-outer-eq1 = lts.Joined2 tie.the-claims reads.Pre reads.Post goal.the-invariant-loop-buffer goal.the-decreases-loop-buffer
-
--- where an element is to begin
-abbrev At : Type 0
-At = At-loop-buffer
-
-abbrev text : At → List ℕ
-text c = c.args.s.now
-
--- the element there was read, with its object, if it may be one
+-- the element where the loop stands was read, with its object, if it may be one
 module _ (c : Joined-outer-eq1) where
-  abbrev at : At
-  at = c.before.before.before
+  abbrev text : List ℕ
+  text = c.args.s.now
 
-  read : Step (text at) at.loop-buffer.parts at.loop-buffer.i c.if-outer-eq1.parts c.if-outer-eq1.past
+  abbrev i : ℕ
+  i = c.loop-buffer.i
+
+  abbrev parts : Parts
+  parts = c.loop-buffer.parts
+
+  abbrev past : ℕ
+  past = c.if-outer-eq1.past
+
+  read : Step text parts i c.if-outer-eq1.parts past
   read =
       elim c.if-outer-eq1.branch [
-        | then-outer-eq1 w ↦ step-one (text at) at.loop-buffer.parts at.loop-buffer.i w.k_object-parts.result w.if-outer-eq1.true (w.k_object-parts.ensures.told ∙ ap (λ x. members_at (text at) x at.loop-buffer.i) w.no_members.ensures) w.parts-is w.past-is
-        | else-outer-eq1+then-outer-eq2 w ↦ step-two (text at) at.loop-buffer.parts at.loop-buffer.i w.k_object-parts-then-outer-eq2.result w.if-outer-eq2.true w.k_object-parts-then-outer-eq2.ensures.told w.parts-is w.past-is
-        | else-outer-eq1+else-outer-eq2 w ↦ step_other (text at) at.loop-buffer.parts at.loop-buffer.i w.if-outer-eq1.false w.if-outer-eq2.false w.item_end.result w.item_end.ensures w.parts-is w.past-is
+        | then-outer-eq1 w ↦ step-one text parts i w.k_object-parts.result w.if-outer-eq1.true (w.k_object-parts.ensures.told ∙ ap (λ x. members_at text x i) w.no_members.ensures) w.parts-is w.past-is
+        | else-outer-eq1+then-outer-eq2 w ↦ step-two text parts i w.k_object-parts-then-outer-eq2.result w.if-outer-eq2.true w.k_object-parts-then-outer-eq2.ensures.told w.parts-is w.past-is
+        | else-outer-eq1+else-outer-eq2 w ↦ step_other text parts i w.if-outer-eq1.false w.if-outer-eq2.false w.unwrap_or.result (w.unwrap_or.ensures ∙ end-or-zero w.item_end.result ∙ ap end_of w.item_end.ensures) w.parts-is w.past-is
       ]
 
-  moved : Moved (text at) at.loop-buffer.parts at.loop-buffer.i at.loop-buffer.buffer c.if-outer-eq1.buffer c.if-outer-eq1.parts c.if-outer-eq1.past
+  moved : Moved text parts i c.loop-buffer.buffer c.if-outer-eq1.buffer c.if-outer-eq1.parts past
   moved =
       elim c.if-outer-eq1.branch [
-        | then-outer-eq1 w ↦ moved-one (text at) at.loop-buffer.parts at.loop-buffer.i at.loop-buffer.buffer c.if-outer-eq1.buffer c.if-outer-eq1.parts c.if-outer-eq1.past w.no_members.result _ w.k_object-parts.result w.if-outer-eq1.true w.no_members.ensures w.k_object-parts.ensures w.buffer-is w.parts-is w.past-is
-        | else-outer-eq1+then-outer-eq2 w ↦ moved-two (text at) at.loop-buffer.parts at.loop-buffer.i at.loop-buffer.buffer c.if-outer-eq1.buffer c.if-outer-eq1.parts c.if-outer-eq1.past (no_members 0) _ w.k_object-parts-then-outer-eq2.result w.if-outer-eq2.true w.k_object-parts-then-outer-eq2.ensures w.buffer-is w.parts-is
-        | else-outer-eq1+else-outer-eq2 w ↦ moved_other (text at) at.loop-buffer.parts at.loop-buffer.i at.loop-buffer.buffer c.if-outer-eq1.buffer c.if-outer-eq1.parts c.if-outer-eq1.past (no_members 0) [] (no_members 0) w.if-outer-eq1.false w.if-outer-eq2.false at.loop-buffer.invariant.room w.buffer-is
+        | then-outer-eq1 w ↦ moved-one text parts i c.loop-buffer.buffer c.if-outer-eq1.buffer c.if-outer-eq1.parts past w.no_members.result _ w.k_object-parts.result w.if-outer-eq1.true w.no_members.ensures w.k_object-parts.ensures w.buffer-is w.parts-is w.past-is
+        | else-outer-eq1+then-outer-eq2 w ↦ moved-two text parts i c.loop-buffer.buffer c.if-outer-eq1.buffer c.if-outer-eq1.parts past (no_members 0) _ w.k_object-parts-then-outer-eq2.result w.if-outer-eq2.true w.k_object-parts-then-outer-eq2.ensures w.buffer-is w.parts-is
+        | else-outer-eq1+else-outer-eq2 w ↦ moved_other text parts i c.loop-buffer.buffer c.if-outer-eq1.buffer c.if-outer-eq1.parts past (no_members 0) [] (no_members 0) w.if-outer-eq1.false w.if-outer-eq2.false c.loop-buffer.invariant.room w.buffer-is
       ]
 
-  stands : (c.if-outer-eq1.past ≡ 0 → ⊥) → Stands (element (value 15 (text at))) (text at) at.loop-buffer.i (record { from = at.loop-buffer.i; to = c.if-outer-eq1.past }) c.if-outer-eq1.past
-  stands = element-stands 15 (text at) at.loop-buffer.i c.if-outer-eq1.past read.ends
+  broken : past ≡ 0 → element (value 15 text) i ≡ wrong
+  broken z = no-element 15 text i (end-broken past (omega arith) (value_in 15 text i) read.ends z)
 
--- the buffer bears what was read with the element, once a comma or the bracket follows
-bears-on : (m : Joined-outer-eq1) (some : m.if-outer-eq1.past ≡ 0 → ⊥) (u : Outer) → u ≡ with_outer (text (at m)) (at m).loop-buffer.parts.outer (record { from = (at m).loop-buffer.i; to = m.if-outer-eq1.past })
-    → (j : ℕ) → m.if-outer-eq1.past ≤ j → Bears (text (at m)) (with_outer_of m.if-outer-eq1.parts u) j m.if-outer-eq1.buffer ((at m).loop-buffer.invariant.done ++ (record { from = (at m).loop-buffer.i; to = m.if-outer-eq1.past } ∷ []))
-bears-on m some u h j on =
-    let v = step_value (text (at m)) (at m).loop-buffer.parts (at m).loop-buffer.i (read m) some in
-    let b = (stands m some).some in
-    bears-next (moved m) v b u h j on (at m).loop-buffer.invariant.room (at m).loop-buffer.invariant.bears
+  module _ (some : past ≡ 0 → ⊥) where
+    abbrev one : Span
+    one = record { from = i; to = past }
 
-pub returns-then-none-gt0 : goal.returns-then-none-gt0
+    stands : Stands (element (value 15 text)) text i one past
+    stands = element-stands 15 text i past (step_value text parts i read some)
+
+    -- the buffer bears what was read with the element, once a comma or the bracket follows
+    bears-on : (u : Outer) → u ≡ with_outer text parts.outer one
+        → (j : ℕ) → past ≤ j → Bears text (with_outer_of c.if-outer-eq1.parts u) j c.if-outer-eq1.buffer (c.loop-buffer.invariant.done ++ (one ∷ []))
+    bears-on u h j on =
+        let v = step_value text parts i read some in
+        let b = stands.some in
+        bears-next moved v b u h j on c.loop-buffer.invariant.room c.loop-buffer.invariant.bears
+
+pub returns-in-Some : goal.returns-in-Some
 unfolding parts_in elements
-returns-then-none-gt0 c =
+returns-in-Some c =
     let b = c in
     let a = b.args in
     let s = a.s.now in
-    let none = c.array_close_end-none in
-    let some : (none.result ≡ 0 → ⊥) = λ z. let l = c.if-none-gt0.true in omega arith in
+    let end = c.in-Some.end in
+    let none = sym c.in-Some.ensures in
     parts-read s (elements (value 15 s) s a.at) a.buffer.now b.requires c.no_parts.result
-    (c.no_parts.ensures ∙ fold-empty (over_parts s) (no_parts 0) a.at none.result none.ensures some)
-    [] (fold-empty (over_spans s) [] a.at none.result none.ensures some) {t = no_parts 0} {i = 0} (none_yet refl)
+    (c.no_parts.ensures ∙ fold-empty (over_parts s) (no_parts 0) a.at end none)
+    [] (fold-empty (over_spans s) [] a.at end none) {t = no_parts 0} {i = 0} (none_yet refl)
 
 pub loop-buffer-init : goal.loop-buffer-init
 unfolding elements
@@ -84,86 +88,99 @@ loop-buffer-init c =
     let b = c in
     let a = b.args in
     let s = a.s.now in
-    let none = c.array_close_end-none in
+    let none = sym c.array_close_end.ensures ∙ c.in_default.is in
     let skip = c.skip_blanks-i in
     rw c.no_parts-parts.ensures
     (record {
-      told = fold_start (over_parts s) (no_parts 0) a.at none.result none.ensures (omega arith) skip.result skip.ensures;
+      told = fold_start (over_parts s) (no_parts 0) a.at none skip.result skip.ensures;
       room = b.requires;
       done = [];
-      spans = fold_start (over_spans s) [] a.at none.result none.ensures (omega arith) skip.result skip.ensures;
+      spans = fold_start (over_spans s) [] a.at none skip.result skip.ensures;
       bears = none_yet refl;
     })
 
 pub k_object-parts-requires : goal.k_object-parts-requires
 k_object-parts-requires c =
-    let a = c in
     let e = ap (λ (x : Members). met x.tally) c.no_members.ensures in
-    (omega arith, a.loop-buffer.invariant.room)
+    (omega arith, c.loop-buffer.invariant.room)
 
 pub k_object-parts-requires-then-outer-eq2 : goal.k_object-parts-requires-then-outer-eq2
-k_object-parts-requires-then-outer-eq2 c = let a = c in (bears-few c.if-outer-eq2.true a.loop-buffer.invariant.bears, a.loop-buffer.invariant.room)
+k_object-parts-requires-then-outer-eq2 c = (bears-few c.if-outer-eq2.true c.loop-buffer.invariant.bears, c.loop-buffer.invariant.room)
 
 pub returns-then-past-eq0 : goal.returns-then-past-eq0
 unfolding parts_in
 returns-then-past-eq0 c =
-    let m = c.before.before.before in
-    let s = text (at m) in
-    let w = no-element 15 s (at m).loop-buffer.i m.if-outer-eq1.past (read m).ends c.if-past-eq0.true in
-    parts-broken s (elements (value 15 s) s m.args.at) m.if-outer-eq1.buffer (moved m).room c.no_parts-then-past-eq0.result
-    (c.no_parts-then-past-eq0.ensures ∙ fold-wrong (over_parts s) (at m).loop-buffer.parts (at m).loop-buffer.invariant.told w)
-    (fold-wrong (over_spans s) (at m).loop-buffer.invariant.done (at m).loop-buffer.invariant.spans w)
+    let s = c.args.s.now in
+    let l = c.loop-buffer in
+    let m = (goal.at.returns-then-past-eq0 c).Joined-outer-eq1 in
+    let w = broken m c.if-past-eq0.true in
+    parts-broken s (elements (value 15 s) s c.args.at) c.if-outer-eq1.buffer (moved m).room c.no_parts-then-past-eq0.result
+    (c.no_parts-then-past-eq0.ensures ∙ fold-wrong (over_parts s) l.parts l.invariant.told w)
+    (fold-wrong (over_spans s) l.invariant.done l.invariant.spans w)
 
 pub pass-parts-requires : goal.pass-parts-requires
 pass-parts-requires c =
-    let m = c.before.before in
-    step_value (text (at m)) (at m).loop-buffer.parts (at m).loop-buffer.i (read m) c.if-past-eq0.false
+    let m = (goal.at.pass-parts-requires c).Joined-outer-eq1 in
+    step_value (text m) (parts m) (i m) (read m) c.if-past-eq0.false
 
-pub returns-then-parts-eq0 : goal.returns-then-parts-eq0
-unfolding parts_in
-returns-then-parts-eq0 c =
-    let m = c.before.before.before.before.before.before.before.before.before in
-    let s = text (at m) in
-    let some = c.if-past-eq0.false in
-    let comma = c.comma_end-j in
-    let close = c.array_close_end in
-    parts-broken s (elements (value 15 s) s m.args.at) m.if-outer-eq1.buffer (moved m).room c.no_parts-then-parts-eq0.result
-    (c.no_parts-then-parts-eq0.ensures ∙ fold-broken (over_parts s) (at m).loop-buffer.parts (at m).loop-buffer.invariant.told (stands m some) comma.result comma.ensures c.if-j-eq0.true close.result close.ensures c.if-parts-eq0.true)
-    (fold-broken (over_spans s) (at m).loop-buffer.invariant.done (at m).loop-buffer.invariant.spans (stands m some) comma.result comma.ensures c.if-j-eq0.true close.result close.ensures c.if-parts-eq0.true)
+-- ---- no comma behind the element
 
-pub returns-then-j-eq0 : goal.returns-then-j-eq0
+pub returns-in_default-array_close_end : goal.returns-in_default-array_close_end
 unfolding parts_in
-returns-then-j-eq0 c =
-    let m = c.before.before.before.before.before.before.before.before in
-    let s = text (at m) in
+returns-in_default-array_close_end c =
+    let s = c.args.s.now in
+    let l = c.loop-buffer in
+    let m = (goal.at.returns-in_default-array_close_end c).Joined-outer-eq1 in
+    let one = stands m c.if-past-eq0.false in
+    let comma = sym c.comma_end.ensures ∙ c.in_default-comma_end.is in
+    let close = sym c.array_close_end-in_default-comma_end.ensures ∙ c.in_default-array_close_end.is in
+    parts-broken s (elements (value 15 s) s c.args.at) c.if-outer-eq1.buffer (moved m).room c.no_parts-in_default-array_close_end.result
+    (c.no_parts-in_default-array_close_end.ensures ∙ fold-broken (over_parts s) l.parts l.invariant.told one comma close)
+    (fold-broken (over_spans s) l.invariant.done l.invariant.spans one comma close)
+
+pub returns-in_default-comma_end : goal.returns-in_default-comma_end
+unfolding parts_in
+returns-in_default-comma_end c =
+    let s = c.args.s.now in
+    let l = c.loop-buffer in
+    let m = (goal.at.returns-in_default-comma_end c).Joined-outer-eq1 in
     let some = c.if-past-eq0.false in
-    let comma = c.comma_end-j in
-    let close = c.array_close_end in
+    let one = stands m some in
+    let comma = sym c.comma_end.ensures ∙ c.in_default-comma_end.is in
+    let end = c.in-Some-array_close_end.end in
+    let close = sym c.in-Some-array_close_end.ensures in
     let p = c.pass-parts in
-    parts-read s (elements (value 15 s) s m.args.at) m.if-outer-eq1.buffer (moved m).room _
-    (fold-last (over_parts s) (at m).loop-buffer.parts (at m).loop-buffer.invariant.told (stands m some) comma.result comma.ensures c.if-j-eq0.true close.result close.ensures c.if-parts-eq0.false (step_part s (at m).loop-buffer.parts (at m).loop-buffer.i (read m) some p.result p.ensures))
-    ((at m).loop-buffer.invariant.done ++ (record { from = (at m).loop-buffer.i; to = m.if-outer-eq1.past } ∷ []))
-    (fold-last (over_spans s) (at m).loop-buffer.invariant.done (at m).loop-buffer.invariant.spans (stands m some) comma.result comma.ensures c.if-j-eq0.true close.result close.ensures c.if-parts-eq0.false refl)
-    (bears-on m some p.result p.ensures m.if-outer-eq1.past (omega arith))
+    parts-read s (elements (value 15 s) s c.args.at) c.if-outer-eq1.buffer (moved m).room _
+    (fold-last (over_parts s) l.parts l.invariant.told one comma end close (step_part s l.parts l.i (read m) some p.result p.ensures))
+    (l.invariant.done ++ (record { from = l.i; to = c.if-outer-eq1.past } ∷ []))
+    (fold-last (over_spans s) l.invariant.done l.invariant.spans one comma end close refl)
+    (bears-on m some p.result p.ensures c.if-outer-eq1.past (omega arith))
+
+-- ---- a comma
 
 pub loop-buffer-smaller : goal.loop-buffer-smaller
 loop-buffer-smaller c =
-    let m = c.before.before.before.before.before in
-    let f = fold-further (over_parts (text (at m))) (at m).loop-buffer.parts (at m).loop-buffer.invariant.told (stands m c.if-past-eq0.false) c.comma_end-j.result c.comma_end-j.ensures c.if-j-eq0.false in
+    let s = c.args.s.now in
+    let l = c.loop-buffer in
+    let m = (goal.at.loop-buffer-smaller c).Joined-outer-eq1 in
+    let f = fold-further (over_parts s) l.parts l.invariant.told (stands m c.if-past-eq0.false) c.in-Some-comma_end.next (sym c.in-Some-comma_end.ensures) in
     omega arith
 
 pub loop-buffer-preserved : goal.loop-buffer-preserved
 loop-buffer-preserved c =
-    let m = c.before.before.before.before.before in
-    let s = text (at m) in
+    let s = c.args.s.now in
+    let l = c.loop-buffer in
+    let m = (goal.at.loop-buffer-preserved c).Joined-outer-eq1 in
     let some = c.if-past-eq0.false in
-    let comma = c.comma_end-j in
+    let one = stands m some in
+    let j = c.in-Some-comma_end.next in
+    let comma = sym c.in-Some-comma_end.ensures in
     let p = c.pass-parts in
-    let f = fold-further (over_parts s) (at m).loop-buffer.parts (at m).loop-buffer.invariant.told (stands m some) comma.result comma.ensures c.if-j-eq0.false in
+    let f = fold-further (over_parts s) l.parts l.invariant.told one j comma in
     record {
-      told = fold_on (over_parts s) (at m).loop-buffer.parts (at m).loop-buffer.invariant.told (stands m some) comma.result comma.ensures c.if-j-eq0.false (step_part s (at m).loop-buffer.parts (at m).loop-buffer.i (read m) some p.result p.ensures);
+      told = fold_on (over_parts s) l.parts l.invariant.told one j comma (step_part s l.parts l.i (read m) some p.result p.ensures);
       room = (moved m).room;
-      done = (at m).loop-buffer.invariant.done ++ (record { from = (at m).loop-buffer.i; to = m.if-outer-eq1.past } ∷ []);
-      spans = fold_on (over_spans s) (at m).loop-buffer.invariant.done (at m).loop-buffer.invariant.spans (stands m some) comma.result comma.ensures c.if-j-eq0.false refl;
-      bears = bears-on m some p.result p.ensures comma.result f.1;
+      done = l.invariant.done ++ (record { from = l.i; to = c.if-outer-eq1.past } ∷ []);
+      spans = fold_on (over_spans s) l.invariant.done l.invariant.spans one j comma refl;
+      bears = bears-on m some p.result p.ensures j f.1;
     }

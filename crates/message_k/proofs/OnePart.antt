@@ -1,38 +1,23 @@
 -- One more element, by its place.
 -- Assumes nothing.
-use Rattle.std.specs.Prelude.{Some, is_some}
+use Rattle.std.specs.Prelude.{Some}
 use mathlib.Core.Path.{◌≡◌, sym, ap, ◌∙◌}
 use mathlib.Core.List.{List}
 use mathlib.Core.Bool.{Bool, true, false, cond}
 use Prim.Native.Nat.{ℕ}
 use lib.Dec.{eqb}
-use borrow.Author.Tests.{eq-eqb, ne_eqb}
+use borrow.Author.Tests.{ne_eqb}
 use Rattle.json_tokens.specs.Ends.{end_of}
 use Rattle.json_tokens.proofs.Laws.{end-at}
 use Rattle.json_values.specs.Json.{value}
-use Rattle.entries.specs.Places.{object_at, whole_at}
+use Rattle.entries.specs.Places.{object_at}
 use Rattle.message_k.specs.MembersK.{no_members, members_of, members_at}
-use Rattle.message_k.specs.PartsK.{up_to_six, with_outer, with_part}
+use Rattle.message_k.specs.PartsK.{with_outer, with_part}
 use Rattle.message_k.specs.declared.Members.{Members}
 use Rattle.message_k.specs.declared.Outer.{Outer}
 use Rattle.message_k.specs.declared.Parts.{Parts}
 use Rattle.message_k.proofs.Objects.{object-is, object-end}
 
--- ---- what is told but for the objects
-module _ (s : List ℕ) (t : Outer) (from to : ℕ) {n : ℕ} (h : n ≡ up_to_six t.count) where
-  pub outer-first : t.count ≡ 0 → (b : Bool) → b ≡ is_some (whole_at s (record { from = from; to = to }))
-      → record { count = n; channel_from = t.pair_from; channel_to = t.pair_to; pair_from = from; pair_to = to; whole = b }
-      ≡ with_outer s t (record { from = from; to = to })
-  unfolding with_outer
-  outer-first z b q = sym (rw (eq-eqb t.count 0 z, q, h))
-
-  pub outer-later : (t.count ≡ 0 → ⊥)
-      → record { count = n; channel_from = t.pair_from; channel_to = t.pair_to; pair_from = from; pair_to = to; whole = t.whole }
-      ≡ with_outer s t (record { from = from; to = to })
-  unfolding with_outer
-  outer-later z = sym (rw (ne_eqb t.count 0 z, h))
-
--- ---- the objects
 -- t, with other objects
 abbrev put : Parts → Members → Members → Parts
 put t one two = record { end = t.end; outer = t.outer; one = one; two = two }

@@ -2,24 +2,10 @@
 -- Assumes nothing.
 use mathlib.Core.Path.{◌≡◌, sym}
 use mathlib.Core.Bool.{Bool, true, false, ◌&&◌}
-use Rattle.layout.specs.Scan.{outline_from, no_outline}
-use Rattle.layout.specs.declared.Kind.TheVariants.{Snapshot, Update}
+use Rattle.layout.specs.Scan.{no_outline}
 use Rattle.message_k.specs.MembersK.{no_members, has_more, snapshot_by, update_by, outline_by}
 use Rattle.message_k.specs.PartsK.{one_object, two_objects}
 use Rattle.message_k.specs.declared.Members.{Members}
-
-module _ (t : Members) (update : Bool) {snapshot : Bool} where
-  pub outline-snapshot : snapshot ≡ true → outline_from Snapshot t.tally false 0 0 ≡ outline_by snapshot update t
-  unfolding outline_by
-  outline-snapshot h = sym (rw (h, outline_by))
-
-  pub outline-update : snapshot ≡ false → (update && t.checksum.well_formed) ≡ true → outline_from Update t.tally true t.checksum.sum 0 ≡ outline_by snapshot update t
-  unfolding outline_by
-  outline-update h g = sym (rw (h, g, outline_by))
-
-  pub outline-neither : snapshot ≡ false → (update && t.checksum.well_formed) ≡ false → no_outline ≡ outline_by snapshot update t
-  unfolding outline_by
-  outline-neither h g = sym (rw (h, g, outline_by))
 
 module _ (whole : Bool) (t : Members) where
   pub one-is : whole ≡ true → t.is_object ≡ true → outline_by (snapshot_by t) (update_by (has_more (no_members 0) t) (no_members 0) t) t ≡ one_object whole t

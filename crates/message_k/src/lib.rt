@@ -102,19 +102,12 @@ pub fn k_message(
     }
     let parts = k_parts(s, at + 1, buffer);
     let outer = parts.outer;
-    let count = outer.count;
-    if count == 4 {
-        let one = parts.one;
-        let outline = one_object(outer.whole, one);
-        return framed(s, parts.end, outer, depth, name, outline);
-    }
-    if count == 5 {
-        let one = parts.one;
-        let two = parts.two;
-        let outline = two_objects(outer.whole, one, two);
-        return framed(s, parts.end, outer, depth, name, outline);
-    }
-    not_framed(parts.end)
+    let outline = match outer.count {
+        4 => one_object(outer.whole, parts.one),
+        5 => two_objects(outer.whole, parts.one, parts.two),
+        _ => return not_framed(parts.end),
+    };
+    framed(s, parts.end, outer, depth, name, outline)
 }
 
 // The elements of the array whose bracket ends at `at`. The second and the third may be objects.
@@ -129,14 +122,16 @@ fn k_parts(s: &[u8], at: usize, buffer: &mut [u64; BUFFER_WORDS]) -> Parts
     let mut parts = no_parts(0);
     loop {
         let outer = parts.outer;
-        let past = if outer.count == 1 {
-            parts.one = k_object(s, no_members(0), i, buffer);
-            parts.one.end
-        } else if outer.count == 2 {
-            parts.two = k_object(s, parts.one, i, buffer);
-            parts.two.end
-        } else {
-            item_end(s, i, ITEM_DEPTH).unwrap_or(0)
+        let past = match outer.count {
+            1 => {
+                parts.one = k_object(s, no_members(0), i, buffer);
+                parts.one.end
+            }
+            2 => {
+                parts.two = k_object(s, parts.one, i, buffer);
+                parts.two.end
+            }
+            _ => item_end(s, i, ITEM_DEPTH).unwrap_or(0),
         };
         if past == 0 {
             return no_parts(0);
@@ -501,12 +496,8 @@ fn framed(s: &[u8], end: usize, outer: Outer, depth: usize, name: &[u8], outline
     requires { (10 ≤ depth) × (depth ≤ 100) }
     ensures { result ≡ framed_as depth name.now s.now end outer outline }
 {
-    let channel_from = outer.channel_from;
-    let channel_to = outer.channel_to;
-    let pair_from = outer.pair_from;
-    let pair_to = outer.pair_to;
-    let channel = is_channel(s, channel_from, channel_to, depth);
-    let pair = is_name(s, pair_from, pair_to, name);
+    let channel = is_channel(s, outer.channel_from, outer.channel_to, depth);
+    let pair = is_name(s, outer.pair_from, outer.pair_to, name);
     Scan {
         end,
         framed: true,

@@ -20,10 +20,10 @@ use Rattle.message_k.specs.declared.Parts.{Parts}
 use Rattle.message_k.proofs.OnePart.{Step, with_outer_of, step-one, step-two, step_other, step_value, step_part}
 use Rattle.message_k.proofs.Bearing.{over_parts, over_spans, Bears, no-element as none_yet, bears-few, Moved, moved-one, moved-two, moved_other, bears-next, parts-broken, parts-read}
 use Rattle.message_k.proofs.k_parts.Goals as goal
-use Rattle.message_k.proofs.k_parts.Goals.{Joined-outer-eq1, then-outer-eq1, else-outer-eq1+then-outer-eq2, else-outer-eq1+else-outer-eq2}
+use Rattle.message_k.proofs.k_parts.Goals.{Joined-outer, in-1, in-2, in_default-count}
 
 -- the element where the loop stands was read, with its object, if it may be one
-module _ (c : Joined-outer-eq1) where
+module _ (c : Joined-outer) where
   abbrev text : List ℕ
   text = c.args.s.now
 
@@ -34,22 +34,22 @@ module _ (c : Joined-outer-eq1) where
   parts = c.loop-buffer.parts
 
   abbrev past : ℕ
-  past = c.if-outer-eq1.past
+  past = c.match-outer.past
 
-  read : Step text parts i c.if-outer-eq1.parts past
+  read : Step text parts i c.match-outer.parts past
   read =
-      elim c.if-outer-eq1.branch [
-        | then-outer-eq1 w ↦ step-one text parts i w.k_object-parts.result w.if-outer-eq1.true (w.k_object-parts.ensures.told ∙ ap (λ x. members_at text x i) w.no_members.ensures) w.parts-is w.past-is
-        | else-outer-eq1+then-outer-eq2 w ↦ step-two text parts i w.k_object-parts-then-outer-eq2.result w.if-outer-eq2.true w.k_object-parts-then-outer-eq2.ensures.told w.parts-is w.past-is
-        | else-outer-eq1+else-outer-eq2 w ↦ step_other text parts i w.if-outer-eq1.false w.if-outer-eq2.false w.unwrap_or.result (w.unwrap_or.ensures ∙ end-or-zero w.item_end.result ∙ ap end_of w.item_end.ensures) w.parts-is w.past-is
+      elim c.match-outer.branch [
+        | in-1 w ↦ step-one text parts i w.k_object-parts.result w.in-1.is (w.k_object-parts.ensures.told ∙ ap (λ x. members_at text x i) w.no_members.ensures) w.parts-is w.past-is
+        | in-2 w ↦ step-two text parts i w.k_object-parts-in-2.result w.in-2.is w.k_object-parts-in-2.ensures.told w.parts-is w.past-is
+        | in_default-count w ↦ step_other text parts i (λ z. omega arith) (λ z. omega arith) w.unwrap_or-past.result (w.unwrap_or-past.ensures ∙ end-or-zero w.item_end.result ∙ ap end_of w.item_end.ensures) w.parts-is w.past-is
       ]
 
-  moved : Moved text parts i c.loop-buffer.buffer c.if-outer-eq1.buffer c.if-outer-eq1.parts past
+  moved : Moved text parts i c.loop-buffer.buffer c.match-outer.buffer c.match-outer.parts past
   moved =
-      elim c.if-outer-eq1.branch [
-        | then-outer-eq1 w ↦ moved-one text parts i c.loop-buffer.buffer c.if-outer-eq1.buffer c.if-outer-eq1.parts past w.no_members.result _ w.k_object-parts.result w.if-outer-eq1.true w.no_members.ensures w.k_object-parts.ensures w.buffer-is w.parts-is w.past-is
-        | else-outer-eq1+then-outer-eq2 w ↦ moved-two text parts i c.loop-buffer.buffer c.if-outer-eq1.buffer c.if-outer-eq1.parts past (no_members 0) _ w.k_object-parts-then-outer-eq2.result w.if-outer-eq2.true w.k_object-parts-then-outer-eq2.ensures w.buffer-is w.parts-is
-        | else-outer-eq1+else-outer-eq2 w ↦ moved_other text parts i c.loop-buffer.buffer c.if-outer-eq1.buffer c.if-outer-eq1.parts past (no_members 0) [] (no_members 0) w.if-outer-eq1.false w.if-outer-eq2.false c.loop-buffer.invariant.room w.buffer-is
+      elim c.match-outer.branch [
+        | in-1 w ↦ moved-one text parts i c.loop-buffer.buffer c.match-outer.buffer c.match-outer.parts past w.no_members.result _ w.k_object-parts.result w.in-1.is w.no_members.ensures w.k_object-parts.ensures w.buffer-is w.parts-is w.past-is
+        | in-2 w ↦ moved-two text parts i c.loop-buffer.buffer c.match-outer.buffer c.match-outer.parts past (no_members 0) _ w.k_object-parts-in-2.result w.in-2.is w.k_object-parts-in-2.ensures w.buffer-is w.parts-is
+        | in_default-count w ↦ moved_other text parts i c.loop-buffer.buffer c.match-outer.buffer c.match-outer.parts past (no_members 0) [] (no_members 0) (λ z. omega arith) (λ z. omega arith) c.loop-buffer.invariant.room w.buffer-is
       ]
 
   broken : past ≡ 0 → element (value 15 text) i ≡ wrong
@@ -64,7 +64,7 @@ module _ (c : Joined-outer-eq1) where
 
     -- the buffer bears what was read with the element, once a comma or the bracket follows
     bears-on : (u : Outer) → u ≡ with_outer text parts.outer one
-        → (j : ℕ) → past ≤ j → Bears text (with_outer_of c.if-outer-eq1.parts u) j c.if-outer-eq1.buffer (c.loop-buffer.invariant.done ++ (one ∷ []))
+        → (j : ℕ) → past ≤ j → Bears text (with_outer_of c.match-outer.parts u) j c.match-outer.buffer (c.loop-buffer.invariant.done ++ (one ∷ []))
     bears-on u h j on =
         let v = step_value text parts i read some in
         let b = stands.some in
@@ -104,23 +104,23 @@ k_object-parts-requires c =
     let e = ap (λ (x : Members). met x.tally) c.no_members.ensures in
     (omega arith, c.loop-buffer.invariant.room)
 
-pub k_object-parts-requires-then-outer-eq2 : goal.k_object-parts-requires-then-outer-eq2
-k_object-parts-requires-then-outer-eq2 c = (bears-few c.if-outer-eq2.true c.loop-buffer.invariant.bears, c.loop-buffer.invariant.room)
+pub k_object-parts-requires-in-2 : goal.k_object-parts-requires-in-2
+k_object-parts-requires-in-2 c = (bears-few c.in-2.is c.loop-buffer.invariant.bears, c.loop-buffer.invariant.room)
 
 pub returns-then-past-eq0 : goal.returns-then-past-eq0
 unfolding parts_in
 returns-then-past-eq0 c =
     let s = c.args.s.now in
     let l = c.loop-buffer in
-    let m = (goal.at.returns-then-past-eq0 c).Joined-outer-eq1 in
+    let m = (goal.at.returns-then-past-eq0 c).Joined-outer in
     let w = broken m c.if-past-eq0.true in
-    parts-broken s (elements (value 15 s) s c.args.at) c.if-outer-eq1.buffer (moved m).room c.no_parts-then-past-eq0.result
+    parts-broken s (elements (value 15 s) s c.args.at) c.match-outer.buffer (moved m).room c.no_parts-then-past-eq0.result
     (c.no_parts-then-past-eq0.ensures ∙ fold-wrong (over_parts s) l.parts l.invariant.told w)
     (fold-wrong (over_spans s) l.invariant.done l.invariant.spans w)
 
 pub pass-parts-requires : goal.pass-parts-requires
 pass-parts-requires c =
-    let m = (goal.at.pass-parts-requires c).Joined-outer-eq1 in
+    let m = (goal.at.pass-parts-requires c).Joined-outer in
     step_value (text m) (parts m) (i m) (read m) c.if-past-eq0.false
 
 -- ---- no comma behind the element
@@ -130,11 +130,11 @@ unfolding parts_in
 returns-in_default-array_close_end c =
     let s = c.args.s.now in
     let l = c.loop-buffer in
-    let m = (goal.at.returns-in_default-array_close_end c).Joined-outer-eq1 in
+    let m = (goal.at.returns-in_default-array_close_end c).Joined-outer in
     let one = stands m c.if-past-eq0.false in
     let comma = sym c.comma_end.ensures ∙ c.in_default-comma_end.is in
     let close = sym c.array_close_end-in_default-comma_end.ensures ∙ c.in_default-array_close_end.is in
-    parts-broken s (elements (value 15 s) s c.args.at) c.if-outer-eq1.buffer (moved m).room c.no_parts-in_default-array_close_end.result
+    parts-broken s (elements (value 15 s) s c.args.at) c.match-outer.buffer (moved m).room c.no_parts-in_default-array_close_end.result
     (c.no_parts-in_default-array_close_end.ensures ∙ fold-broken (over_parts s) l.parts l.invariant.told one comma close)
     (fold-broken (over_spans s) l.invariant.done l.invariant.spans one comma close)
 
@@ -143,18 +143,18 @@ unfolding parts_in
 returns-in_default-comma_end c =
     let s = c.args.s.now in
     let l = c.loop-buffer in
-    let m = (goal.at.returns-in_default-comma_end c).Joined-outer-eq1 in
+    let m = (goal.at.returns-in_default-comma_end c).Joined-outer in
     let some = c.if-past-eq0.false in
     let one = stands m some in
     let comma = sym c.comma_end.ensures ∙ c.in_default-comma_end.is in
     let end = c.in-Some-array_close_end.end in
     let close = sym c.in-Some-array_close_end.ensures in
     let p = c.pass-parts in
-    parts-read s (elements (value 15 s) s c.args.at) c.if-outer-eq1.buffer (moved m).room _
+    parts-read s (elements (value 15 s) s c.args.at) c.match-outer.buffer (moved m).room _
     (fold-last (over_parts s) l.parts l.invariant.told one comma end close (step_part s l.parts l.i (read m) some p.result p.ensures))
-    (l.invariant.done ++ (record { from = l.i; to = c.if-outer-eq1.past } ∷ []))
+    (l.invariant.done ++ (record { from = l.i; to = c.match-outer.past } ∷ []))
     (fold-last (over_spans s) l.invariant.done l.invariant.spans one comma end close refl)
-    (bears-on m some p.result p.ensures c.if-outer-eq1.past (omega arith))
+    (bears-on m some p.result p.ensures c.match-outer.past (omega arith))
 
 -- ---- a comma
 
@@ -162,7 +162,7 @@ pub loop-buffer-smaller : goal.loop-buffer-smaller
 loop-buffer-smaller c =
     let s = c.args.s.now in
     let l = c.loop-buffer in
-    let m = (goal.at.loop-buffer-smaller c).Joined-outer-eq1 in
+    let m = (goal.at.loop-buffer-smaller c).Joined-outer in
     let f = fold-further (over_parts s) l.parts l.invariant.told (stands m c.if-past-eq0.false) c.in-Some-comma_end.next (sym c.in-Some-comma_end.ensures) in
     omega arith
 
@@ -170,7 +170,7 @@ pub loop-buffer-preserved : goal.loop-buffer-preserved
 loop-buffer-preserved c =
     let s = c.args.s.now in
     let l = c.loop-buffer in
-    let m = (goal.at.loop-buffer-preserved c).Joined-outer-eq1 in
+    let m = (goal.at.loop-buffer-preserved c).Joined-outer in
     let some = c.if-past-eq0.false in
     let one = stands m some in
     let j = c.in-Some-comma_end.next in
@@ -180,7 +180,7 @@ loop-buffer-preserved c =
     record {
       told = fold_on (over_parts s) l.parts l.invariant.told one j comma (step_part s l.parts l.i (read m) some p.result p.ensures);
       room = (moved m).room;
-      done = l.invariant.done ++ (record { from = l.i; to = c.if-outer-eq1.past } ∷ []);
+      done = l.invariant.done ++ (record { from = l.i; to = c.match-outer.past } ∷ []);
       spans = fold_on (over_spans s) l.invariant.done l.invariant.spans one j comma refl;
       bears = bears-on m some p.result p.ensures j f.1;
     }

@@ -7,7 +7,6 @@ use mathlib.Core.Bool.{true, false, true≢false}
 use mathlib.Core.List.{List}
 use Rattle.text.specs.Text.{byte_at}
 use Rattle.json_tokens.specs.Tokens.{separator, closing}
-use Rattle.json_tokens.specs.Ends.{end_of}
 use Rattle.json_values.specs.Json.{Span, Pair, Items, items, no_items, member, members, value}
 use Rattle.json_values.specs.Fold.{fold_from, folded_in}
 use Rattle.json_values.proofs.Fold.{Loop, Left, Stands, made, over_members, fold_on, fold-last}
@@ -47,16 +46,16 @@ module _ (d : ℕ) (s : List ℕ) (step : Option (List Entry) → Pair → Optio
 
   -- the member there was read, and ends at e
   module _ {t u : Tally} {i e : ℕ} {m : Pair} {before after : List ℕ} (h : Added s m.value t u (λ x. step x m) before after) (n : m.value.to ≡ 0 → ⊥)
-      (stands : Stands (member (value d s) s) s i m e) {all : Option (List Entry)} (g : Holding t i before all) (l : ℕ) (c : l ≡ end_of (separator 44 s e)) where
+      (stands : Stands (member (value d s) s) s i m e) {all : Option (List Entry)} (g : Holding t i before all) where
     -- a comma follows
-    pub holding-on : (l ≡ 0 → ⊥) → Holding u l after all
-    holding-on o =
+    pub holding-on : (l : ℕ) → separator 44 s e ≡ Some l → Holding u l after all
+    holding-on l c =
         let q = h.kept n g.x g.tells g.kept in
-        record { x = step g.x m; left = fold_on over_held g.x g.left stands l c o refl; tells = q.0; kept = q.1 }
+        record { x = step g.x m; left = fold_on over_held g.x g.left stands l c refl; tells = q.0; kept = q.1 }
 
     -- the object ends
-    pub holding-last : l ≡ 0 → (k : ℕ) → k ≡ end_of (closing 125 s e) → (k ≡ 0 → ⊥) → Tells s all u × Kept s all after
-    holding-last z k y o =
+    pub holding-last : separator 44 s e ≡ None → (k : ℕ) → closing 125 s e ≡ Some k → Tells s all u × Kept s all after
+    holding-last z k y =
         let q = h.kept n g.x g.tells g.kept in
-        let e : step g.x m ≡ all = fold-last over_held g.x g.left stands l c z k y o refl in
+        let e : step g.x m ≡ all = fold-last over_held g.x g.left stands z k y refl in
         (subst (λ (x : Option (List Entry)). Tells s x u) e q.0, subst (λ (x : Option (List Entry)). Kept s x after) e q.1)

@@ -1,6 +1,6 @@
 -- One member more, as the code finds it.
 -- Assumes nothing.
-use Rattle.std.specs.Prelude.{None, Option, Some, ℕ}
+use Rattle.std.specs.Prelude.{None, Option, Some, ℕ, unwrap_or}
 use mathlib.Core.Path.{◌≡◌, refl, sym, ap, ◌∙◌, subst}
 use mathlib.Core.List.{List, [], ◌∷◌}
 use mathlib.Core.Bool.{Bool, true, false, ◌&&◌, ◌||◌, cond}
@@ -26,6 +26,7 @@ use Rattle.entries.specs.Tally.{met as count, told_not, told_at, spans_tally, ar
 use Rattle.entries.specs.declared.Form.TheVariants as forms
 use Rattle.entries.specs.declared.Entries.{Entries}
 use Rattle.entries.specs.declared.Tally.{Tally}
+use Rattle.entries.proofs.Entry.{end-or-zero}
 use Rattle.entries.proofs.Tallies.{tells_more, kept_more}
 use Rattle.layout.specs.MemberSpans.{few_more, with_member_span, on_hit}
 use Rattle.layout.specs.declared.MemberSpan.{MemberSpan}
@@ -35,6 +36,10 @@ use Rattle.message_m.specs.Collected.{with_held, tally_with, more_data, data_fro
 use Rattle.message_m.specs.declared.Data.{Data}
 use Rattle.message_m.specs.declared.Body.{Body}
 use Rattle.message_m.specs.declared.Members.{Members}
+
+-- ---- an end as a number
+pub end-read : {e : ℕ} {r x : Option ℕ} → e ≡ unwrap_or r 0 → r ≡ x → e ≡ end_of x
+end-read {e} {r} p q = p ∙ end-or-zero r ∙ ap end_of q
 
 -- ---- which of our names it is
 -- the tests by number are the tests by name
@@ -55,53 +60,6 @@ keyed s a =
 
 pub data-key : (s : List ℕ) (a : Span) (k : ℕ) → k ≡ key_of s a → eqb k 4 ≡ means s a (ascii "data")
 data-key s a k h = ap (λ (n : ℕ). eqb n 4) h ∙ (keyed s a).body
-
--- the code's chain of tests; each case takes what the tests before it found
-module _ (s : List ℕ) (a : Span) where
-  pub key-channel : means s a (ascii "channel") ≡ true → 1 ≡ key_of s a
-  unfolding key_of
-  key-channel y = sym (rw y)
-
-  module _ (c : means s a (ascii "channel") ≡ false) where
-    pub key-product : means s a (ascii "product") ≡ true → 2 ≡ key_of s a
-    unfolding key_of
-    key-product y = sym (rw (c, y))
-
-    module _ (p : means s a (ascii "product") ≡ false) where
-      pub key-type : means s a (ascii "type") ≡ true → 3 ≡ key_of s a
-      unfolding key_of
-      key-type y = sym (rw (c, p, y))
-
-      module _ (t : means s a (ascii "type") ≡ false) where
-        pub key-data : means s a (ascii "data") ≡ true → 4 ≡ key_of s a
-        unfolding key_of
-        key-data y = sym (rw (c, p, t, y))
-
-        module _ (d : means s a (ascii "data") ≡ false) where
-          pub key-checksum : means s a (ascii "checksum") ≡ true → 5 ≡ key_of s a
-          unfolding key_of
-          key-checksum y = sym (rw (c, p, t, d, y))
-
-          module _ (k : means s a (ascii "checksum") ≡ false) where
-            pub key-gsn : means s a (ascii "gsn") ≡ true → 6 ≡ key_of s a
-            unfolding key_of
-            key-gsn y = sym (rw (c, p, t, d, k, y))
-
-            module _ (g : means s a (ascii "gsn") ≡ false) where
-              pub key-previous : means s a (ascii "prev_gsn") ≡ true → 7 ≡ key_of s a
-              unfolding key_of
-              key-previous y = sym (rw (c, p, t, d, k, g, y))
-
-              pub key-other : means s a (ascii "prev_gsn") ≡ false → 0 ≡ key_of s a
-              unfolding key_of
-              key-other y = sym (rw (c, p, t, d, k, g, y))
-
--- ---- the values that are compared
-pub and_yes : (x : Bool) (k n : ℕ) → k ≡ n → x ≡ (eqb k n && x)
-and_yes x k n h = sym (rw (eq-eqb k n h))
-
-pub and_no : (x : Bool) (k n : ℕ) → (k ≡ n → ⊥) → false ≡ (eqb k n && x)
-and_no x k n h = sym (rw (ne_eqb k n h))
 
 -- ---- a side of `data`
 

@@ -4,7 +4,7 @@ use Rattle.std.specs.Prelude.{None, Option, Some, ℕ}
 use mathlib.Core.Path.{◌≡◌, refl, sym, ap, ap₂, ◌∙◌, subst}
 use mathlib.Core.List.{List, [], ◌∷◌}
 use mathlib.Core.Bool.{Bool, true, false, ◌&&◌, ◌||◌, cond, or_assoc, or-false}
-use Prim.Native.Nat.{ℕ, ◌+◌, ◌≤◌, ◌<◌}
+use Prim.Native.Nat.{ℕ, ◌+◌, ◌≤◌}
 use native.Mathlib.Omega.{arith}
 use lib.Dec.{eqb}
 use lib.ListN.{length}
@@ -62,14 +62,14 @@ module _ (s : List ℕ) (t : Tally) (at : ℕ) where
   unfolding data_of data_from
   data-none n h = ap (λ (e : ℕ). no_data e t) h ∙ made_other made 14 s at n
 
-  module _ (opens : byte_at s at ≡ 123) (e : ℕ) (h : e ≡ end_of (closing 125 s (at + 1))) where
-    pub data-empty : 0 < e → no_data e t ≡ data_at s t at
+  module _ (opens : byte_at s at ≡ 123) where
+    pub data-empty : (e : ℕ) → closing 125 s (at + 1) ≡ Some e → no_data e t ≡ data_at s t at
     unfolding data_of
-    data-empty p = made-empty made 14 s at opens (more_data s) data_end (no_data 0 t) (data-folds s t) e h p
+    data-empty e h = made-empty made 14 s at opens (more_data s) data_end (no_data 0 t) (data-folds s t) e h
 
-    pub data-start : e ≡ 0 → (k : ℕ) → k ≡ blanks s (at + 1) → Left (data_loop s t) (no_data 0 t) k (data_at s t at)
+    pub data-start : closing 125 s (at + 1) ≡ None → (k : ℕ) → k ≡ blanks s (at + 1) → Left (data_loop s t) (no_data 0 t) k (data_at s t at)
     unfolding data_of data_from
-    data-start z k b = made-start made 14 s at opens (more_data s) data_end (no_data 0 t) (data-folds s t) e h z k b
+    data-start h k b = made-start made 14 s at opens (more_data s) data_end (no_data 0 t) (data-folds s t) h k b
 
 -- what their members hold is told
 held_tells : (s : List ℕ) (x : Option (List Entry)) (t : Tally) (m : Pair) → Tells s x t → Tells s (with_held s x m) (tally_with s t m)
@@ -421,14 +421,14 @@ module _ (linked : Bool) (name s : List ℕ) (at : ℕ) where
   unfolding scan_of and_then
   told_none n h = ap not_framed h ∙ made_other (told_from linked name s) 15 s at n ∙ told_is linked name s at
 
-  module _ (opens : byte_at s at ≡ 123) (e : ℕ) (h : e ≡ end_of (closing 125 s (at + 1))) where
-    pub told-empty : 0 < e → scan_in linked s e no_members ≡ scan_at (envelope_m linked name) s at
-    told-empty p = made-empty (told_from linked name s) 15 s at opens (more_members name s) (scan_in linked s) no_members (told-folds linked name s) e h p ∙ told_is linked name s at
+  module _ (opens : byte_at s at ≡ 123) where
+    pub told-empty : (e : ℕ) → closing 125 s (at + 1) ≡ Some e → scan_in linked s e no_members ≡ scan_at (envelope_m linked name) s at
+    told-empty e h = made-empty (told_from linked name s) 15 s at opens (more_members name s) (scan_in linked s) no_members (told-folds linked name s) e h ∙ told_is linked name s at
 
-    pub told-start : e ≡ 0 → (k : ℕ) → k ≡ blanks s (at + 1) → Left (message_loop linked name s) no_members k (scan_at (envelope_m linked name) s at)
+    pub told-start : closing 125 s (at + 1) ≡ None → (k : ℕ) → k ≡ blanks s (at + 1) → Left (message_loop linked name s) no_members k (scan_at (envelope_m linked name) s at)
     unfolding scan_of and_then
-    told-start z k b =
-        rw (told_is linked name s at) at (made-start (told_from linked name s) 15 s at opens (more_members name s) (scan_in linked s) no_members (told-folds linked name s) e h z k b)
+    told-start h k b =
+        rw (told_is linked name s at) at (made-start (told_from linked name s) 15 s at opens (more_members name s) (scan_in linked s) no_members (told-folds linked name s) h k b)
 
 -- the places of the three numbers' marks
 abbrev pub Marked : List ℕ → Members → Type 0

@@ -4,31 +4,32 @@
 // layout is decided once all were met.
 #![tactic(auto)]
 
-ghost use Rattle.std.specs.Prelude.{◌≡◌, ◌&&◌, eqb, ◌≤◌, length};
-ghost use Rattle.text.specs.Text.{ascii};
-ghost use Rattle.decimal.specs.Reads.{parsed_checksum, parsed_whole};
+ghost use Rattle.std.specs.Prelude.{◌≡◌, ◌&&◌, eqb, ◌≤◌, ◌+◌, length, None, option_map, unwrap_or};
+ghost use Rattle.text.specs.Text.{ascii, byte_at};
+ghost use Rattle.json_tokens.specs.Bytes.{open_object, close_object};
 ghost use Rattle.json_tokens.specs.Ends.{end_of};
+ghost use Rattle.json_tokens.specs.Tokens.{closing};
 ghost use Rattle.json_values.specs.Json.{value};
-ghost use Rattle.json_values.specs.Names.{means};
+ghost use Rattle.json_values.specs.Names.{means, part};
 ghost use Rattle.entries.specs.Places.{and_then, whole_at, checksum_at};
 ghost use Rattle.layout.specs.Depths.{item_depth, side_depth};
 ghost use Rattle.layout.specs.MemberSpans.{with_member_span, on_hit, member_at, once_at};
 ghost use Rattle.edit.specs.Buffer.{buffer_words};
-ghost use Rattle.entries.specs.Tally.{met as count};
-ghost use Rattle.layout.specs.Scan.{Scanned, following};
+ghost use Rattle.entries.specs.Tally.{met as count, Met};
+ghost use Rattle.layout.specs.Scan.{Scanned, not_framed};
 ghost use Rattle.message_m.specs.LayoutM.{envelope_m};
-ghost use Rattle.message_m.specs.Collected.{no_data, data_end, MoreData, DataRead, channel_key, product_key, data_key, key_of, MoreBody, no_members, MoreMembers, numbers_in, body_in, outline_in, linked_outline, scan_in, Placed};
+ghost use Rattle.message_m.specs.Collected.{no_data, MoreData, DataRead, channel_key, product_key, data_key, key_of, MoreBody, no_members, MoreMembers, numbers_in, body_in, outline_in, linked_outline, scan_in, Placed};
 
-use decimal::{ParsedChecksum, ParsedWhole, parse_checksum, parse_whole};
+use decimal::{parse_checksum, parse_whole};
 use edit::{BUFFER_WORDS, Side};
-use entries::{Form, Tally, entries_at, none_yet};
+use entries::{Entries, Form, Tally, entries_at, none_yet};
 use json_tokens::{OPEN_OBJECT, colon_end, comma_end, object_close_end, skip_blanks, string_end};
 use json_values::{MAX_DEPTH, is_name, item_end, value_end};
 use layout::{
     ITEM_DEPTH, Kind, MemberSpan, Outline, SIDE_DEPTH, Scan, few_more, is_snapshot, no_member_span,
     no_outline, not_framed, outline_of, with_member_span,
 };
-use text::{both, byte_at, either};
+use text::byte_at;
 
 // Which of our names a member of the message has.
 const OTHER: usize = 0;
@@ -99,40 +100,43 @@ pub fn m_message(
     ensures { Scanned (envelope_m linked name.now) s.now at buffer.new result }
 {
     if byte_at(s, at) != OPEN_OBJECT {
-        return not_framed(value_end(s, at, MAX_DEPTH));
+        return not_framed(value_end(s, at, MAX_DEPTH).unwrap_or(0));
     }
-    let none = object_close_end(s, at + 1);
-    if 0 < none {
-        return scan(s, linked, no_members(), none);
+    if let Some(end) = object_close_end(s, at + 1) {
+        return scan(s, linked, no_members(), end);
     }
+    read_members(s, at, linked, name, buffer).unwrap_or(not_framed(0))
+}
+
+// The same of an object that has members, or `None` where it is not JSON.
+fn read_members(
+    s: &[u8],
+    at: usize,
+    linked: bool,
+    name: &[u8],
+    buffer: &mut [u64; BUFFER_WORDS],
+) -> Option<Scan>
+    requires { (byte_at s.now at ≡ open_object) × (closing close_object s.now (at + 1) ≡ None) × (length buffer.old ≡ buffer_words) }
+    ensures { Scanned (envelope_m linked name.now) s.now at buffer.new (unwrap_or result (not_framed 0)) }
+{
     let mut i = skip_blanks(s, at + 1);
     let mut met = no_members();
     loop {
-        let name_to = string_end(s, i);
-        if name_to == 0 {
-            return not_framed(0);
-        }
-        let from = colon_end(s, name_to);
-        if from == 0 {
-            return not_framed(0);
-        }
+        let name_to = string_end(s, i)?;
+        let from = colon_end(s, name_to)?;
         let next = more_members(s, met, i, name_to, from, name, buffer);
         let to = next.body.end;
         if to == 0 {
-            return not_framed(0);
+            return None;
         }
-        let j = comma_end(s, to);
-        if j == 0 {
-            let end = object_close_end(s, to);
-            if end == 0 {
-                return not_framed(0);
-            }
+        let Some(past_comma) = comma_end(s, to) else {
+            let end = object_close_end(s, to)?;
             // A copy is handed on, so that what the loop carries can stay in registers.
             let last = next;
-            return scan(s, linked, last, end);
-        }
+            return Some(scan(s, linked, last, end));
+        };
         met = next;
-        i = j;
+        i = past_comma;
     }
 }
 
@@ -175,8 +179,8 @@ fn more_members(
     let to = body.end;
     Members {
         body,
-        is_book: either(met.is_book, is_book(s, key, from, to)),
-        is_product: either(met.is_product, is_product(s, key, from, to, name)),
+        is_book: met.is_book || is_book(s, key, from, to),
+        is_product: met.is_product || is_product(s, key, from, to, name),
         channel: more_spans(met.channel, key, CHANNEL, from, to),
         product: more_spans(met.product, key, PRODUCT, from, to),
         kind: more_spans(met.kind, key, TYPE, from, to),
@@ -187,61 +191,53 @@ fn more_members(
 }
 
 // Which of our names the string from `from` to `to` means.
+#[tactic(auto, unfolding(crate::specs::Collected::key_of))]
 fn key_of(s: &[u8], from: usize, to: usize) -> usize
     ensures { result ≡ key_of s.now (record { from = from; to = to }) }
 {
     if is_name(s, from, to, b"channel") {
-        return CHANNEL;
+        CHANNEL
+    } else if is_name(s, from, to, b"product") {
+        PRODUCT
+    } else if is_name(s, from, to, b"type") {
+        TYPE
+    } else if is_name(s, from, to, b"data") {
+        DATA
+    } else if is_name(s, from, to, b"checksum") {
+        CHECKSUM
+    } else if is_name(s, from, to, b"gsn") {
+        GSN
+    } else if is_name(s, from, to, b"prev_gsn") {
+        PREVIOUS
+    } else {
+        OTHER
     }
-    if is_name(s, from, to, b"product") {
-        return PRODUCT;
-    }
-    if is_name(s, from, to, b"type") {
-        return TYPE;
-    }
-    if is_name(s, from, to, b"data") {
-        return DATA;
-    }
-    if is_name(s, from, to, b"checksum") {
-        return CHECKSUM;
-    }
-    if is_name(s, from, to, b"gsn") {
-        return GSN;
-    }
-    if is_name(s, from, to, b"prev_gsn") {
-        return PREVIOUS;
-    }
-    OTHER
 }
 
 // The members of one name, and one member more.
+#[tactic(auto, using(std::proofs::lemmas::Bool::Decides::nat_tests), unfolding(layout::specs::MemberSpans::on_hit))]
 fn more_spans(mark: MemberSpan, key: usize, name: usize, from: usize, to: usize) -> MemberSpan
     ensures { result ≡ on_hit (eqb key name) with_member_span mark (record { from = from; to = to }) }
 {
     if key == name {
-        return with_member_span(mark, from, to);
+        with_member_span(mark, from, to)
+    } else {
+        mark
     }
-    mark
 }
 
 // Whether the member is a `channel` that is `book`.
 fn is_book(s: &[u8], key: usize, from: usize, to: usize) -> bool
     ensures { result ≡ (eqb key channel_key && means s.now (record { from = from; to = to }) (ascii "book")) }
 {
-    if key == CHANNEL {
-        return is_name(s, from, to, b"book");
-    }
-    false
+    key == CHANNEL && is_name(s, from, to, b"book")
 }
 
 // Whether the member is a `product` that is the book's name.
 fn is_product(s: &[u8], key: usize, from: usize, to: usize, name: &[u8]) -> bool
     ensures { result ≡ (eqb key product_key && means s.now (record { from = from; to = to }) name.now) }
 {
-    if key == PRODUCT {
-        return is_name(s, from, to, name);
-    }
-    false
+    key == PRODUCT && is_name(s, from, to, name)
 }
 
 // The members `data`, and one member more, whose value is read here, whatever its name.
@@ -264,10 +260,9 @@ fn more_body(
             last: by_fields(data),
         };
     }
-    let mark = body.mark;
     Body {
-        end: item_end(s, from, ITEM_DEPTH),
-        mark,
+        end: item_end(s, from, ITEM_DEPTH).unwrap_or(0),
+        mark: body.mark,
         last: by_fields(last),
     }
 }
@@ -297,38 +292,35 @@ fn m_data(s: &[u8], at: usize, before: Tally, buffer: &mut [u64; BUFFER_WORDS]) 
     ensures { DataRead s.now before (record { from = at; to = end_of (value item_depth s.now at) }) buffer.old buffer.new result }
 {
     if byte_at(s, at) != OPEN_OBJECT {
-        return no_data(value_end(s, at, ITEM_DEPTH), before);
+        return no_data(value_end(s, at, ITEM_DEPTH).unwrap_or(0), before);
     }
-    let none = object_close_end(s, at + 1);
-    if 0 < none {
-        return no_data(none, before);
+    if let Some(end) = object_close_end(s, at + 1) {
+        return no_data(end, before);
     }
+    read_sides(s, at, before, buffer).unwrap_or(no_data(0, before))
+}
+
+// The same of an object that has members, or `None` where it is not JSON.
+fn read_sides(s: &[u8], at: usize, before: Tally, buffer: &mut [u64; BUFFER_WORDS]) -> Option<Data>
+    requires { (count before ≤ at) × (byte_at s.now at ≡ open_object) × (closing close_object s.now (at + 1) ≡ None) × (length buffer.old ≡ buffer_words) }
+    ensures { DataRead s.now before (record { from = at; to = end_of (value item_depth s.now at) }) buffer.old buffer.new (unwrap_or result (no_data 0 before)) }
+{
     let mut i = skip_blanks(s, at + 1);
     let mut met = no_data(0, before);
     loop {
-        let name_to = string_end(s, i);
-        if name_to == 0 {
-            return no_data(0, before);
-        }
-        let from = colon_end(s, name_to);
-        if from == 0 {
-            return no_data(0, before);
-        }
+        let name_to = string_end(s, i)?;
+        let from = colon_end(s, name_to)?;
         let next = more_data(s, met, i, name_to, from, buffer);
         let to = next.end;
         if to == 0 {
-            return no_data(0, before);
+            return None;
         }
-        let j = comma_end(s, to);
-        if j == 0 {
-            let end = object_close_end(s, to);
-            if end == 0 {
-                return no_data(0, before);
-            }
-            return data_end(next, end);
-        }
+        let Some(past_comma) = comma_end(s, to) else {
+            let end = object_close_end(s, to)?;
+            return Some(Data { end, ..next });
+        };
         met = next;
-        i = j;
+        i = past_comma;
     }
 }
 
@@ -345,53 +337,41 @@ fn more_data(
     ensures { MoreData s.now met (member_at side_depth s.now first past from) buffer.old buffer.new result }
 {
     if is_name(s, first, past, b"bids") {
-        let read = entries_at(
-            s,
-            from,
-            SIDE_DEPTH,
-            Form::Pair,
-            Side::Bids,
-            met.tally,
-            buffer,
-        );
-        let tally = read.tally;
+        let read = side_at(s, from, Side::Bids, met.tally, buffer);
         return Data {
             end: read.end,
             bids: few_more(met.bids),
             asks: met.asks,
-            tally,
+            tally: read.tally,
         };
     }
     if is_name(s, first, past, b"asks") {
-        let read = entries_at(
-            s,
-            from,
-            SIDE_DEPTH,
-            Form::Pair,
-            Side::Asks,
-            met.tally,
-            buffer,
-        );
-        let tally = read.tally;
+        let read = side_at(s, from, Side::Asks, met.tally, buffer);
         return Data {
             end: read.end,
             bids: met.bids,
             asks: few_more(met.asks),
-            tally,
+            tally: read.tally,
         };
     }
-    let mut next = met;
-    next.end = item_end(s, from, SIDE_DEPTH);
-    next
+    Data {
+        end: item_end(s, from, SIDE_DEPTH).unwrap_or(0),
+        ..met
+    }
 }
 
-// An object that ends at `end`, with the sides that were met in it.
-fn data_end(met: Data, end: usize) -> Data
-    ensures { result ≡ data_end end met }
+// The entries of a side, after those that were met before.
+fn side_at(
+    s: &[u8],
+    at: usize,
+    side: Side,
+    before: Tally,
+    buffer: &mut [u64; BUFFER_WORDS],
+) -> Entries
+    requires { (count before ≤ at) × (length buffer.old ≡ buffer_words) }
+    ensures { Met 0 s.now side_depth Form.Pair side before at buffer.old buffer.new result }
 {
-    let mut next = met;
-    next.end = end;
-    next
+    entries_at(s, at, SIDE_DEPTH, Form::Pair, side, before, buffer)
 }
 
 // A value that ends at `end` and has no sides; `before` was told before it.
@@ -407,6 +387,7 @@ fn no_data(end: usize, before: Tally) -> Data
 }
 
 // What the members of a message that ends at `end` tell of it.
+#[tactic(auto, unfolding(crate::specs::Collected::scan_in))]
 fn scan(s: &[u8], linked: bool, met: Members, end: usize) -> Scan
     requires { Placed s.now met.checksum × Placed s.now met.gsn × Placed s.now met.previous }
     ensures { result ≡ scan_in linked s.now end met }
@@ -415,56 +396,37 @@ fn scan(s: &[u8], linked: bool, met: Members, end: usize) -> Scan
     Scan {
         end,
         framed: true,
-        ours: both(met.is_book, met.is_product),
+        ours: met.is_book && met.is_product,
         outline: linked_outline(s, linked, met.previous, outline),
     }
 }
 
 // The layout of a message, where an update may have to name the sequence number before its own.
+#[tactic(auto, unfolding(crate::specs::Collected::outline_where, crate::specs::Collected::linked_outline))]
 fn linked_outline(s: &[u8], linked: bool, previous: MemberSpan, outline: Outline) -> Outline
     requires { Placed s.now previous }
     ensures { result ≡ linked_outline linked s.now previous outline }
 {
-    let kind = outline.kind;
-    if linked {
-        if outline.well_formed {
-            if is_snapshot(kind) {
-                return outline;
-            }
-            return match gsn_of(s, previous) {
-                ParsedWhole::Number(number) => follow(number, outline),
-                ParsedWhole::Refused => no_outline(),
-            };
-        }
+    if !linked || !outline.well_formed || is_snapshot(outline.kind) {
         return outline;
     }
-    outline
-}
-
-// The layout with the sequence number before its own.
-fn follow(previous: u64, outline: Outline) -> Outline
-    ensures { result ≡ following previous outline }
-{
-    let mut next = outline;
-    next.previous = previous;
-    next
+    let Some(number) = gsn_of(s, previous) else {
+        return no_outline();
+    };
+    Outline {
+        previous: number,
+        ..outline
+    }
 }
 
 // The layout, out of the members that were met.
+#[tactic(auto, using(std::proofs::lemmas::Bool::Decides::nat_tests), unfolding(layout::specs::MemberSpans::once_at, entries::specs::Places::and_then, crate::specs::Collected::outline_where, crate::specs::Collected::outline_in, crate::specs::LayoutM::kind_at))]
 fn m_outline(s: &[u8], met: Members) -> Outline
     requires { Placed s.now met.checksum × Placed s.now met.gsn }
     ensures { result ≡ outline_in s.now met }
 {
-    let channel = met.channel;
-    let product = met.product;
     let kind = met.kind;
-    if channel.times != 1 {
-        return no_outline();
-    }
-    if product.times != 1 {
-        return no_outline();
-    }
-    if kind.times != 1 {
+    if met.channel.times != 1 || met.product.times != 1 || kind.times != 1 {
         return no_outline();
     }
     if is_name(s, kind.from, kind.to, b"snapshot") {
@@ -477,25 +439,21 @@ fn m_outline(s: &[u8], met: Members) -> Outline
 }
 
 // The layout from `data` on.
+#[tactic(auto, using(std::proofs::lemmas::Bool::Decides::nat_tests), unfolding(layout::specs::MemberSpans::once_at, crate::specs::Collected::outline_where, crate::specs::Collected::body_in, crate::specs::Collected::sides_in))]
 fn body_outline(s: &[u8], kind: Kind, met: Members) -> Outline
     requires { Placed s.now met.checksum × Placed s.now met.gsn }
     ensures { result ≡ body_in s.now kind met }
 {
     let body = met.body;
     let data = body.last;
-    if body.mark.times != 1 {
-        return no_outline();
-    }
-    if data.bids != 1 {
-        return no_outline();
-    }
-    if data.asks != 1 {
+    if body.mark.times != 1 || data.bids != 1 || data.asks != 1 {
         return no_outline();
     }
     numbers_outline(s, kind, data.tally, met.checksum, met.gsn)
 }
 
 // The layout from the checksum on.
+#[tactic(auto, unfolding(crate::specs::Collected::outline_where, crate::specs::Collected::numbers_in))]
 fn numbers_outline(
     s: &[u8],
     kind: Kind,
@@ -506,37 +464,41 @@ fn numbers_outline(
     requires { Placed s.now checksum × Placed s.now gsn }
     ensures { result ≡ numbers_in s.now kind tally checksum gsn }
 {
-    match checksum_of(s, checksum) {
-        ParsedChecksum::Number(sum) => match gsn_of(s, gsn) {
-            ParsedWhole::Number(number) => { outline_of(kind, tally, true, sum, number) }
-            ParsedWhole::Refused => no_outline(),
-        },
-        ParsedChecksum::Refused => no_outline(),
-    }
+    let Some(sum) = checksum_of(s, checksum) else {
+        return no_outline();
+    };
+    let Some(number) = gsn_of(s, gsn) else {
+        return no_outline();
+    };
+    outline_of(kind, tally, true, sum, number)
 }
 
 // The checksum, if its member was met once and holds one.
-fn checksum_of(s: &[u8], mark: MemberSpan) -> ParsedChecksum
+#[tactic(auto, unfolding(entries::specs::Places::and_then, entries::specs::Places::checksum_at))]
+fn checksum_of(s: &[u8], mark: MemberSpan) -> Option<u32>
     requires { Placed s.now mark }
-    ensures { parsed_checksum result ≡ and_then (once_at mark) (checksum_at s.now) }
+    ensures { result ≡ and_then (once_at mark) (checksum_at s.now) }
 {
-    let from = mark.from;
-    let to = mark.to;
-    if mark.times != 1 {
-        return ParsedChecksum::Refused;
-    }
-    parse_checksum(&s[from..to])
+    parse_checksum(only_text(s, mark)?)
 }
 
 // The sequence number, if its member was met once and holds one.
-fn gsn_of(s: &[u8], mark: MemberSpan) -> ParsedWhole
+#[tactic(auto, unfolding(entries::specs::Places::and_then, entries::specs::Places::whole_at))]
+fn gsn_of(s: &[u8], mark: MemberSpan) -> Option<u64>
     requires { Placed s.now mark }
-    ensures { parsed_whole result ≡ and_then (once_at mark) (whole_at s.now) }
+    ensures { result ≡ and_then (once_at mark) (whole_at s.now) }
 {
-    let from = mark.from;
-    let to = mark.to;
+    parse_whole(only_text(s, mark)?)
+}
+
+// The text of a value, if its member was met once.
+#[tactic(auto, using(std::proofs::lemmas::Bool::Decides::nat_tests), unfolding(layout::specs::MemberSpans::once_at, json_values::specs::Names::part))]
+fn only_text(s: &[u8], mark: MemberSpan) -> Option<&[u8]>
+    requires { Placed s.now mark }
+    ensures { option_map (λ t. t.now) result ≡ option_map (part s.now) (once_at mark) }
+{
     if mark.times != 1 {
-        return ParsedWhole::Refused;
+        return None;
     }
-    parse_whole(&s[from..to])
+    Some(&s[mark.from..mark.to])
 }

@@ -6,7 +6,7 @@ use lib.Dec.{eqb}
 use Rattle.json_tokens.specs.Ends.{end_of}
 use Rattle.json_values.specs.Json.{Span, value}
 use Rattle.message_m.specs.declared.Data.{Data}
-use Rattle.message_m.proofs.Steps.{body-data, body-other, added-as, added-told, added_none, body-held, body-passed}
+use Rattle.message_m.proofs.Steps.{end-read, body-data, body-other, added-as, added-told, added_none, body-held, body-passed}
 use Rattle.message_m.proofs.more_body.Goals as goal
 
 pub m_data-data-requires : goal.m_data-data-requires
@@ -38,8 +38,8 @@ returns c =
     let n = c.if-key-eq-DATA.false in
     record {
       told =
-          ap (λ (x : Data). record { end = c.item_end.result; mark = a.body.mark; last = x }) c.by_fields-2.ensures
-          ∙ body-other s a.body v a.key 4 n c.item_end.ensures;
+          ap (λ (x : Data). record { end = c.unwrap_or.result; mark = a.body.mark; last = x }) c.by_fields-2.ensures
+          ∙ body-other s a.body v a.key 4 n (end-read c.unwrap_or.ensures c.item_end.ensures);
       added =
           added-told (ap (λ (x : Data). x.tally) c.by_fields-2.ensures)
           (added-as (added_none s 15 a.from a.body.last.tally a.buffer.now b.requires.0 b.requires.1) (λ x. body-passed s (eqb a.key 4) x v (ne_eqb a.key 4 n)));

@@ -1,0 +1,10 @@
+use Prim.Native.Nat.{◌-◌}
+use lib.ListN.{length}
+use Rattle.message_m.proofs.Keeping.{MessageGoing}
+use Rattle.message_m.proofs.read_members.Given as goal
+
+abbrev pub invariant-loop-name_to : goal.invariant-loop-name_to
+invariant-loop-name_to l = MessageGoing l.linked l.name l.s l.at l.met l.i l.buffer
+
+abbrev pub decreases-loop-name_to : goal.decreases-loop-name_to
+decreases-loop-name_to l = length l.s - l.i

@@ -44,13 +44,13 @@ fn bad_in_frame(dialect: Dialect, depth: usize, name: &[u8], s: &[u8]) -> Part
 }
 
 // The form of a dialect's entries.
+#[tactic(auto, unfolding(crate::specs::Bad::form_of))]
 fn form_of(dialect: Dialect) -> Form
     ensures { result ≡ form_of dialect }
 {
     match dialect {
         Dialect::K => Form::Triple,
-        Dialect::M(_) => Form::Pair,
-        Dialect::Unknown => Form::Pair,
+        Dialect::M(_) | Dialect::Unknown => Form::Pair,
     }
 }
 

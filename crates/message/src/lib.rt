@@ -96,49 +96,43 @@ fn scan_at(
     match dialect {
         Dialect::K => k_message(s, at, depth, name, buffer),
         Dialect::M(edition) => m_message(s, at, is_linked(edition), name, buffer),
-        Dialect::Unknown => not_framed(value_end(s, at, MAX_DEPTH)),
+        Dialect::Unknown => not_framed(value_end(s, at, MAX_DEPTH).unwrap_or(0)),
     }
 }
 
 // The first of checks 3 to 7 that fails, by what was told of the message; `ended` says that nothing stands past its value, and `most`
 // how many entries a side may have.
+#[tactic(auto, using(std::proofs::lemmas::Bool::Decides::nat_tests), unfolding(crate::specs::Deciding::decided))]
 fn decide(most: usize, scan: Scan, ended: bool) -> Result<Outline, Answer>
     ensures { result ≡ decided most scan ended }
 {
-    if scan.end == 0 {
+    if scan.end == 0 || !ended {
         return Err(Answer::NotJson);
     }
-    if ended {
-        return decide_address(most, scan);
-    }
-    Err(Answer::NotJson)
+    decide_address(most, scan)
 }
 
 // Checks 5 to 7.
+#[tactic(auto, unfolding(crate::specs::Deciding::addressed_scan))]
 fn decide_address(most: usize, scan: Scan) -> Result<Outline, Answer>
     ensures { result ≡ addressed_scan most scan }
 {
-    if scan.framed {
-        if scan.ours {
-            return decide_layout(most, scan.outline);
-        }
+    if !(scan.framed && scan.ours) {
         return Err(Answer::NotOurs);
     }
-    Err(Answer::NotOurs)
+    decide_layout(most, scan.outline)
 }
 
 // Checks 6 and 7.
+#[tactic(auto, using(std::proofs::lemmas::Bool::Decides::nat_tests), unfolding(crate::specs::Deciding::laid_outline))]
 fn decide_layout(most: usize, outline: Outline) -> Result<Outline, Answer>
     ensures { result ≡ laid_outline most outline }
 {
-    if outline.well_formed {
-        if most < outline.bids {
-            return Err(Answer::TooManyEntries);
-        }
-        if most < outline.asks {
-            return Err(Answer::TooManyEntries);
-        }
-        return Ok(outline);
+    if !outline.well_formed {
+        return Err(Answer::BadLayout);
     }
-    Err(Answer::BadLayout)
+    if most < outline.bids || most < outline.asks {
+        return Err(Answer::TooManyEntries);
+    }
+    Ok(outline)
 }

@@ -6,7 +6,9 @@ use Rattle.settings.specs.Settings.{Config}
 use Rattle.settings.specs.declared.Dialect.{Dialect}
 use Rattle.layout.specs.Scan.{Scanned}
 use Rattle.message.proofs.Reading.{k-depth, kept-unknown, told-unknown}
-use mathlib.Core.Path.{sym, ◌∙◌, subst}
+use Rattle.json_tokens.specs.Ends.{end_of}
+use Rattle.entries.proofs.Entry.{end-or-zero}
+use mathlib.Core.Path.{sym, ap, ◌∙◌, subst}
 use Rattle.message.proofs.scan_at.Goals as goal
 
 pub k_message-requires : goal.k_message-requires
@@ -32,6 +34,6 @@ returns-in-Unknown c =
     let t : Config = record { dialect = a.dialect; depth = a.depth; name = a.name.now } in
     subst (λ (d : Dialect). Scanned (envelope_in d t) a.s.now a.at a.buffer.now c.not_framed.result) (sym c.in-Unknown.is)
     (record {
-      told = c.not_framed.ensures ∙ told-unknown t a.s.now a.at c.value_end.result c.value_end.ensures;
+      told = c.not_framed.ensures ∙ told-unknown t a.s.now a.at c.unwrap_or.result (c.unwrap_or.ensures ∙ end-or-zero c.value_end.result ∙ ap end_of c.value_end.ensures);
       kept = λ e v h g u l y. kept-unknown t a.s.now (record { from = a.at; to = e }) h g;
     })

@@ -63,15 +63,14 @@ module _ {R : Type 0} (made : ℕ → Option (List Pair) → R) (d : ℕ) (s : L
         go (items l e) = sym (folds e l)
         go no_items = refl
 
-    -- e is past the closing brace, if that follows the opening one
-    module _ (e : ℕ) (h : e ≡ end_of (closing 125 s (at + 1))) where
-      pub made-empty : 0 < e → close e st ≡ answer
-      unfolding members
-      made-empty p = fold-empty (over_members d s f close (made 0 None)) st (at + 1) e h (λ z. omega arith) ∙ made-object
+    -- no member: e is past the closing brace, which follows the opening one
+    pub made-empty : (e : ℕ) → closing 125 s (at + 1) ≡ Some e → close e st ≡ answer
+    unfolding members
+    made-empty e h = fold-empty (over_members d s f close (made 0 None)) st (at + 1) e h ∙ made-object
 
-      pub made-start : e ≡ 0 → (k : ℕ) → k ≡ blanks s (at + 1) → Left (over_members d s f close (made 0 None)) st k answer
-      unfolding members
-      made-start z k b = rw made-object at (fold_start (over_members d s f close (made 0 None)) st (at + 1) e h z k b)
+    pub made-start : closing 125 s (at + 1) ≡ None → (k : ℕ) → k ≡ blanks s (at + 1) → Left (over_members d s f close (made 0 None)) st k answer
+    unfolding members
+    made-start h k b = rw made-object at (fold_start (over_members d s f close (made 0 None)) st (at + 1) h k b)
 
 -- ---- a member more, by a step that reads the member's value too: `end` is where that ended
 module _ {S : Type 0} (step : S → Pair → S) (end : S → ℕ) (ends : (st : S) (m : Pair) → end (step st m) ≡ m.value.to)

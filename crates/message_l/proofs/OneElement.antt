@@ -1,8 +1,8 @@
 -- The value of a member `data`: whether it is an array of one, and where that begins. Assumes nothing.
-use Rattle.std.specs.Prelude.{None, Option, Some, ℕ}
-use Prim.Native.Nat.{ℕ, ◌+◌, ◌<◌}
+use Rattle.std.specs.Prelude.{None, Option, Some, ℕ, is_some}
+use Prim.Native.Nat.{ℕ, ◌+◌}
 use mathlib.Core.Path.{◌≡◌, refl, sym, ap, ◌∙◌}
-use mathlib.Core.Bool.{Bool}
+use mathlib.Core.Bool.{Bool, true, false, true≢false}
 use mathlib.Core.List.{List}
 use native.Mathlib.Omega.{arith}
 use borrow.Author.Tests.{eq-eqb, ne_eqb}
@@ -12,7 +12,7 @@ use Rattle.text.specs.Text.{byte_at}
 use Rattle.json_tokens.specs.Tokens.{blanks, closing, separator}
 use Rattle.json_tokens.specs.Ends.{end_of}
 use Rattle.json_tokens.proofs.Laws.{end-at}
-use Rattle.json_tokens.proofs.Bounds.{bounds, end-broken, blanks-in, closing-in, separator-in}
+use Rattle.json_tokens.proofs.Bounds.{bounds, end-broken, blanks-in, separator-in}
 use Rattle.json_values.specs.Json.{Span, Next, item, wrong, Items, items, no_items, items_end, prepended, onward, element, elements, value}
 use Rattle.json_values.proofs.Laws.{value-array, element-is, element-wrong}
 use Rattle.json_values.proofs.Bounds.{value_in}
@@ -22,6 +22,10 @@ use Rattle.entries.proofs.Strings.{no_row, same_row}
 use Rattle.message_l.specs.Collected.{one_in, not_one, data_from, data_span, data_at, ObjectRead, DataRead}
 use Rattle.message_l.specs.declared.Listing.{Listing}
 use Rattle.message_l.specs.declared.Data.{Data}
+
+pub no-end : (x : Option ℕ) → is_some x ≡ false → x ≡ None
+no-end (Some e) h = absurd (true≢false h)
+no-end None h = refl
 
 module _ (s : List ℕ) (at : ℕ) where
   abbrev one : ℕ → Next Span
@@ -40,72 +44,71 @@ module _ (s : List ℕ) (at : ℕ) where
     unfolding one_in array_at
     one-is = sym (rw (eq-eqb (byte_at s at) 91 opens))
 
-    module _ (none : ℕ) (h : none ≡ end_of (closing 93 s (at + 1))) where
-      pub one-empty : 0 < none → one_in s (data_span s at) ≡ None
-      unfolding elements contents and_then only
-      one-empty n =
-          sym one-is ∙ sym (walk-empty one 93 s answer (at + 1) none (end-at (closing 93 s (at + 1)) none h (λ z. omega arith)))
+    pub one-empty : is_some (closing 93 s (at + 1)) ≡ true → one_in s (data_span s at) ≡ None
+    unfolding elements contents and_then only
+    one-empty n = go (closing 93 s (at + 1)) refl n
+      where
+        go : (x : Option ℕ) → closing 93 s (at + 1) ≡ x → is_some x ≡ true → one_in s (data_span s at) ≡ None
+        go (Some e) q h = sym one-is ∙ sym (walk-empty one 93 s answer (at + 1) e q)
+        go None q h = absurd (true≢false (sym h))
 
-      module _ (z : none ≡ 0) (i : ℕ) (b : i ≡ blanks s (at + 1)) where
-        shut : closing 93 s (at + 1) ≡ None
-        shut = end-broken none (omega arith) (closing-in s 93 (at + 1) (omega arith)) h z
+    module _ (shut : closing 93 s (at + 1) ≡ None) (i : ℕ) (b : i ≡ blanks s (at + 1)) where
+      started : {R : Type 0} (f : Items Span → R) → Walk one 93 s f i (one i) (f (elements (value 14 s) s (at + 1)))
+      unfolding elements
+      started f = rw b (walk_start one 93 s f (at + 1) (blanks-in s (at + 1)).0 shut)
 
-        started : {R : Type 0} (f : Items Span → R) → Walk one 93 s f i (one i) (f (elements (value 14 s) s (at + 1)))
-        unfolding elements
-        started f = rw b (walk_start one 93 s f (at + 1) (blanks-in s (at + 1)).0 shut)
+      module _ (e : ℕ) (v : e ≡ end_of (value 14 s i)) where
+        pub one-wrong : e ≡ 0 → one_in s (data_span s at) ≡ None
+        unfolding contents and_then
+        one-wrong y = sym one-is ∙ sym (walk-wrong one 93 s answer (started answer) (element-wrong (value 14 s) i (end-broken e (omega arith) (value_in 14 s i) v y)))
 
-        module _ (e : ℕ) (v : e ≡ end_of (value 14 s i)) where
-          pub one-wrong : e ≡ 0 → one_in s (data_span s at) ≡ None
-          unfolding contents and_then
-          one-wrong y = sym one-is ∙ sym (walk-wrong one 93 s answer (started answer) (element-wrong (value 14 s) i (end-broken e (omega arith) (value_in 14 s i) v y)))
+        module _ (y : e ≡ 0 → ⊥) where
+          abbrev here : Span
+          here = record { from = i; to = e }
 
-          module _ (y : e ≡ 0 → ⊥) (l : ℕ) (c : l ≡ end_of (separator 44 s e)) where
-            abbrev here : Span
-            here = record { from = i; to = e }
+          ended : value 14 s i ≡ Some e
+          ended = end-at (value 14 s i) e v y
 
-            ended : value 14 s i ≡ Some e
-            ended = end-at (value 14 s i) e v y
+          -- another element follows
+          pub one-many : is_some (separator 44 s e) ≡ true → one_in s (data_span s at) ≡ None
+          unfolding contents and_then only element onward prepended
+          one-many n = behind (separator 44 s e) refl n
+            where
+              more : (x : Items Span) (a : Span) → answer (prepended here (prepended a x)) ≡ None
+              more (items r u) a = refl
+              more no_items a = refl
 
-            -- another element follows
-            pub one-many : (l ≡ 0 → ⊥) → one_in s (data_span s at) ≡ None
-            unfolding contents and_then only element onward prepended
-            one-many n =
-                let p = bounds e (value_in 14 s i) ended in
-                let q = end-at (separator 44 s e) l c n in
-                let k = bounds l (separator-in s 44 e (omega arith)) q in
-                let w = walk-on one 93 s answer (started answer) here e (element-is (value 14 s) i e ended) (omega arith) p.1 l (omega arith) q (λ (x : Items Span). answer (prepended here x)) (λ x. refl) in
-                sym one-is ∙ sym w.makes ∙ go _ (value 14 s l)
-              where
-                more : (x : Items Span) (a : Span) → answer (prepended here (prepended a x)) ≡ None
-                more (items r u) a = refl
-                more no_items a = refl
+              go : (l : ℕ) (rest : ℕ → Items Span) (x : Option ℕ) → answer (prepended here (onward rest (elim x [ Some u ↦ item (record { from = l; to = u }) u | None ↦ wrong ]))) ≡ None
+              go l rest (Some u) = more (rest u) (record { from = l; to = u })
+              go l rest None = refl
 
-                go : (rest : ℕ → Items Span) (x : Option ℕ) → answer (prepended here (onward rest (elim x [ Some u ↦ item (record { from = l; to = u }) u | None ↦ wrong ]))) ≡ None
-                go rest (Some u) = more (rest u) (record { from = l; to = u })
-                go rest None = refl
-
-            module _ (n : l ≡ 0) (u : ℕ) (d : u ≡ end_of (closing 93 s e)) where
-              no-comma : separator 44 s e ≡ None
-              no-comma = end-broken l (omega arith) (separator-in s 44 e (omega arith)) c n
-
-              pub one-broken : u ≡ 0 → one_in s (data_span s at) ≡ None
-              unfolding contents and_then
-              one-broken g =
+              behind : (x : Option ℕ) → separator 44 s e ≡ x → is_some x ≡ true → one_in s (data_span s at) ≡ None
+              behind (Some l) q h =
                   let p = bounds e (value_in 14 s i) ended in
-                  sym one-is ∙ sym (walk-broken one 93 s answer (started answer) here e (element-is (value 14 s) i e ended) (omega arith) p.1 no-comma (end-broken u (omega arith) (closing-in s 93 e (omega arith)) d g))
+                  let k = bounds l (separator-in s 44 e (omega arith)) q in
+                  let w = walk-on one 93 s answer (started answer) here e (element-is (value 14 s) i e ended) (omega arith) p.1 l (omega arith) q (λ (x : Items Span). answer (prepended here x)) (λ x. refl) in
+                  sym one-is ∙ sym w.makes ∙ go l _ (value 14 s l)
+              behind None q h = absurd (true≢false (sym h))
 
-              module _ (g : u ≡ 0 → ⊥) where
-                pub one-here : one_in s (data_span s at) ≡ Some here
-                unfolding contents and_then only
-                one-here =
-                    let p = bounds e (value_in 14 s i) ended in
-                    sym one-is ∙ sym (walk-last one 93 s answer (started answer) here e (element-is (value 14 s) i e ended) (omega arith) p.1 u no-comma (end-at (closing 93 s e) u d g))
+          module _ (n : separator 44 s e ≡ None) where
+            pub one-broken : closing 93 s e ≡ None → one_in s (data_span s at) ≡ None
+            unfolding contents and_then
+            one-broken d =
+                let p = bounds e (value_in 14 s i) ended in
+                sym one-is ∙ sym (walk-broken one 93 s answer (started answer) here e (element-is (value 14 s) i e ended) (omega arith) p.1 n d)
 
-                pub one_end : u ≡ end_of (value 15 s at)
-                unfolding items_end end_of
-                one_end =
-                    let p = bounds e (value_in 14 s i) ended in
-                    ap end_of (walk-last one 93 s items_end (started items_end) here e (element-is (value 14 s) i e ended) (omega arith) p.1 u no-comma (end-at (closing 93 s e) u d g) ∙ sym (value-array s at 14 opens))
+            module _ (u : ℕ) (d : closing 93 s e ≡ Some u) where
+              pub one-here : one_in s (data_span s at) ≡ Some here
+              unfolding contents and_then only
+              one-here =
+                  let p = bounds e (value_in 14 s i) ended in
+                  sym one-is ∙ sym (walk-last one 93 s answer (started answer) here e (element-is (value 14 s) i e ended) (omega arith) p.1 u n d)
+
+              pub one_end : u ≡ end_of (value 15 s at)
+              unfolding items_end end_of
+              one_end =
+                  let p = bounds e (value_in 14 s i) ended in
+                  ap end_of (walk-last one 93 s items_end (started items_end) here e (element-is (value 14 s) i e ended) (omega arith) p.1 u n d ∙ sym (value-array s at 14 opens))
 
 -- ---- the answers
 

@@ -1,5 +1,5 @@
 -- What is told of orders, array by array: the tally and the buffer go on telling what was read. Assumes nothing.
-use Rattle.std.specs.Prelude.{None, Option, Some}
+use Rattle.std.specs.Prelude.{None, Option, Some, is_some}
 use Prim.Native.Nat.{ℕ, zero, suc, ◌+◌}
 use mathlib.Core.Path.{◌≡◌, refl, sym, ap, ◌∙◌, subst}
 use mathlib.Core.Bool.{Bool, true, false, cond}
@@ -17,7 +17,7 @@ use Rattle.entries.proofs.Tallies.{not-read, also-reads, fold-append, map-append
 use Rattle.order_edit.specs.Buffer.{OrderEntry, max_buffered, entries_in}
 use Rattle.order_entries.specs.Rows.{OrderRow}
 use Rattle.order_entries.specs.Saying.{bad_at}
-use Rattle.order_arrays.specs.Tally.{none_yet, is_read, counted, one_more, orders_at, tallied, told_at, met, Met}
+use Rattle.order_arrays.specs.Tally.{none_yet, counted, one_more, orders_at, tallied, told_at, met, Met}
 use Rattle.order_arrays.specs.declared.OrderTally.{OrderTally}
 use Rattle.order_arrays.specs.declared.Orders.{Orders}
 use Rattle.message_l.specs.Orders.{SidedOrder, sided_order, sided_orders_at, entry_of, one_sided, tally_of}
@@ -35,7 +35,7 @@ module _ (s : List ℕ) where
   one-grown t o h = subst (Grown t 1) (sym (ap (λ (b : Bool). cond b more t) h)) (record { formed = h; count = go o.side })
     where
       more : OrderTally
-      more = counted t o.side (is_read o.row.event) (bad_at false s o.row) (bad_at true s o.row)
+      more = counted t o.side (is_some o.row.event) (bad_at false s o.row) (bad_at true s o.row)
 
       go : (side : Side) → t.bids + one_bid side + (t.asks + one_ask side) ≡ met t + 1
       go Bids = omega arith

@@ -134,9 +134,9 @@ pub listing-made : (name s : List ℕ) (l : Listing) (n : Span) (at to : ℕ) (d
 unfolding more_listing more_sides
 listing-made name s l n at to d made y k b hy hk hb = rw (hy, hk, hb, made)
 
--- ---- whether a `symbol` is the book's name
-pub and-hit : (a b c : Bool) → a ≡ true → c ≡ b → c ≡ (a && b)
-and-hit a b c h g = g ∙ sym (rw h)
+-- ---- whether some `symbol` is the book's name
+pub or-stop : {a : Bool} (b : Bool) → a ≡ true → a ≡ (a || b)
+or-stop b h = h ∙ sym (rw h)
 
-pub and-miss : (a b : Bool) → a ≡ false → false ≡ (a && b)
-and-miss a b h = sym (rw h)
+pub or-next : {a b : Bool} → a ≡ false → b ≡ (a || b)
+or-next h = sym (rw h)

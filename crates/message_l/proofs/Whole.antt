@@ -1,6 +1,6 @@
 -- The object in `data`, once its members were met: what is told of it, and what the buffer has. Assumes nothing.
 use Rattle.std.specs.Prelude.{None, Option, Some}
-use Prim.Native.Nat.{ℕ, ◌+◌, ◌≤◌, ◌<◌}
+use Prim.Native.Nat.{ℕ, ◌+◌, ◌≤◌}
 use mathlib.Core.Path.{◌≡◌, refl, sym, ap, ◌∙◌, subst}
 use mathlib.Core.List.{List, [], ◌∷◌}
 use native.Mathlib.Omega.{arith}
@@ -41,14 +41,14 @@ module _ (name s : List ℕ) (at : ℕ) where
   unfolding listing_at listing_from
   listing_none n h = ap no_listing h ∙ made_other (listing_from name s) 13 s at n
 
-  module _ (opens : byte_at s at ≡ 123) (e : ℕ) (h : e ≡ end_of (closing 125 s (at + 1))) where
-    pub listing-empty : 0 < e → no_listing e ≡ listing_at name s at
+  module _ (opens : byte_at s at ≡ 123) where
+    pub listing-empty : (e : ℕ) → closing 125 s (at + 1) ≡ Some e → no_listing e ≡ listing_at name s at
     unfolding listing_at
-    listing-empty p = made-empty (listing_from name s) 13 s at opens (more_listing name s) listing_end (no_listing 0) listing-folds e h p
+    listing-empty e h = made-empty (listing_from name s) 13 s at opens (more_listing name s) listing_end (no_listing 0) listing-folds e h
 
-    pub listing_start : e ≡ 0 → (k : ℕ) → k ≡ blanks s (at + 1) → Left (listing_loop name s) (no_listing 0) k (listing_at name s at)
+    pub listing_start : closing 125 s (at + 1) ≡ None → (k : ℕ) → k ≡ blanks s (at + 1) → Left (listing_loop name s) (no_listing 0) k (listing_at name s at)
     unfolding listing_at listing_from
-    listing_start z k b = made-start (listing_from name s) 13 s at opens (more_listing name s) listing_end (no_listing 0) listing-folds e h z k b
+    listing_start h k b = made-start (listing_from name s) 13 s at opens (more_listing name s) listing_end (no_listing 0) listing-folds h k b
 
 pub listing-end-at : (name s : List ℕ) (at : ℕ) → (listing_at name s at).sides.end ≡ end_of (value 14 s at)
 unfolding listing_at listing_from
@@ -97,15 +97,15 @@ pub record Going (name s : List ℕ) (at : ℕ) (l : Listing) (i : ℕ) (buffer 
 
 -- the member there was read, and ends at e
 module _ (s : List ℕ) (at : ℕ) {t u : OrderTally} {i e : ℕ} {m : Pair} {before after : List ℕ} (h : Added s m t u before after) (n : m.value.to ≡ 0 → ⊥)
-    (stands : Stands (member (value 13 s) s) s i m e) (g : Holding s at t i before) (l : ℕ) (c : l ≡ end_of (separator 44 s e)) where
+    (stands : Stands (member (value 13 s) s) s i m e) (g : Holding s at t i before) where
   -- a comma follows
-  pub holding-on : (l ≡ 0 → ⊥) → Holding s at u l after
-  holding-on o = record { x = with_orders s g.x m; left = fold_on (orders_loop s) g.x g.left stands l c o refl; holds = h.kept n g.x g.holds }
+  pub holding-on : (l : ℕ) → separator 44 s e ≡ Some l → Holding s at u l after
+  holding-on l c = record { x = with_orders s g.x m; left = fold_on (orders_loop s) g.x g.left stands l c refl; holds = h.kept n g.x g.holds }
 
   -- the object ends
-  pub holding-last : l ≡ 0 → (k : ℕ) → k ≡ end_of (closing 125 s e) → (k ≡ 0 → ⊥) → Holds s (all_orders s at) u after
-  holding-last z k y o =
-      subst (λ (x : Option (List SidedOrder)). Holds s x u after) (fold-last (orders_loop s) g.x g.left stands l c z k y o refl) (h.kept n g.x g.holds)
+  pub holding-last : separator 44 s e ≡ None → (k : ℕ) → closing 125 s e ≡ Some k → Holds s (all_orders s at) u after
+  holding-last z k y =
+      subst (λ (x : Option (List SidedOrder)). Holds s x u after) (fold-last (orders_loop s) g.x g.left stands z k y refl) (h.kept n g.x g.holds)
 
 -- ---- the answers
 

@@ -125,3 +125,9 @@ pub record DataRead (name s : List ℕ) (at : ℕ) (after : List ℕ) (r : Data)
   pub room : length after ≡ buffer_words
   pub holds : (a : Span) → one_in s (data_span s at) ≡ Some a → (ms : List Pair) → object_at object_depth s a ≡ Some ms
       → Holds s (orders_in s ms) r.listing.sides.tally after
+
+-- The same of an array of one, and of nothing else.
+pub record OneRead (name s : List ℕ) (at : ℕ) (after : List ℕ) (r : Option Data) : Type 0 where
+  pub some : (d : Data) → r ≡ Some d → DataRead name s at after d
+  pub none : r ≡ None → one_in s (data_span s at) ≡ None
+  pub room : length after ≡ buffer_words

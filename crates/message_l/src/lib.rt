@@ -9,7 +9,7 @@ ghost use Rattle.layout.specs.MemberSpans.{member_at};
 ghost use Rattle.order_edit.specs.Buffer.{buffer_words};
 ghost use Rattle.order_arrays.specs.Tally.{met as count};
 ghost use Rattle.message_l.specs.Orders.{orders_depth};
-ghost use Rattle.message_l.specs.Collected.{no_sides, no_listing, listing_end, MoreSides, MoreListing, ObjectRead, not_one, DataRead};
+ghost use Rattle.message_l.specs.Collected.{no_sides, no_listing, listing_end, MoreSides, MoreListing, ObjectRead, not_one, OneRead, DataRead};
 
 use edit::Side;
 use json_tokens::{
@@ -21,7 +21,7 @@ use layout::{ITEM_DEPTH, MemberSpan, SIDE_DEPTH, few_more, no_member_span};
 use order_arrays::{OrderTally, none_yet, orders_at};
 use order_edit::BUFFER_WORDS;
 use order_entries::more_spans;
-use text::{byte_at, either};
+use text::byte_at;
 
 // How deep arrays and objects may nest in the object in `data`, and in a member of it, as a side's array of orders is one.
 const OBJECT_DEPTH: usize = SIDE_DEPTH;
@@ -65,27 +65,29 @@ pub fn l_data(s: &[u8], at: usize, name: &[u8], buffer: &mut [u64; BUFFER_WORDS]
     requires { length buffer.old ≡ buffer_words }
     ensures { DataRead name.now s.now at buffer.new result }
 {
-    if byte_at(s, at) != OPEN_ARRAY {
-        return not_one(value_end(s, at, ITEM_DEPTH));
+    match one_element(s, at, name, buffer) {
+        Some(data) => data,
+        None => not_one(value_end(s, at, ITEM_DEPTH).unwrap_or(0)),
     }
-    if 0 < array_close_end(s, at + 1) {
-        return not_one(value_end(s, at, ITEM_DEPTH));
+}
+
+// The same, if the value is an array of one.
+fn one_element(s: &[u8], at: usize, name: &[u8], buffer: &mut [u64; BUFFER_WORDS]) -> Option<Data>
+    requires { length buffer.old ≡ buffer_words }
+    ensures { OneRead name.now s.now at buffer.new result }
+{
+    if byte_at(s, at) != OPEN_ARRAY || array_close_end(s, at + 1).is_some() {
+        return None;
     }
     let first = skip_blanks(s, at + 1);
     let listing = l_object(s, first, name, buffer);
     let past = listing.sides.end;
-    if past == 0 {
-        return not_one(value_end(s, at, ITEM_DEPTH));
+    if past == 0 || comma_end(s, past).is_some() {
+        return None;
     }
-    if comma_end(s, past) != 0 {
-        return not_one(value_end(s, at, ITEM_DEPTH));
-    }
-    let end = array_close_end(s, past);
-    if end == 0 {
-        return not_one(value_end(s, at, ITEM_DEPTH));
-    }
+    let end = array_close_end(s, past)?;
     let one = byte_at(s, first) == OPEN_OBJECT;
-    Data { end, one, listing }
+    Some(Data { end, one, listing })
 }
 
 // A value that ends at `end` and is no array of one.
@@ -105,36 +107,31 @@ pub fn l_object(s: &[u8], at: usize, name: &[u8], buffer: &mut [u64; BUFFER_WORD
     ensures { ObjectRead name.now s.now at buffer.new result }
 {
     if byte_at(s, at) != OPEN_OBJECT {
-        return no_listing(value_end(s, at, OBJECT_DEPTH));
+        return no_listing(value_end(s, at, OBJECT_DEPTH).unwrap_or(0));
     }
-    let none = object_close_end(s, at + 1);
-    if 0 < none {
-        return no_listing(none);
+    if let Some(end) = object_close_end(s, at + 1) {
+        return no_listing(end);
     }
     let mut i = skip_blanks(s, at + 1);
     let mut met = no_listing(0);
     loop {
-        let name_to = string_end(s, i);
-        if name_to == 0 {
+        let Some(name_to) = string_end(s, i) else {
             return no_listing(0);
-        }
-        let from = colon_end(s, name_to);
-        if from == 0 {
+        };
+        let Some(from) = colon_end(s, name_to) else {
             return no_listing(0);
-        }
+        };
         let next = more_listing(s, met, i, name_to, from, name, buffer);
         let to = next.sides.end;
         if to == 0 {
             return no_listing(0);
         }
-        let j = comma_end(s, to);
-        if j == 0 {
-            let end = object_close_end(s, to);
-            if end == 0 {
+        let Some(j) = comma_end(s, to) else {
+            let Some(end) = object_close_end(s, to) else {
                 return no_listing(0);
-            }
+            };
             return listing_end(next, end);
-        }
+        };
         met = next;
         i = j;
     }
@@ -159,7 +156,7 @@ fn more_listing(
         sides,
         symbol: more_spans(s, b"symbol", met.symbol, first, past, from, to),
         checksum: more_spans(s, b"checksum", met.checksum, first, past, from, to),
-        named: either(met.named, is_symbol(s, first, past, from, to, name)),
+        named: met.named || is_symbol(s, first, past, from, to, name),
     }
 }
 
@@ -167,10 +164,7 @@ fn more_listing(
 fn is_symbol(s: &[u8], first: usize, past: usize, from: usize, to: usize, name: &[u8]) -> bool
     ensures { result ≡ (means s.now (record { from = first; to = past }) (ascii "symbol") && means s.now (record { from = from; to = to }) name.now) }
 {
-    if is_name(s, first, past, b"symbol") {
-        return is_name(s, from, to, name);
-    }
-    false
+    is_name(s, first, past, b"symbol") && is_name(s, from, to, name)
 }
 
 // The sides, and one member more, whose value is read here, whatever its name.
@@ -205,18 +199,20 @@ fn more_sides(
             tally,
         };
     }
-    let mut next = met;
-    next.end = item_end(s, from, ORDERS_DEPTH);
-    next
+    Sides {
+        end: item_end(s, from, ORDERS_DEPTH).unwrap_or(0),
+        ..met
+    }
 }
 
 // An object that ends at `end`, with the members that were met in it.
 fn listing_end(met: Listing, end: usize) -> Listing
     ensures { result ≡ listing_end end met }
 {
-    let mut next = met;
-    next.sides.end = end;
-    next
+    Listing {
+        sides: Sides { end, ..met.sides },
+        ..met
+    }
 }
 
 // A value that ends at `end` and has none of our members.

@@ -1,6 +1,6 @@
 -- An array of orders, order by order: what was met of the elements that were passed, what is left of them, and the buffer that has what they say. At the
 -- end all of them were met. Assumes nothing.
-use Rattle.std.specs.Prelude.{None, Option, Some, ℕ}
+use Rattle.std.specs.Prelude.{None, Option, Some, ℕ, is_some}
 use Prim.Native.Nat.{ℕ, zero, suc, ◌+◌, ◌-◌, ◌≤◌, ◌<◌}
 use mathlib.Core.Path.{◌≡◌, refl, sym, ap, ◌∙◌, subst}
 use mathlib.Core.Bool.{Bool, true, false, cond}
@@ -14,9 +14,10 @@ use Rattle.edit.specs.declared.Side.TheVariants.{Bids, Asks}
 use Rattle.json_tokens.specs.Tokens.{blanks, closing, separator}
 use Rattle.json_tokens.specs.Ends.{end_of}
 use Rattle.json_tokens.proofs.Laws.{end-at}
-use Rattle.json_tokens.proofs.Bounds.{bounds, blanks-in, closing-in}
+use Rattle.json_tokens.proofs.Bounds.{bounds, end-broken, blanks-in, closing-in}
 use Rattle.json_values.specs.Json.{Span, items, no_items, items_end, element, elements, value}
 use Rattle.json_values.specs.Fold.{fold_from}
+use Rattle.json_values.proofs.Bounds.{value_in}
 use Rattle.json_values.proofs.Laws.{value-array}
 use Rattle.json_values.proofs.Fold.{Left, Stands, no-element, element-stands, fold-empty, fold_start, fold-wrong, fold-further, fold_on, fold-last, fold-broken}
 use Rattle.entries.specs.Places.{and_then, all, and_also, contents, array_at}
@@ -32,7 +33,7 @@ use Rattle.order_entries.specs.Rows.{OrderRow, order_row}
 use Rattle.order_entries.specs.Collected.{order_place_of, order_place_at}
 use Rattle.order_entries.specs.Saying.{entry_at, bad_at}
 use Rattle.order_entries.specs.declared.OrderPlace.{OrderPlace}
-use Rattle.order_arrays.specs.Tally.{orders_at, told_not, counted, is_read, one_more, tallied, tallied_one, told_at, met, Counted, CountedAt, Met}
+use Rattle.order_arrays.specs.Tally.{orders_at, told_not, counted, one_more, tallied, tallied_one, told_at, met, Counted, CountedAt, Met}
 use Rattle.order_arrays.specs.declared.OrderTally.{OrderTally}
 
 -- the orders that a buffer holds
@@ -70,8 +71,8 @@ module _ (s : List ℕ) (side : Side) where
   unfolding tallied_one one_more counted
   few-one t (Some r) = go t.well_formed refl
     where
-      go : (b : Bool) → t.well_formed ≡ b → met (cond b (counted t side (is_read r.event) (bad_at false s r) (bad_at true s r)) t) ≤ suc (met t)
-      go true h = let n : met (counted t side (is_read r.event) (bad_at false s r) (bad_at true s r)) ≡ suc (met t) = rw h at (one-met t r h) in omega arith
+      go : (b : Bool) → t.well_formed ≡ b → met (cond b (counted t side (is_some r.event) (bad_at false s r) (bad_at true s r)) t) ≤ suc (met t)
+      go true h = let n : met (counted t side (is_some r.event) (bad_at false s r) (bad_at true s r)) ≡ suc (met t) = rw h at (one-met t r h) in omega arith
       go false h = omega arith
   few-one t None = omega arith
 
@@ -185,20 +186,20 @@ module _ (s : List ℕ) (at : ℕ) (d : ℕ) (side : Side) (t : OrderTally) (bef
         broken = value-array s at d opens ∙ ap items_end (sym h)
 
   -- ---- the array is empty, or its first order is to begin at k
-  module _ (room : length before ≡ buffer_words) (few : met t ≤ at) (e : ℕ) (h : e ≡ end_of (closing 93 s (at + 1))) where
-    pub going-empty : (depth : ℕ) → suc d ≡ depth → byte_at s at ≡ 91 → (e ≡ 0 → ⊥) → Met s depth side t at before before (record { end = e; tally = t })
+  module _ (room : length before ≡ buffer_words) (few : met t ≤ at) where
+    pub going-empty : (depth : ℕ) → suc d ≡ depth → byte_at s at ≡ 91 → (e : ℕ) → closing 93 s (at + 1) ≡ Some e → Met s depth side t at before before (record { end = e; tally = t })
     unfolding elements fold_from tallied all
-    going-empty depth deep opens n =
-        let b = bounds e (closing-in s 93 (at + 1) (omega arith)) (end-at (closing 93 s (at + 1)) e h n) in
-        met-items depth deep opens [] e t before (fold-empty (passing d s) [] (at + 1) e h n ∙ passed-all d s (elements (value d s) s (at + 1))) refl (filled_none room) (omega arith) room
+    going-empty depth deep opens e h =
+        let b = bounds e (closing-in s 93 (at + 1) (omega arith)) h in
+        met-items depth deep opens [] e t before (fold-empty (passing d s) [] (at + 1) e h ∙ passed-all d s (elements (value d s) s (at + 1))) refl (filled_none room) (omega arith) room
 
-    pub going_start : e ≡ 0 → (k : ℕ) → k ≡ blanks s (at + 1) → Going k t before
+    pub going_start : closing 93 s (at + 1) ≡ None → (k : ℕ) → k ≡ blanks s (at + 1) → Going k t before
     unfolding elements fold_from tallied all
-    going_start z k b =
+    going_start h k b =
         let further = (blanks-in s (at + 1)).0 in
         record {
           passed = [];
-          left = subst (Left (passing d s) [] k) (passed-all d s (elements (value d s) s (at + 1))) (fold_start (passing d s) [] (at + 1) e h z k b);
+          left = subst (Left (passing d s) [] k) (passed-all d s (elements (value d s) s (at + 1))) (fold_start (passing d s) [] (at + 1) h k b);
           told = refl;
           filled = filled_none room;
           few = omega arith;
@@ -214,20 +215,23 @@ module _ (s : List ℕ) (at : ℕ) (d : ℕ) (side : Side) (t : OrderTally) (bef
     -- it is not JSON
     pub going-wrong : (depth : ℕ) → suc d ≡ depth → byte_at s at ≡ 91 → f.end ≡ 0 → Met s depth side t at before buffer (told_not 0)
     going-wrong depth deep opens z =
-        met-none depth deep opens buffer (fold-wrong (passing d s) g.passed g.left (no-element d s i f.end ends z)) g.room
+        met-none depth deep opens buffer (fold-wrong (passing d s) g.passed g.left (no-element d s i (end-broken f.end (omega arith) (value_in d s i) ends z))) g.room
 
     module _ (n : f.end ≡ 0 → ⊥) where
       abbrev this : Span
       this = record { from = i; to = f.end }
 
+      there : value d s i ≡ Some f.end
+      there = end-at (value d s i) f.end ends n
+
       stands : Stands (element (value d s)) s i this f.end
-      stands = element-stands d s i f.end ends n
+      stands = element-stands d s i f.end there
 
       pub going-inside : (i < f.end) × (f.end ≤ length s)
       going-inside = (stands.some, stands.inside)
 
       this-is : f ≡ order_place_of f.end (order this)
-      this-is = is ∙ place_is d s i f.end (end-at (value d s i) f.end ends n)
+      this-is = is ∙ place_is d s i f.end there
 
       -- it was met: the tally is now m, and the buffer `after`
       module _ {after : List ℕ} {m : OrderTally} (k : CountedAt s side tally f buffer after m) where
@@ -263,18 +267,18 @@ module _ (s : List ℕ) (at : ℕ) (d : ℕ) (side : Side) (t : OrderTally) (bef
             (put.entries ∙ ap (λ (j : ℕ). set (entries_in buffer) j (entry_at s side o.0)) now)
             (g.filled formed b.front b.reads-front))
 
-        -- ---- past the comma, at l, the next order is to begin; without a comma the array ends, at u
-        module _ (l : ℕ) (h : l ≡ end_of (separator 44 s f.end)) where
-          pub going-further : (l ≡ 0 → ⊥) → (i < f.end) × (f.end ≤ l) × (i < length s)
+        -- ---- past the comma, at l, the next order is to begin
+        module _ (l : ℕ) (h : separator 44 s f.end ≡ Some l) where
+          pub going-further : (i < f.end) × (f.end ≤ l) × (i < length s)
           going-further = fold-further (passing d s) g.passed g.left stands l h
 
-          pub going_on : (l ≡ 0 → ⊥) → Going l m after
-          going_on some =
+          pub going_on : Going l m after
+          going_on =
               let w = few-told in
-              let p = going-further some in
+              let p = going-further in
               record {
                 passed = g.passed ++ (this ∷ []);
-                left = fold_on (passing d s) g.passed g.left stands l h some refl;
+                left = fold_on (passing d s) g.passed g.left stands l h refl;
                 told = all_told;
                 filled = all-filled;
                 few = omega arith;
@@ -282,15 +286,16 @@ module _ (s : List ℕ) (at : ℕ) (d : ℕ) (side : Side) (t : OrderTally) (bef
                 room = c.room;
               }
 
-          module _ (depth : ℕ) (deep : suc d ≡ depth) (opens : byte_at s at ≡ 91) (z : l ≡ 0) (u : ℕ) (x : u ≡ end_of (closing 93 s f.end)) where
-            pub going-last : (u ≡ 0 → ⊥) → Met s depth side t at before after (record { end = u; tally = m })
-            going-last some =
-                let w = few-told in
-                let b = bounds u (closing-in s 93 f.end (omega arith)) (end-at (closing 93 s f.end) u x some) in
-                met-items depth deep opens (g.passed ++ (this ∷ [])) u m after (fold-last (passing d s) g.passed g.left stands l h z u x some refl) all_told all-filled (omega arith) c.room
+        -- ---- without a comma the array ends, at u
+        module _ (depth : ℕ) (deep : suc d ≡ depth) (opens : byte_at s at ≡ 91) (z : separator 44 s f.end ≡ None) where
+          pub going-last : (u : ℕ) → closing 93 s f.end ≡ Some u → Met s depth side t at before after (record { end = u; tally = m })
+          going-last u x =
+              let w = few-told in
+              let b = bounds u (closing-in s 93 f.end (omega arith)) x in
+              met-items depth deep opens (g.passed ++ (this ∷ [])) u m after (fold-last (passing d s) g.passed g.left stands z u x refl) all_told all-filled (omega arith) c.room
 
-            pub going-broken : u ≡ 0 → Met s depth side t at before after (told_not 0)
-            going-broken none = met-none depth deep opens after (fold-broken (passing d s) g.passed g.left stands l h z u x none) c.room
+          pub going-broken : closing 93 s f.end ≡ None → Met s depth side t at before after (told_not 0)
+          going-broken x = met-none depth deep opens after (fold-broken (passing d s) g.passed g.left stands z x) c.room
 
 -- ---- a value that is no array
 module _ (s : List ℕ) (depth : ℕ) (side : Side) (t : OrderTally) (at : ℕ) (before : List ℕ) (h : byte_at s at ≡ 91 → ⊥) where

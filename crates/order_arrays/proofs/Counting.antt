@@ -1,5 +1,5 @@
 -- One order more is counted and put into the buffer, or what was met are no orders. Assumes nothing.
-use Rattle.std.specs.Prelude.{None, Option, Some}
+use Rattle.std.specs.Prelude.{None, Some, is_some}
 use Prim.Native.Nat.{ℕ}
 use mathlib.Core.Path.{◌≡◌, refl, sym, ap, ◌∙◌, subst}
 use mathlib.Core.Bool.{true, false, true≢false}
@@ -8,33 +8,27 @@ use lib.ListN.{length}
 use Rattle.edit.specs.declared.Side.{Side}
 use Rattle.entries.proofs.Strings.{no_row, same_row}
 use Rattle.order_edit.specs.Buffer.{OrderEntry, buffer_words, order_entry, Put}
-use Rattle.order_edit.specs.declared.Event.{Event}
-use Rattle.order_entries.specs.Collected.{maybe_event, order_place_of}
-use Rattle.order_entries.specs.Saying.{entry_at, bad_quantity, bad_at, read_event, row_from, ReadAs}
+use Rattle.order_entries.specs.Collected.{order_place_of}
+use Rattle.order_entries.specs.Saying.{entry_at, bad_quantity, bad_at, row_from, ReadAs}
 use Rattle.order_entries.specs.declared.OrderPlace.{OrderPlace}
 use Rattle.order_entries.specs.declared.OrderRead.{OrderRead}
-use Rattle.order_arrays.specs.Tally.{not_orders, counted, is_read, one_more, tallied_one, met, CountedAt}
+use Rattle.order_arrays.specs.Tally.{not_orders, counted, one_more, tallied_one, met, CountedAt}
 use Rattle.order_arrays.specs.declared.OrderTally.{OrderTally}
-
-event-back : (x : Option Event) → read_event (maybe_event x) ≡ x
-unfolding maybe_event read_event
-event-back (Some e) = refl
-event-back None = refl
 
 module _ (s : List ℕ) (side : Side) (t : OrderTally) (f : OrderPlace) (before : List ℕ) where
   -- what is counted of an order that was found
   abbrev counted_at : OrderPlace → OrderTally
-  counted_at x = counted t side (is_read (read_event x.event)) (bad_at false s (row_from 0 x)) (bad_at true s (row_from 0 x))
+  counted_at x = counted t side (is_some x.event) (bad_at false s (row_from 0 x)) (bad_at true s (row_from 0 x))
 
   pub counted-order : f.well_formed ≡ true → t.well_formed ≡ true → (o : OrderRead) → ReadAs s side f o
-      → (r : OrderTally) → r ≡ counted t side (is_read (read_event f.event)) o.broken_at o.strict_at
+      → (r : OrderTally) → r ≡ counted t side (is_some f.event) o.broken_at o.strict_at
       → (after : List ℕ) → Put before (met t) (order_entry o.entry) after → CountedAt s side t f before after r
   unfolding order_place_of tallied_one one_more bad_at bad_quantity entry_at
   counted-order fair formed o read r told after put (Some row) h =
       record {
-        told = told ∙ rw (read.broken 0, read.strict 0) refl ∙ ap counted_at h ∙ rw (event-back row.event, formed);
+        told = told ∙ rw (read.broken 0, read.strict 0) refl ∙ ap counted_at h ∙ rw formed refl;
         room = put.room;
-        put = λ g x q. subst (λ (e : OrderEntry). Put before (met t) e after) (read.says 0 ∙ ap (λ (y : OrderPlace). entry_at s side (row_from 0 y)) h ∙ rw (event-back row.event) refl ∙ ap (entry_at s side) (sym (same_row q))) put;
+        put = λ g x q. subst (λ (e : OrderEntry). Put before (met t) e after) (read.says 0 ∙ ap (λ (y : OrderPlace). entry_at s side (row_from 0 y)) h ∙ ap (entry_at s side) (sym (same_row q))) put;
       }
   counted-order fair formed o read r told after put None h = absurd (true≢false (sym fair ∙ ap (λ (x : OrderPlace). x.well_formed) h))
 

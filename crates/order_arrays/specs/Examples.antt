@@ -52,5 +52,5 @@ table =
     []
 
 examples : Each table
-unfolding table Each Holds met_in o·.orders_at o·.or_else o·.counted o·.is_read o·.one_more o·.tallied o·.told_at j3·.fold_from p·.all p·.array_at y·.bad_quantity y·.first_bad y·.bad_at y·.stays_of y·.event_or e·.bad_price e·.bad_size d1·.leading d1·.value_from d2·.is_whole d2·.fractional d2·.pointed d2·.prefix d2·.read d2·.is_zero x·.is_digit x·.byte_at t1·.blank t1·.hex_digit t1·.escaped t2·.and_then t2·.skip_while t2·.blanks t2·.digits t2·.some_digits t2·.closing t2·.separator t2·.string_rest t2·.string t2·.minus t2·.sign t2·.int t2·.fraction t2·.exponent t2·.json_number t2·.starts_with t2·.literal t2·.scalar t2·.chars t2·.escape t2·.hexes j1·.next j1·.prepended j1·.onward j1·.list j1·.list_of j1·.items_end j1·.element j1·.member j1·.elements j1·.members j1·.value j2·.part j2·.short_meaning j2·.hex_value j2·.long_meaning j2·.escape_meaning j2·.escape_length j2·.meaning j2·.inner j2·.means p·.and_then p·.is_string p·.contents p·.object_at p·.values_of p·.only n·.name_byte n·.name_bytes i·.is_id r·.string_at r·.event_at r·.row_of r·.row_in r·.order_row
+unfolding table Each Holds met_in o·.orders_at o·.or_else o·.counted o·.one_more o·.tallied o·.told_at j3·.fold_from p·.all p·.array_at y·.bad_quantity y·.first_bad y·.bad_at y·.stays_of y·.event_or e·.bad_price e·.bad_size d1·.leading d1·.value_from d2·.is_whole d2·.fractional d2·.pointed d2·.prefix d2·.read d2·.is_zero x·.is_digit x·.byte_at t1·.blank t1·.hex_digit t1·.escaped t2·.and_then t2·.skip_while t2·.blanks t2·.digits t2·.some_digits t2·.closing t2·.separator t2·.string_rest t2·.string t2·.minus t2·.sign t2·.int t2·.fraction t2·.exponent t2·.json_number t2·.starts_with t2·.literal t2·.scalar t2·.chars t2·.escape t2·.hexes j1·.next j1·.prepended j1·.onward j1·.list j1·.list_of j1·.items_end j1·.element j1·.member j1·.elements j1·.members j1·.value j2·.part j2·.short_meaning j2·.hex_value j2·.long_meaning j2·.escape_meaning j2·.escape_length j2·.meaning j2·.inner j2·.means p·.and_then p·.is_string p·.contents p·.object_at p·.values_of p·.only n·.name_byte n·.name_bytes i·.is_id r·.string_at r·.event_at r·.row_of r·.row_in r·.order_row
 examples = (refl, (refl, (refl, (refl, (refl, (refl, tt))))))

@@ -1,6 +1,6 @@
 -- The orders of an array in a message, and what is met of them, order by order: how many there are for each side, whether each has an event, the first text that
 -- check 8 refuses in an update and in a snapshot, and the buffer that has what they say. Assumes nothing: these are definitions.
-use Rattle.std.specs.Prelude.{ℕ, ◌+◌, ◌-◌, ◌≤◌, ◌≡◌, Bool, true, false, ◌&&◌, cond, List, ◌++◌, map, eqb, length, take, None, Option, Some}
+use Rattle.std.specs.Prelude.{ℕ, ◌+◌, ◌-◌, ◌≤◌, ◌≡◌, Bool, true, false, ◌&&◌, cond, List, ◌++◌, map, eqb, length, take, None, Option, Some, is_some}
 use Rattle.edit.specs.declared.Side.{Side}
 use Rattle.json_values.specs.Json.{Span, value}
 use Rattle.json_values.specs.Fold.{fold_from}
@@ -47,13 +47,9 @@ counted t side event broken strict =
       well_formed = t.well_formed;
     }
 
-unfoldable pub is_read : {A : Type 0} → Option A → Bool
-is_read (Some a) = true
-is_read None = false
-
 -- Nothing is counted after something that is no array of orders.
 unfoldable pub one_more : List ℕ → Side → OrderTally → OrderRow → OrderTally
-one_more s side t r = cond t.well_formed (counted t side (is_read r.event) (bad_at false s r) (bad_at true s r)) t
+one_more s side t r = cond t.well_formed (counted t side (is_some r.event) (bad_at false s r) (bad_at true s r)) t
 
 -- ---- an array of orders
 

@@ -8,15 +8,14 @@
 ghost use Rattle.std.specs.Prelude.{◌≡◌, true, false, ◌+◌, ◌≤◌, ◌<◌, ◌^◌, length};
 ghost use Rattle.order_edit.specs.Buffer.{buffer_words};
 ghost use Rattle.order_entries.specs.Collected.{Laid};
-ghost use Rattle.order_entries.specs.Saying.{read_event};
-ghost use Rattle.order_arrays.specs.Tally.{none_yet, not_orders, told_not, is_read, or_else, counted, CountedAt, Met};
+ghost use Rattle.order_arrays.specs.Tally.{none_yet, not_orders, told_not, or_else, counted, CountedAt, Met};
 
 use edit::Side;
 use json_tokens::{OPEN_ARRAY, array_close_end, comma_end, skip_blanks};
 use json_values::value_end;
 use order_edit::{BUFFER_WORDS, put};
-use order_entries::{MaybeEvent, OrderPlace, order_place, read_order};
-use text::{both, byte_at};
+use order_entries::{OrderPlace, order_place, read_order};
+use text::byte_at;
 
 // What was met of the orders of a message so far.
 #[derive(Clone, Copy)]
@@ -70,14 +69,10 @@ pub fn orders_at(
     ensures { Met s.now depth side before at buffer.old buffer.new result }
 {
     if byte_at(s, at) != OPEN_ARRAY {
-        return told_not(value_end(s, at, depth));
+        return told_not(value_end(s, at, depth).unwrap_or(0));
     }
-    let none = array_close_end(s, at + 1);
-    if 0 < none {
-        return Orders {
-            end: none,
-            tally: before,
-        };
+    if let Some(end) = array_close_end(s, at + 1) {
+        return Orders { end, tally: before };
     }
     let mut i = skip_blanks(s, at + 1);
     let mut tally = before;
@@ -88,16 +83,14 @@ pub fn orders_at(
             return told_not(0);
         }
         let more = with_order(s, found, side, tally, buffer);
-        let j = comma_end(s, past);
-        if j == 0 {
-            let end = array_close_end(s, past);
-            if end == 0 {
+        let Some(next) = comma_end(s, past) else {
+            let Some(end) = array_close_end(s, past) else {
                 return told_not(0);
-            }
+            };
             return Orders { end, tally: more };
-        }
+        };
         tally = more;
-        i = j;
+        i = next;
     }
 }
 
@@ -112,23 +105,21 @@ fn with_order(
     requires { Laid s.now found × (before.bids + before.asks < 2 ^ 63) × (length buffer.old ≡ buffer_words) }
     ensures { CountedAt s.now side before found buffer.old buffer.new result }
 {
-    if found.well_formed {
-        if before.well_formed {
-            let read = read_order(s, side, found);
-            let entry = read.entry;
-            put(buffer, before.bids + before.asks, entry);
-            let event = found.event;
-            return count(
-                before,
-                side,
-                is_event(event),
-                read.broken_at,
-                read.strict_at,
-            );
-        }
+    if !found.well_formed {
+        return not_orders();
+    }
+    if !before.well_formed {
         return before;
     }
-    not_orders()
+    let read = read_order(s, side, found);
+    put(buffer, before.bids + before.asks, read.entry);
+    count(
+        before,
+        side,
+        found.event.is_some(),
+        read.broken_at,
+        read.strict_at,
+    )
 }
 
 // One order more, which has an event or not, and whose first bad text begins at `broken` in an update and at `strict` in a snapshot.
@@ -147,18 +138,16 @@ fn count(before: OrderTally, side: Side, event: bool, broken: usize, strict: usi
     }
     tally.broken_at = or_else(before.broken_at, broken);
     tally.strict_at = or_else(before.strict_at, strict);
-    tally.events = both(before.events, event);
+    tally.events = before.events && event;
     tally
 }
 
 // A position that is known, or else the next one; 0 is none.
+#[tactic(auto, using(std::proofs::lemmas::Bool::Decides::nat_tests), unfolding(crate::specs::Tally::or_else))]
 fn or_else(known: usize, next: usize) -> usize
     ensures { result ≡ or_else known next }
 {
-    if known == 0 {
-        return next;
-    }
-    known
+    if known == 0 { next } else { known }
 }
 
 // A value that ends at `end` and is no array of orders.
@@ -181,15 +170,5 @@ fn not_orders() -> OrderTally
         strict_at: 0,
         events: false,
         well_formed: false,
-    }
-}
-
-// Whether an order names an event.
-fn is_event(event: MaybeEvent) -> bool
-    ensures { result ≡ is_read (read_event event) }
-{
-    match event {
-        MaybeEvent::Is(e) => true,
-        MaybeEvent::Missing => false,
     }
 }

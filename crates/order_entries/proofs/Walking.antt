@@ -1,6 +1,6 @@
 -- The members of an order, one after the other. Assumes nothing.
 use Rattle.std.specs.Prelude.{None, Option, Some, ℕ}
-use Prim.Native.Nat.{ℕ, suc, ◌+◌, ◌<◌, ◌≤◌}
+use Prim.Native.Nat.{ℕ, suc, ◌+◌, ◌≤◌}
 use mathlib.Core.Path.{◌≡◌, refl, sym, ap, ◌∙◌}
 use mathlib.Core.Bool.{Bool, true, false}
 use mathlib.Core.List.{List}
@@ -70,18 +70,18 @@ module _ (s : List ℕ) (at : ℕ) where
     unfolding and_then
     place_none n h = ap (λ (e : ℕ). order_place_of e None) h ∙ made_other told d s at n ∙ told_is
 
-    module _ (opens : byte_at s at ≡ 123) (e : ℕ) (h : e ≡ end_of (closing 125 s (at + 1))) where
-      empty-place : order_place_of e None ≡ place_in s at e no_members
+    module _ (opens : byte_at s at ≡ 123) where
+      empty-place : (e : ℕ) → order_place_of e None ≡ place_in s at e no_members
       unfolding place_in row_of and_then once_at
-      empty-place = refl
+      empty-place e = refl
 
-      pub place-empty : 0 < e → order_place_of e None ≡ order_place_at (suc d) s at
-      place-empty p = empty-place ∙ made-empty told d s at opens (more_members s) (place_in s at) no_members (λ x ms. told-folds ms x) e h p ∙ told_is
+      pub place-empty : (e : ℕ) → closing 125 s (at + 1) ≡ Some e → order_place_of e None ≡ order_place_at (suc d) s at
+      place-empty e h = empty-place e ∙ made-empty told d s at opens (more_members s) (place_in s at) no_members (λ x ms. told-folds ms x) e h ∙ told_is
 
-      pub place-start : e ≡ 0 → (k : ℕ) → k ≡ blanks s (at + 1) → Left order_loop no_members k (order_place_at (suc d) s at)
+      pub place-start : closing 125 s (at + 1) ≡ None → (k : ℕ) → k ≡ blanks s (at + 1) → Left order_loop no_members k (order_place_at (suc d) s at)
       unfolding and_then
-      place-start z k b =
-          rw told_is at (made-start told d s at opens (more_members s) (place_in s at) no_members (λ x ms. told-folds ms x) e h z k b)
+      place-start h k b =
+          rw told_is at (made-start told d s at opens (more_members s) (place_in s at) no_members (λ x ms. told-folds ms x) h k b)
 
 -- ---- the places of the texts
 

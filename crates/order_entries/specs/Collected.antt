@@ -7,16 +7,10 @@ use Rattle.layout.specs.MemberSpans.{no_member_span, with_member_span, once_at, 
 use Rattle.layout.specs.declared.MemberSpan.{MemberSpan}
 use Rattle.order_edit.specs.declared.Event.{Event}
 use Rattle.order_entries.specs.Rows.{OrderRow, event_at, row_of, order_row}
-use Rattle.order_entries.specs.declared.MaybeEvent.{MaybeEvent}
-use Rattle.order_entries.specs.declared.MaybeEvent.TheVariants.{Is, Missing}
 use Rattle.order_entries.specs.declared.OrderPlace.{OrderPlace}
 use Rattle.order_entries.specs.declared.OrderMembers.{OrderMembers}
 
 -- ---- what is told of an order
-
-unfoldable pub maybe_event : Option Event → MaybeEvent
-maybe_event (Some event) = Is event
-maybe_event None = Missing
 
 -- The value ends at `end`, and is the order that was read of it, or none.
 unfoldable pub order_place_of : ℕ → Option OrderRow → OrderPlace
@@ -30,10 +24,10 @@ order_place_of end (Some r) =
       price_to = r.price.to;
       size_from = r.size.from;
       size_to = r.size.to;
-      event = maybe_event r.event;
+      event = r.event;
     }
 order_place_of end None =
-    record { end = end; well_formed = false; id_from = 0; id_to = 0; price_from = 0; price_to = 0; size_from = 0; size_to = 0; event = Missing }
+    record { end = end; well_formed = false; id_from = 0; id_to = 0; price_from = 0; price_to = 0; size_from = 0; size_to = 0; event = None }
 
 -- The value at a position as an order.
 unfoldable pub order_place_at : ℕ → List ℕ → ℕ → OrderPlace
@@ -59,8 +53,8 @@ unfoldable pub once_string : List ℕ → MemberSpan → Bool
 once_string s m = eqb m.times 1 && is_string s (record { from = m.from; to = m.to })
 
 -- The event of a name that was met once.
-unfoldable pub event_of : List ℕ → MemberSpan → MaybeEvent
-event_of s m = maybe_event (and_then (once_at m) (event_at s))
+unfoldable pub event_of : List ℕ → MemberSpan → Option Event
+event_of s m = and_then (once_at m) (event_at s)
 
 -- The order from `at` to `end` that has these members.
 unfoldable pub place_in : List ℕ → ℕ → ℕ → OrderMembers → OrderPlace

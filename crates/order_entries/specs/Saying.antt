@@ -11,8 +11,6 @@ use Rattle.order_edit.specs.Ids.{id_of}
 use Rattle.order_edit.specs.Buffer.{OrderEntry, order_entry}
 use Rattle.order_entries.specs.Rows.{OrderRow}
 use Rattle.order_entries.specs.Collected.{id_span, price_span, size_span}
-use Rattle.order_entries.specs.declared.MaybeEvent.{MaybeEvent}
-use Rattle.order_entries.specs.declared.MaybeEvent.TheVariants.{Is, Missing}
 use Rattle.order_entries.specs.declared.OrderPlace.{OrderPlace}
 use Rattle.order_entries.specs.declared.OrderRead.{OrderRead}
 
@@ -48,13 +46,9 @@ bad_at snapshot s r = first_bad (bad_price s r.price) r.price.from (bad_quantity
 
 -- ---- of what was found
 
-unfoldable pub read_event : MaybeEvent → Option Event
-read_event (Is event) = Some event
-read_event Missing = None
-
 -- The row that was found at a position.
 abbrev pub row_from : ℕ → OrderPlace → OrderRow
-row_from at f = record { whole = record { from = at; to = f.end }; id = id_span f; price = price_span f; size = size_span f; event = read_event f.event }
+row_from at f = record { whole = record { from = at; to = f.end }; id = id_span f; price = price_span f; size = size_span f; event = f.event }
 
 -- What was read of it, wherever it stands.
 pub record ReadAs (s : List ℕ) (side : Side) (f : OrderPlace) (r : OrderRead) : Type 0 where

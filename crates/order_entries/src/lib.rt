@@ -23,14 +23,7 @@ use json_values::{is_name, value_end};
 use layout::{MemberSpan, no_member_span, with_member_span};
 use order_edit::{Buffered, Event, is_id};
 pub use saying::read_order;
-use text::{both, byte_at};
-
-// The event that an order names, if it names one.
-#[derive(Clone, Copy)]
-pub enum MaybeEvent {
-    Is(Event),
-    Missing,
-}
+use text::byte_at;
 
 // What stands at a position, as an order.
 #[derive(Clone, Copy)]
@@ -44,7 +37,8 @@ pub struct OrderPlace {
     pub price_to: usize,
     pub size_from: usize,
     pub size_to: usize,
-    pub event: MaybeEvent,
+    // The event that it names, if it names one.
+    pub event: Option<Event>,
     // Whether the value is an order. If not, the positions of the texts are 0.
     pub well_formed: bool,
 }
@@ -75,36 +69,30 @@ pub fn order_place(s: &[u8], at: usize, depth: usize) -> OrderPlace
     ensures { Found s.now (order_place_at depth s.now at) result }
 {
     if byte_at(s, at) != OPEN_OBJECT {
-        return no_order(value_end(s, at, depth));
+        return no_order(value_end(s, at, depth).unwrap_or(0));
     }
-    let none = object_close_end(s, at + 1);
-    if 0 < none {
-        return no_order(none);
+    if let Some(end) = object_close_end(s, at + 1) {
+        return no_order(end);
     }
     let mut i = skip_blanks(s, at + 1);
     let mut met = no_members();
     loop {
-        let name_to = string_end(s, i);
-        if name_to == 0 {
+        let Some(name_to) = string_end(s, i) else {
             return no_order(0);
-        }
-        let from = colon_end(s, name_to);
-        if from == 0 {
+        };
+        let Some(from) = colon_end(s, name_to) else {
             return no_order(0);
-        }
-        let to = value_end(s, from, depth - 1);
-        if to == 0 {
+        };
+        let Some(to) = value_end(s, from, depth - 1) else {
             return no_order(0);
-        }
+        };
         let next = more_members(s, met, i, name_to, from, to);
-        let j = comma_end(s, to);
-        if j == 0 {
-            let end = object_close_end(s, to);
-            if end == 0 {
+        let Some(j) = comma_end(s, to) else {
+            let Some(end) = object_close_end(s, to) else {
                 return no_order(0);
-            }
+            };
             return place_in(s, at, end, next);
-        }
+        };
         met = next;
         i = j;
     }
@@ -154,9 +142,10 @@ pub fn more_spans(
     ensures { result ≡ on_member s.now name.now with_member_span mark (record { name = record { from = first; to = past }; value = record { from = from; to = to } }) }
 {
     if is_name(s, first, past, name) {
-        return with_member_span(mark, from, to);
+        with_member_span(mark, from, to)
+    } else {
+        mark
     }
-    mark
 }
 
 // The order from `at` to `end` that has these members.
@@ -167,34 +156,29 @@ fn place_in(s: &[u8], at: usize, end: usize, met: OrderMembers) -> OrderPlace
     let id = met.id;
     let price = met.price;
     let size = met.size;
-    let amounts = both(is_once_string(s, price), is_once_string(s, size));
-    if both(is_once_string(s, id), amounts) {
-        if is_id_at(s, id.from, id.to) {
-            return OrderPlace {
-                end,
-                id_from: id.from,
-                id_to: id.to,
-                price_from: price.from,
-                price_to: price.to,
-                size_from: size.from,
-                size_to: size.to,
-                event: event_of(s, met.event),
-                well_formed: true,
-            };
-        }
-        return no_order(end);
+    let strings = is_once_string(s, id) && is_once_string(s, price) && is_once_string(s, size);
+    if strings && is_id_at(s, id.from, id.to) {
+        return OrderPlace {
+            end,
+            id_from: id.from,
+            id_to: id.to,
+            price_from: price.from,
+            price_to: price.to,
+            size_from: size.from,
+            size_to: size.to,
+            event: event_of(s, met.event),
+            well_formed: true,
+        };
     }
     no_order(end)
 }
 
 // Whether a name was met once, and its value is a string.
+#[tactic(auto, using(std::proofs::lemmas::Bool::Decides::nat_tests), unfolding(crate::specs::Collected::once_string, entries::specs::Places::is_string))]
 fn is_once_string(s: &[u8], mark: MemberSpan) -> bool
     ensures { result ≡ once_string s.now mark }
 {
-    if mark.times == 1 {
-        return byte_at(s, mark.from) == QUOTE;
-    }
-    false
+    mark.times == 1 && byte_at(s, mark.from) == QUOTE
 }
 
 // Whether the string from `from` to `to`, quotes included, is an id.
@@ -211,21 +195,20 @@ fn is_id_at(s: &[u8], from: usize, to: usize) -> bool
 }
 
 // The event that the member names, if it was met once.
-fn event_of(s: &[u8], mark: MemberSpan) -> MaybeEvent
+fn event_of(s: &[u8], mark: MemberSpan) -> Option<Event>
     ensures { result ≡ event_of s.now mark }
 {
-    if mark.times == 1 {
-        if is_name(s, mark.from, mark.to, b"add") {
-            return MaybeEvent::Is(Event::Add);
-        }
-        if is_name(s, mark.from, mark.to, b"modify") {
-            return MaybeEvent::Is(Event::Modify);
-        }
-        if is_name(s, mark.from, mark.to, b"delete") {
-            return MaybeEvent::Is(Event::Delete);
-        }
+    if mark.times != 1 {
+        None
+    } else if is_name(s, mark.from, mark.to, b"add") {
+        Some(Event::Add)
+    } else if is_name(s, mark.from, mark.to, b"modify") {
+        Some(Event::Modify)
+    } else if is_name(s, mark.from, mark.to, b"delete") {
+        Some(Event::Delete)
+    } else {
+        None
     }
-    MaybeEvent::Missing
 }
 
 // A value that ends at `end` and is no order.
@@ -240,7 +223,7 @@ fn no_order(end: usize) -> OrderPlace
         price_to: 0,
         size_from: 0,
         size_to: 0,
-        event: MaybeEvent::Missing,
+        event: None,
         well_formed: false,
     }
 }

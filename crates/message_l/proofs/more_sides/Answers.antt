@@ -1,8 +1,10 @@
 -- `message_l::more_sides` meets its contract: the name says which side takes the orders, if any.
 -- Assumes nothing.
-use mathlib.Core.Path.{◌∙◌, sym}
+use mathlib.Core.Path.{◌∙◌, sym, ap}
 use native.Mathlib.Omega.{arith}
+use Rattle.json_tokens.specs.Ends.{end_of}
 use Rattle.json_values.specs.Json.{Pair}
+use Rattle.entries.proofs.Entry.{end-or-zero}
 use Rattle.edit.specs.declared.Side.TheVariants.{Bids, Asks}
 use Rattle.layout.specs.MemberSpans.{member_at}
 use Rattle.message_l.proofs.Steps.{orders-end, orders-tally, orders-added, passed-added, orders-bids, orders-asks, orders-other, sides-bids, sides-asks, sides-other}
@@ -41,13 +43,13 @@ returns-then-is_name-2 c =
 
 pub returns : goal.returns
 returns c =
-    let b = c in
-    let a = b.args in
+    let a = c.args in
     let s = a.s.now in
     let m : Pair = member_at 13 s a.first a.past a.from in
+    let end = c.unwrap_or.ensures ∙ end-or-zero c.item_end.result ∙ ap end_of c.item_end.ensures in
     let n = sym c.is_name.ensures ∙ c.if-is_name.false in
     let o = sym c.is_name-2.ensures ∙ c.if-is_name-2.false in
     record {
-      told = sides-other s m a.met c.item_end.ensures n o;
-      added = passed-added s a.from m.name a.met.tally a.buffer.now b.requires.0 b.requires.1 (orders-other s m n o);
+      told = sides-other s m a.met end n o;
+      added = passed-added s a.from m.name a.met.tally a.buffer.now c.requires.0 c.requires.1 (orders-other s m n o);
     }

@@ -8,7 +8,7 @@ use Rattle.entries.specs.Tally.{one_bid, one_ask}
 use Rattle.order_arrays.specs.Tally.{counted}
 use Rattle.order_arrays.specs.declared.OrderTally.{OrderTally}
 use Rattle.order_arrays.proofs.count.Goals as goal
-use Rattle.order_arrays.proofs.count.Goals.{in-Bids, in-Asks}
+use Rattle.order_arrays.proofs.count.Goals.{Joined-side, in-Bids, in-Asks}
 
 module _ (t : OrderTally) where
   abbrev counts : ℕ → ℕ → OrderTally
@@ -23,13 +23,18 @@ module _ (t : OrderTally) where
   one-ask : counts t.bids (t.asks + 1) ≡ more Asks
   one-ask = let n : t.bids ≡ t.bids + 0 = omega arith in ap (λ (k : ℕ). counts k (t.asks + 1)) n
 
-pub returns : goal.returns
-unfolding counted
-returns c =
-    let a = c.args in
-    let t = a.before in
-    let one : c.match-side.tally ≡ more t a.side = elim c.match-side.branch [
+one-more : (c : Joined-side) → c.match-side.tally ≡ more c.args.before c.args.side
+one-more c =
+    let t = c.args.before in
+    elim c.match-side.branch [
       | in-Bids w ↦ w.tally-is ∙ one-bid t ∙ ap (more t) (sym w.in-Bids.is)
       | in-Asks w ↦ w.tally-is ∙ one-ask t ∙ ap (more t) (sym w.in-Asks.is)
-    ] in
-    rw (one, c.or_else.ensures, c.or_else-2.ensures, c.both.ensures) refl
+    ]
+
+pub returns-then-before : goal.returns-then-before
+unfolding counted
+returns-then-before c = rw (one-more (goal.at.returns-then-before c).Joined-side, c.or_else.ensures, c.or_else-2.ensures, c.if-before.true) refl
+
+pub returns-else-before : goal.returns-else-before
+unfolding counted
+returns-else-before c = rw (one-more (goal.at.returns-else-before c).Joined-side, c.or_else.ensures, c.or_else-2.ensures, c.if-before.false) refl

@@ -11,8 +11,8 @@ returns-then-is_name c =
     let h = means a.s.now (record { from = a.first; to = a.past }) a.name.now in
     c.with_member_span.ensures ∙ sym (hit-yes h with_member_span a.mark (record { from = a.from; to = a.to }) (sym c.is_name.ensures ∙ c.if-is_name.true))
 
-pub returns : goal.returns
-returns c =
+pub returns-else-is_name : goal.returns-else-is_name
+returns-else-is_name c =
     let a = c.args in
     let h = means a.s.now (record { from = a.first; to = a.past }) a.name.now in
     sym (hit-no h with_member_span a.mark (record { from = a.from; to = a.to }) (sym c.is_name.ensures ∙ c.if-is_name.false))

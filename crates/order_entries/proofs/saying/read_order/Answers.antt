@@ -1,12 +1,15 @@
 -- `read_order` meets its contract: each text is read once, and counts as the definition has it.
-use mathlib.Core.Path.{◌≡◌, ◌∙◌, sym, ap, ap₂, subst}
+use Rattle.std.specs.Prelude.{None, Option, Some, unwrap_or}
+use mathlib.Core.Path.{◌≡◌, ◌∙◌, refl, sym, ap, ap₂, subst}
 use mathlib.Core.Bool.{Bool, true}
 use Rattle.decimal.specs.Decimal.{number}
 use Rattle.decimal.specs.Limits.{Within}
 use Rattle.entries.specs.Rows.{is_bad_price, is_bad_size, bad_price, bad_size, number_in, number_at}
 use Rattle.entries.proofs.Numbers.{number-within}
 use Rattle.order_entries.specs.Collected.{price_span, size_span}
-use Rattle.order_entries.specs.Saying.{stays_of, entry_at, bad_quantity, first_bad, bad_at}
+use Rattle.order_edit.specs.declared.Event.{Event}
+use Rattle.order_edit.specs.declared.Event.TheVariants.{Add}
+use Rattle.order_entries.specs.Saying.{event_or, stays_of, entry_at, bad_quantity, first_bad, bad_at}
 use Rattle.order_entries.proofs.saying.read_order.Goals as goal
 use Rattle.order_entries.proofs.saying.read_order.Lts as lts
 use Rattle.order_entries.proofs.saying.read_order.Tie as tie
@@ -15,6 +18,12 @@ use Rattle.order_entries.proofs.saying.read_order.Reads as reads
 -- Places in the code.
 abbrev After-number_of-2 : Type 0
 After-number_of-2 = lts.After-number_of2 tie.the-claims reads.Pre reads.Post
+
+-- an order that names no event is added
+event-or-add : (x : Option Event) → unwrap_or x Add ≡ event_or x
+unfolding event_or
+event-or-add (Some event) = refl
+event-or-add None = refl
 
 -- the numbers of the two texts
 module _ (c : After-number_of-2) where
@@ -33,7 +42,7 @@ returns c =
     let s = a.s.now in
     let n = c.before.before.before in
     let size = c.parse_text-size.ensures in
-    let event = c.event_or_add-event.ensures in
+    let event = c.unwrap_or-event.ensures ∙ event-or-add a.found.event in
     let price = c.is_bad_price-bad.ensures ∙ ap is_bad_price c.parse_text-price.ensures in
     let stays = c.is_staying.ensures ∙ ap stays_of event in
     record {

@@ -17,13 +17,7 @@ use edit::Side;
 use orders::{count_summed, order_at};
 
 // The checksum of the first `b` orders of the bids and the first `a` of the asks.
-pub fn checksum_of<'a>(
-    bids: &'a [u64],
-    b: usize,
-    asks: &'a [u64],
-    a: usize,
-    table: &'a [u32],
-) -> u32
+pub fn checksum_of(bids: &[u64], b: usize, asks: &[u64], a: usize, table: &[u32]) -> u32
     requires { Good Bids bids.now b × Good Asks asks.now a × ShiftTable table.now }
     ensures { result ≡ crc (order_checksum_text (map shown (held bids.now b)) (map shown (held asks.now a))) }
 {
@@ -32,22 +26,19 @@ pub fn checksum_of<'a>(
 }
 
 // The state after the pieces of the first n orders.
-fn sum_orders<'a>(state: u32, words: &'a [u64], n: usize, table: &'a [u32]) -> u32
+fn sum_orders(state: u32, words: &[u64], n: usize, table: &[u32]) -> u32
     requires { (6 * n ≤ length words.now) × ShiftTable table.now }
     ensures { result ≡ summed state (levels_of (held words.now n)) }
 {
     let mut sum = state;
-    let mut i = 0;
-    while i < n {
-        let order = order_at(words, i);
-        let level = order.level;
+    for i in 0..n {
+        let level = order_at(words, i).level;
         sum = crc32::combine_with(
             table,
             sum,
             level::sum_of(level),
             level::length_of(level) as usize,
         );
-        i += 1;
     }
     sum
 }

@@ -14,9 +14,10 @@ use Rattle.edit.specs.declared.Side.TheVariants.{Bids, Asks}
 use Rattle.level.proofs.All.{all_take}
 use Rattle.order_edit.specs.Buffer.{OrderEntry, entry_side}
 use Rattle.orders.specs.declared.Order.{Order}
-use Rattle.orders.specs.declared.Applied.{Applied}
-use Rattle.orders.specs.declared.Applied.TheVariants.{Taken, Clash}
-use Rattle.orders.specs.declared.Updated.TheVariants.{Done, Clashed, TooMany}
+use Rattle.std.specs.Prelude.{Option, Some, None, Result, Ok, Err}
+use Rattle.orders.specs.declared.Counts.{Counts}
+use Rattle.orders.specs.declared.Refusal.{Refusal}
+use Rattle.orders.specs.declared.Refusal.TheVariants.{Clashed, TooMany}
 use Rattle.orders.specs.Orders.{Entry, adds, Outcome, taken, clash, Sides, both, apply_all, then_asks, apply_both, cut_both, beside, after_update, after_snapshot, best_prices}
 use Rattle.orders.specs.Words.{coded, orders_in, held, Sound, order_for, change_of, changes_for, orders_for}
 use Rattle.orders.specs.Kept.{Good, Copied, outcome, count_of, AfterEntries, CutTo, max_orders, max_words, Kept, answer, Left, LeftBy, AfterMessage}
@@ -68,45 +69,48 @@ left-copied side depth source n x words after g c few wide w = record {
 
 -- ---- the sides that are kept
 
+abbrev pub counted : ℕ → ℕ → Result Counts Refusal
+counted x y = Ok (record { bids = x; asks = y })
+
 module _ (depth : ℕ) (working : List ℕ) (n : ℕ) (others : List ℕ) (m : ℕ) (x y : ℕ) (cx : CutTo depth (held working n) x) (cy : CutTo depth (held others m) y) where
   abbrev cut_sides : Sides Order
   cut_sides = cut_both coded depth (both (held working n) (held others m))
 
-  answered : answer cut_sides ≡ cond (leb x max_orders && leb y max_orders) (Done x y) TooMany
+  answered : answer cut_sides ≡ cond (leb x max_orders && leb y max_orders) (counted x y) (Err TooMany)
   unfolding answer cut_both
   answered = rw (cut-length depth (held working n) x cx, cut-length depth (held others m) y cy)
 
   module _ (bids asks : List ℕ) where
-    pub many-bids : max_orders < x → AfterMessage cut_sides bids asks bids asks TooMany
+    pub many-bids : max_orders < x → AfterMessage cut_sides bids asks bids asks (Err TooMany)
     unfolding LeftBy
     many-bids h = record {
-      answer = sym (answered ∙ ap (λ (t : Bool). cond (t && leb y max_orders) (Done x y) TooMany) (lt-leb x max_orders h));
+      answer = sym (answered ∙ ap (λ (t : Bool). cond (t && leb y max_orders) (counted x y) (Err TooMany)) (lt-leb x max_orders h));
       left = (refl, refl);
     }
 
-    pub many-asks : max_orders < y → AfterMessage cut_sides bids asks bids asks TooMany
+    pub many-asks : max_orders < y → AfterMessage cut_sides bids asks bids asks (Err TooMany)
     unfolding LeftBy
     many-asks h = record {
       answer =
-          sym (answered ∙ ap (λ (t : Bool). cond (leb x max_orders && t) (Done x y) TooMany) (lt-leb y max_orders h)
-          ∙ ap (λ (t : Bool). cond t (Done x y) TooMany) (and-false (leb x max_orders)));
+          sym (answered ∙ ap (λ (t : Bool). cond (leb x max_orders && t) (counted x y) (Err TooMany)) (lt-leb y max_orders h)
+          ∙ ap (λ (t : Bool). cond t (counted x y) (Err TooMany)) (and-false (leb x max_orders)));
       left = (refl, refl);
     }
 
     pub done : Good Bids working n → Good Asks others m → x ≤ max_orders → y ≤ max_orders → length bids ≡ max_words → length asks ≡ max_words
-        → (bids' asks' : List ℕ) → Copied working bids x bids' → Copied others asks y asks' → AfterMessage cut_sides bids asks bids' asks' (Done x y)
+        → (bids' asks' : List ℕ) → Copied working bids x bids' → Copied others asks y asks' → AfterMessage cut_sides bids asks bids' asks' (counted x y)
     unfolding LeftBy cut_both
     done gb ga fx fy wb wa bids' asks' c d = record {
       answer =
-          sym (answered ∙ ap (λ (t : Bool). cond (t && leb y max_orders) (Done x y) TooMany) (le-leb x max_orders fx)
-          ∙ ap (λ (t : Bool). cond t (Done x y) TooMany) (le-leb y max_orders fy));
+          sym (answered ∙ ap (λ (t : Bool). cond (t && leb y max_orders) (counted x y) (Err TooMany)) (le-leb x max_orders fx)
+          ∙ ap (λ (t : Bool). cond t (counted x y) (Err TooMany)) (le-leb y max_orders fy));
       left = (left-copied Bids depth working n x bids bids' gb cx fx wb c, left-copied Asks depth others m y asks asks' ga cy fy wa d);
     }
 
 -- ---- the calls in their order
 
 module _ (listed : Bool) (depth b a : ℕ) (bids asks : List ℕ) (es : List OrderEntry) (w o : List ℕ) (cb : held w b ≡ held bids b) (ca : held o a ≡ held asks a)
-    (w' : List ℕ) (r : Applied) (first : AfterEntries listed Bids (held o a) es w b w' r) where
+    (w' : List ℕ) (r : Option ℕ) (first : AfterEntries listed Bids (held o a) es w b w' r) where
   abbrev bes : List (Entry Order)
   bes = changes_for listed Bids es
 
@@ -119,7 +123,7 @@ module _ (listed : Bool) (depth b a : ℕ) (bids asks : List ℕ) (es : List Ord
   bid-outcome : outcome w' r ≡ apply_all coded Bids (held asks a) bes (held bids b)
   bid-outcome = first.outcome ∙ ap (λ (x : List Order). apply_all coded Bids x bes (held w b)) ca ∙ ap (apply_all coded Bids (held asks a) bes) cb
 
-  pub first-clash : r ≡ Clash → AfterMessage target bids asks bids asks Clashed
+  pub first-clash : r ≡ None → AfterMessage target bids asks bids asks (Err Clashed)
   unfolding outcome after_update apply_both then_asks cut_both beside answer LeftBy
   first-clash e =
       let q : apply_all coded Bids (held asks a) bes (held bids b) ≡ clash = sym (ap (outcome w') (sym e) ∙ bid-outcome) in
@@ -128,20 +132,20 @@ module _ (listed : Bool) (depth b a : ℕ) (bids asks : List ℕ) (es : List Ord
         left = (refl, refl);
       }
 
-  module _ (n : ℕ) (is : r ≡ Taken n) where
+  module _ (n : ℕ) (is : r ≡ Some n) where
     pub bids-good : Good Bids w' n
     unfolding count_of
-    bids-good = subst (λ (x : Applied). Good Bids w' (count_of x)) is first.good
+    bids-good = subst (λ (x : Option ℕ). Good Bids w' (count_of x)) is first.good
 
     bids-taken : apply_all coded Bids (held asks a) bes (held bids b) ≡ taken (held w' n)
     unfolding outcome
     bids-taken = sym (ap (outcome w') (sym is) ∙ bid-outcome)
 
-    module _ (o' : List ℕ) (q : Applied) (second : AfterEntries listed Asks (held w' n) es o a o' q) where
+    module _ (o' : List ℕ) (q : Option ℕ) (second : AfterEntries listed Asks (held w' n) es o a o' q) where
       ask-outcome : outcome o' q ≡ apply_all coded Asks (held w' n) aes (held asks a)
       ask-outcome = second.outcome ∙ ap (apply_all coded Asks (held w' n) aes) ca
 
-      pub second-clash : q ≡ Clash → AfterMessage target bids asks bids asks Clashed
+      pub second-clash : q ≡ None → AfterMessage target bids asks bids asks (Err Clashed)
       unfolding outcome after_update apply_both then_asks cut_both beside answer LeftBy
       second-clash e =
           let t : apply_all coded Asks (held w' n) aes (held asks a) ≡ clash = sym (ap (outcome o') (sym e) ∙ ask-outcome) in
@@ -152,10 +156,10 @@ module _ (listed : Bool) (depth b a : ℕ) (bids asks : List ℕ) (es : List Ord
             left = (refl, refl);
           }
 
-      module _ (m : ℕ) (was : q ≡ Taken m) where
+      module _ (m : ℕ) (was : q ≡ Some m) where
         pub asks-good : Good Asks o' m
         unfolding count_of
-        asks-good = subst (λ (x : Applied). Good Asks o' (count_of x)) was second.good
+        asks-good = subst (λ (x : Option ℕ). Good Asks o' (count_of x)) was second.good
 
         asks-taken : apply_all coded Asks (held w' n) aes (held asks a) ≡ taken (held o' m)
         unfolding outcome

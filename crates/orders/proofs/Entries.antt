@@ -16,7 +16,7 @@ use Rattle.order_edit.specs.Buffer.{OrderEntry, entry_side, entries_in, no_entry
 use Rattle.order_edit.specs.Buffer as words
 use Rattle.order_edit.proofs.Sixes.{sixes-length}
 use Rattle.orders.specs.declared.Order.{Order}
-use Rattle.orders.specs.declared.Applied.TheVariants.{Taken, Clash}
+use Rattle.std.specs.Prelude.{Some, None}
 use Rattle.orders.specs.Orders.{Entry, adds, modifies, deletes, entry_of, Outcome, taken, clash, OfEntry, clashes, apply, apply_all, BestFirst}
 use Rattle.orders.specs.Words.{coded, order_id, held, Sound, EntrySound, order_for, change_of, changes_for}
 use Rattle.orders.specs.Kept.{Good, outcome, count_of, AfterOne}
@@ -163,7 +163,7 @@ module _ (listed : Bool) (side : Side) (other : List Order) (es : List OrderEntr
       abbrev Then : List Order
       Then = apply coded side (change_of listed this) (held words n)
 
-      pub turn_step : (after : List ℕ) (m : ℕ) → AfterOne Met Then words n after (Taken m) → Turn listed side other es s n₀ wide after m (k + 1)
+      pub turn_step : (after : List ℕ) (m : ℕ) → AfterOne Met Then words n after (Some m) → Turn listed side other es s n₀ wide after m (k + 1)
       unfolding outcome count_of apply_all
       turn_step after m a =
           let e : held after m ≡ Then = taken-same Met (held after m) Then a.outcome in
@@ -181,7 +181,7 @@ module _ (listed : Bool) (side : Side) (other : List Order) (es : List OrderEntr
             rest = rw (add-one, e) (rw (changes, clear) at t.rest);
           }
 
-      pub turn-clash : (after : List ℕ) → AfterOne Met Then words n after Clash → clash ≡ apply_all coded side other (changes_for listed side es) s
+      pub turn-clash : (after : List ℕ) → AfterOne Met Then words n after None → clash ≡ apply_all coded side other (changes_for listed side es) s
       unfolding outcome apply_all
       turn-clash after a =
           let met : Met ≡ true = clash-clear Met Then a.outcome in

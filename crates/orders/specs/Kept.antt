@@ -1,5 +1,5 @@
 -- What the functions of the code promise. Assumes nothing: these are definitions.
-use Rattle.std.specs.Prelude.{ℕ, suc, ◌+◌, ◌-◌, ◌*◌, ◌≤◌, ◌<◌, ◌≡◌, Bool, true, false, ◌&&◌, cond, List, ◌∷◌, ◌++◌, eqb, leb, length, get_or, take, drop, set}
+use Rattle.std.specs.Prelude.{ℕ, suc, ◌+◌, ◌-◌, ◌*◌, ◌≤◌, ◌<◌, ◌≡◌, Bool, true, false, ◌&&◌, cond, List, ◌∷◌, ◌++◌, eqb, leb, length, get_or, take, drop, set, Option, Some, None, Result, Ok, Err}
 use Rattle.edit.specs.Edit.{for_side}
 use Rattle.edit.specs.declared.Side.{Side}
 use Rattle.edit.specs.declared.Side.TheVariants.{Bids, Asks}
@@ -8,10 +8,9 @@ use Rattle.level.specs.Ranked.{All}
 use Rattle.order_edit.specs.Ids.{same_id}
 use Rattle.order_edit.specs.Buffer.{OrderEntry, entry_side, entries_in, max_buffered, buffer_words}
 use Rattle.orders.specs.declared.Order.{Order}
-use Rattle.orders.specs.declared.Updated.{Updated}
-use Rattle.orders.specs.declared.Updated.TheVariants.{Done, Clashed, TooMany}
-use Rattle.orders.specs.declared.Applied.{Applied}
-use Rattle.orders.specs.declared.Applied.TheVariants.{Taken, Clash}
+use Rattle.orders.specs.declared.Counts.{Counts}
+use Rattle.orders.specs.declared.Refusal.{Refusal}
+use Rattle.orders.specs.declared.Refusal.TheVariants.{Clashed, TooMany}
 use Rattle.orders.specs.Orders.{Outcome, taken, clash, Sides, both, clashed, priced, stands_at, apply_all, best_prices, summed, BestFirst}
 use Rattle.orders.specs.Words.{coded, order_id, orders_in, held, words_past, no_order, Sound, EntrySound, changes_for}
 
@@ -65,17 +64,17 @@ pub record Copied (source words : List ℕ) (n : ℕ) (after : List ℕ) : Type 
 -- ---- entries on one side
 
 -- What an answer says of the side that is left in the words.
-unfoldable pub outcome : List ℕ → Applied → Outcome Order
-outcome words (Taken n) = taken (held words n)
-outcome words Clash = clash
+unfoldable pub outcome : List ℕ → Option ℕ → Outcome Order
+outcome words (Some n) = taken (held words n)
+outcome words None = clash
 
 -- How many orders an answer speaks of.
-unfoldable pub count_of : Applied → ℕ
-count_of (Taken n) = n
-count_of Clash = 0
+unfoldable pub count_of : Option ℕ → ℕ
+count_of (Some n) = n
+count_of None = 0
 
 -- A side of n orders after one entry, which clashes or leaves these orders.
-pub record AfterOne (clashed : Bool) (s : List Order) (words : List ℕ) (n : ℕ) (after : List ℕ) (applied : Applied) : Type 0 where
+pub record AfterOne (clashed : Bool) (s : List Order) (words : List ℕ) (n : ℕ) (after : List ℕ) (applied : Option ℕ) : Type 0 where
   pub room : length after ≡ length words
   pub outcome : outcome after applied ≡ cond clashed clash (taken s)
   pub few : count_of applied ≤ n + 1
@@ -89,7 +88,7 @@ pub record Given (side : Side) (words : List ℕ) (n : ℕ) (other : List ℕ) (
   pub sound : All EntrySound (take count (entries_in buffer))
 
 -- A side with a message's entries applied, uncut. The words are working words: after a clash nothing is said of the orders in them.
-pub record AfterEntries (listed : Bool) (side : Side) (other : List Order) (es : List OrderEntry) (words : List ℕ) (n : ℕ) (after : List ℕ) (applied : Applied) : Type 0 where
+pub record AfterEntries (listed : Bool) (side : Side) (other : List Order) (es : List OrderEntry) (words : List ℕ) (n : ℕ) (after : List ℕ) (applied : Option ℕ) : Type 0 where
   pub room : length after ≡ length words
   pub outcome : outcome after applied ≡ apply_all coded side other (changes_for listed side es) (held words n)
   pub good : Good side after (count_of applied)
@@ -128,9 +127,9 @@ pub record Sent (buffer : List ℕ) (count : ℕ) : Type 0 where
   pub asks : length (for_side entry_side Asks (take count (entries_in buffer))) ≤ max_orders
 
 -- The answer: how many orders are left on each side, if they fit (refusal 12).
-unfoldable pub answer : Sides Order → Updated
-answer clashed = Clashed
-answer (both bids asks) = cond (leb (length bids) max_orders && leb (length asks) max_orders) (Done (length bids) (length asks)) TooMany
+unfoldable pub answer : Sides Order → Result Counts Refusal
+answer clashed = Err Clashed
+answer (both bids asks) = cond (leb (length bids) max_orders && leb (length asks) max_orders) (Ok (record { bids = length bids; asks = length asks })) (Err TooMany)
 
 -- A side left in the words that were lent: the words past it are as they were.
 pub record Left (side : Side) (s : List Order) (words : List ℕ) (n : ℕ) (after : List ℕ) : Type 0 where
@@ -139,12 +138,11 @@ pub record Left (side : Side) (s : List Order) (words : List ℕ) (n : ℕ) (aft
   pub past : words_past n after ≡ words_past n words
 
 -- What an answer says of the words that were lent: the sides are there, or nothing has changed.
-unfoldable pub LeftBy : Updated → Sides Order → List ℕ → List ℕ → List ℕ → List ℕ → Type 0
-LeftBy Clashed sides bids asks bids' asks' = (bids' ≡ bids) × (asks' ≡ asks)
-LeftBy TooMany sides bids asks bids' asks' = (bids' ≡ bids) × (asks' ≡ asks)
-LeftBy (Done n m) clashed bids asks bids' asks' = ⊥
-LeftBy (Done n m) (both x y) bids asks bids' asks' = Left Bids x bids n bids' × Left Asks y asks m asks'
+unfoldable pub LeftBy : Result Counts Refusal → Sides Order → List ℕ → List ℕ → List ℕ → List ℕ → Type 0
+LeftBy (Err refusal) sides bids asks bids' asks' = (bids' ≡ bids) × (asks' ≡ asks)
+LeftBy (Ok counts) clashed bids asks bids' asks' = ⊥
+LeftBy (Ok counts) (both x y) bids asks bids' asks' = Left Bids x bids counts.bids bids' × Left Asks y asks counts.asks asks'
 
-pub record AfterMessage (sides : Sides Order) (bids asks bids' asks' : List ℕ) (updated : Updated) : Type 0 where
+pub record AfterMessage (sides : Sides Order) (bids asks bids' asks' : List ℕ) (updated : Result Counts Refusal) : Type 0 where
   pub answer : updated ≡ answer sides
   pub left : LeftBy updated sides bids asks bids' asks'

@@ -4,7 +4,7 @@ ghost use Rattle.orders.specs.Kept.{Good, CutTo, SummedTo};
 
 use crate::words::order_at;
 use edit::Side;
-use level::{is_equal, price_of};
+use level::price_of;
 
 // How many of the best prices a checksum runs over.
 const SUMMED: usize = 10;
@@ -14,28 +14,19 @@ pub fn cut(words: &[u64], count: usize, side: Side, depth: usize) -> usize
     requires { Good side words.now count }
     ensures { CutTo depth (held words.now count) result }
 {
-    if depth == 0 {
+    if depth == 0 || count == 0 {
         return 0;
     }
-    if count == 0 {
-        return 0;
-    }
-    let best = order_at(words, 0);
-    let mut price = price_of(best.level);
+    let mut price = price_of(order_at(words, 0).level);
     let mut more = depth - 1;
-    let mut i = 1;
-    'next: while i < count {
-        let order = order_at(words, i);
-        let this = price_of(order.level);
-        if is_equal(decimal::compare(this, price)) {
-            i += 1;
-        } else {
+    for i in 1..count {
+        let this = price_of(order_at(words, i).level);
+        if decimal::compare(this, price).is_ne() {
             if more == 0 {
                 return i;
             }
             more -= 1;
             price = this;
-            i += 1;
         }
     }
     count

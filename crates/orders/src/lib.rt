@@ -5,9 +5,8 @@
 // or a modified or deleted one does not stand on its side at its price; then, and where a side would have too many orders, nothing
 // is changed. A level of an order carries the sum of its piece of checksum text (see `checksum`), made with a table that is lent.
 //
-//     let updated = orders::update(&mut bids, b, &mut asks, a, 10, &buffer, count, table);
-//     let Updated::Done(b, a) = updated else { return; };          // how many orders each side has now
-//     orders::count_summed(&bids, b, Side::Bids)                   // how many of them a checksum runs over
+//     let counts = orders::update(&mut bids, b, &mut asks, a, 10, &buffer, count, table)?;   // how many orders each side has now
+//     orders::count_summed(&bids, counts.bids, Side::Bids)                                   // how many of them a checksum runs over
 #![tactic(auto)]
 
 mod applying;
@@ -42,17 +41,16 @@ pub struct Order {
     pub id: Id,
 }
 
-// A side with a message's entries applied: how many orders it has now, or that an entry clashed.
+// How many orders a message left on each side.
 #[derive(Clone, Copy)]
-pub enum Applied {
-    Taken(usize),
-    Clash,
+pub struct Counts {
+    pub bids: usize,
+    pub asks: usize,
 }
 
-// A message on both sides: how many orders are left on each; or that an entry clashed; or that a side has too many orders.
-#[derive(Clone, Copy)]
-pub enum Updated {
-    Done(usize, usize),
+// Why a message was refused: an entry clashed, or a side would have too many orders.
+#[derive(Clone, Copy, Debug, PartialEq, Eq)]
+pub enum Refusal {
     Clashed,
     TooMany,
 }

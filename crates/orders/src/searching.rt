@@ -10,21 +10,18 @@ ghost use Rattle.orders.specs.Kept.{Good, FoundId, StandsAt, PlaceFor};
 use crate::words::order_at;
 use decimal::Decimal;
 use edit::Side;
-use level::{is_ahead, is_equal, price_of};
-use order_edit::{Id, is_same_id};
+use level::{is_ahead, price_of};
+use order_edit::Id;
 
 // Where the order with this id stands among the first `count`, or `count`.
 pub(crate) fn find_id(words: &[u64], count: usize, id: Id) -> usize
     requires { 6 * count ≤ length words.now }
     ensures { FoundId (held words.now count) (id_words id) result }
 {
-    let mut i = 0;
-    'look: while i < count {
-        let standing = order_at(words, i);
-        if is_same_id(standing.id, id) {
+    for i in 0..count {
+        if order_at(words, i).id == id {
             return i;
         }
-        i += 1;
     }
     count
 }
@@ -36,9 +33,8 @@ pub(crate) fn standing(words: &[u64], count: usize, id: Id, price: Decimal) -> u
 {
     let at = find_id(words, count, id);
     if at < count {
-        let found = order_at(words, at);
-        let stood = price_of(found.level);
-        if is_equal(decimal::compare(stood, price)) {
+        let stood = price_of(order_at(words, at).level);
+        if decimal::compare(stood, price).is_eq() {
             return at;
         }
     }
@@ -55,8 +51,8 @@ pub(crate) fn place_for(words: &[u64], count: usize, side: Side, price: Decimal)
     let mut high = count;
     'find: while low < high {
         let middle = low + ((high - low) >> 1);
-        let standing = order_at(words, middle);
-        if is_ahead(side, decimal::compare(price, price_of(standing.level))) {
+        let stood = price_of(order_at(words, middle).level);
+        if is_ahead(side, decimal::compare(price, stood)) {
             high = middle;
         } else {
             low = middle + 1;

@@ -10,7 +10,7 @@ ghost use Rattle.orders.specs.Kept.{max_words, Good, Kept, Sent, AfterMessage};
 use crate::applying::apply;
 use crate::cutting::cut;
 use crate::moving::copy;
-use crate::{Applied, MAX_ORDERS, MAX_WORDS, MAX_WORKING, Updated};
+use crate::{Counts, MAX_ORDERS, MAX_WORDS, MAX_WORKING, Refusal};
 use edit::Side;
 use order_edit::BUFFER_WORDS;
 
@@ -24,7 +24,7 @@ pub fn update(
     buffer: &[u64; BUFFER_WORDS],
     entries: usize,
     table: &[u32],
-) -> Updated
+) -> Result<Counts, Refusal>
     requires { Kept Bids bids.old b × Kept Asks asks.old a × Sent buffer.now entries × ShiftTable table.now }
     ensures { AfterMessage (after_update coded depth (changes_for false Bids (take entries (entries_in buffer.now))) (changes_for false Asks (take entries (entries_in buffer.now))) (held bids.old b) (held asks.old a)) bids.old asks.old bids.new asks.new result }
 {
@@ -40,7 +40,7 @@ pub fn snapshot(
     buffer: &[u64; BUFFER_WORDS],
     entries: usize,
     table: &[u32],
-) -> Updated
+) -> Result<Counts, Refusal>
     requires { (length bids.old ≡ max_words) × (length asks.old ≡ max_words) × Sent buffer.now entries × ShiftTable table.now }
     ensures { AfterMessage (after_snapshot coded depth (orders_for Bids (take entries (entries_in buffer.now))) (orders_for Asks (take entries (entries_in buffer.now)))) bids.old asks.old bids.new asks.new result }
 {
@@ -59,7 +59,7 @@ fn work(
     buffer: &[u64; BUFFER_WORDS],
     entries: usize,
     table: &[u32],
-) -> Updated
+) -> Result<Counts, Refusal>
     requires { Kept Bids bids.old b × Kept Asks asks.old a × Sent buffer.now entries × ShiftTable table.now }
     ensures { AfterMessage (after_update coded depth (changes_for listed Bids (take entries (entries_in buffer.now))) (changes_for listed Asks (take entries (entries_in buffer.now))) (held bids.old b) (held asks.old a)) bids.old asks.old bids.new asks.new result }
 {
@@ -78,8 +78,8 @@ fn work(
         entries,
         table,
     );
-    let Applied::Taken(n) = first else {
-        return Updated::Clashed;
+    let Some(n) = first else {
+        return Err(Refusal::Clashed);
     };
     let second = apply(
         listed,
@@ -92,8 +92,8 @@ fn work(
         entries,
         table,
     );
-    let Applied::Taken(m) = second else {
-        return Updated::Clashed;
+    let Some(m) = second else {
+        return Err(Refusal::Clashed);
     };
     keep(&working, n, &others, m, depth, bids, asks)
 }
@@ -107,18 +107,16 @@ fn keep(
     depth: usize,
     bids: &mut [u64; MAX_WORDS],
     asks: &mut [u64; MAX_WORDS],
-) -> Updated
+) -> Result<Counts, Refusal>
     requires { Good Bids working.now n × Good Asks others.now m × (length bids.old ≡ max_words) × (length asks.old ≡ max_words) }
     ensures { AfterMessage (cut_both coded depth (both (held working.now n) (held others.now m))) bids.old asks.old bids.new asks.new result }
 {
     let x = cut(working, n, Side::Bids, depth);
     let y = cut(others, m, Side::Asks, depth);
-    if x <= MAX_ORDERS {
-        if y <= MAX_ORDERS {
-            copy(working, bids, x);
-            copy(others, asks, y);
-            return Updated::Done(x, y);
-        }
+    if x > MAX_ORDERS || y > MAX_ORDERS {
+        return Err(Refusal::TooMany);
     }
-    Updated::TooMany
+    copy(working, bids, x);
+    copy(others, asks, y);
+    Ok(Counts { bids: x, asks: y })
 }

@@ -1,4 +1,3 @@
-use Prim.Native.Nat.{◌-◌, ◌≤◌}
 use mathlib.Core.Path.{◌≡◌}
 use lib.ListN.{take, drop}
 use Rattle.orders.specs.Words.{orders_in}
@@ -8,7 +7,4 @@ use Rattle.order_checksum.proofs.sum_orders.Given as goal
 
 abbrev pub invariant-loop-i : goal.invariant-loop-i
 invariant-loop-i l =
-    (summed l.sum (drop l.i (take l.n (levels_of (orders_in l.words)))) ≡ summed l.state (take l.n (levels_of (orders_in l.words)))) × (l.i ≤ l.n)
-
-abbrev pub decreases-loop-i : goal.decreases-loop-i
-decreases-loop-i l = l.n - l.i
+    summed l.sum (drop l.i (take l.n (levels_of (orders_in l.words)))) ≡ summed l.state (take l.n (levels_of (orders_in l.words)))

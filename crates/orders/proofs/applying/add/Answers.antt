@@ -14,34 +14,26 @@ use Rattle.orders.proofs.Held.{held-length}
 use Rattle.orders.proofs.Sounds.{entry-price}
 use Rattle.orders.proofs.Steps.{found-stands, found_none, place-there}
 use Rattle.orders.proofs.applying.add.Goals as goal
+use Rattle.orders.proofs.applying.add.Goals.{then-find_id-count-via-then-find_id-count, then-find_id-count-via-else-find_id-count+then-find_id-others}
 
 pub returns-then-find_id-count : goal.returns-then-find_id-count
 unfolding outcome count_of order_for
 returns-then-find_id-count c =
     let s = c in
     let S = held s.args.words.now s.args.count in
-    let l = held-length s.args.words.now s.args.count s.requires.0.room in
-    let f = c.find_id in
-    record {
-      room = refl;
-      outcome = rw (found-stands S (id_words s.args.entry.id) f.result f.ensures (omega (arith, l, c.if-find_id-count.true)));
-      few = omega arith;
-    }
-
-pub returns-then-find_id-others : goal.returns-then-find_id-others
-unfolding outcome count_of order_for
-returns-then-find_id-others c =
-    let s = c in
-    let S = held s.args.words.now s.args.count in
     let O = held s.args.other.now s.args.others in
     let l = held-length s.args.words.now s.args.count s.requires.0.room in
     let m = held-length s.args.other.now s.args.others s.requires.2 in
     let f = c.find_id in
-    let g = c.find_id-2 in
     record {
       room = refl;
       outcome =
-          rw (found_none S (id_words s.args.entry.id) f.result f.ensures (omega (arith, l, c.if-find_id-count.false)), found-stands O (id_words s.args.entry.id) g.result g.ensures (omega (arith, m, c.if-find_id-others.true)));
+          elim c.then-find_id-count.branch [
+            | then-find_id-count-via-then-find_id-count w ↦ rw (found-stands S (id_words s.args.entry.id) f.result f.ensures (omega (arith, l, w.if-find_id-count.true)))
+            | then-find_id-count-via-else-find_id-count+then-find_id-others w ↦
+                let g = w.find_id-else-find_id-count in
+                rw (found_none S (id_words s.args.entry.id) f.result f.ensures (omega (arith, l, w.if-find_id-count.false)), found-stands O (id_words s.args.entry.id) g.result g.ensures (omega (arith, m, w.if-find_id-others.true)))
+          ];
       few = omega arith;
     }
 
@@ -60,7 +52,7 @@ returns c =
     let l = held-length s.args.words.now s.args.count s.requires.0.room in
     let m = held-length s.args.other.now s.args.others s.requires.2 in
     let f = c.find_id in
-    let g = c.find_id-2 in
+    let g = c.find_id-else-find_id-count in
     let p = c.place_for-at in
     let w = c.insert.ensures in
     record {

@@ -1,4 +1,3 @@
-use Prim.Native.Nat.{◌-◌, ◌≤◌}
 use mathlib.Core.Path.{◌≡◌}
 use mathlib.Core.List.{◌++◌}
 use lib.ListN.{take, drop}
@@ -10,9 +9,6 @@ use Rattle.orders.specs.Words.{held}
 use Rattle.orders.proofs.Best.{up_to}
 use Rattle.orders.proofs.cutting.cut.Given as goal
 
-abbrev pub invariant-next : goal.invariant-next
-invariant-next l =
-    (l.i ≤ l.count) × Within (number l.price) × (take l.i (held l.words l.count) ++ up_to coded (value (number l.price)) l.more (drop l.i (held l.words l.count)) ≡ best_prices coded l.depth (held l.words l.count))
-
-abbrev pub decreases-next : goal.decreases-next
-decreases-next l = l.count - l.i
+abbrev pub invariant-loop-i : goal.invariant-loop-i
+invariant-loop-i l =
+    Within (number l.price) × (take l.i (held l.words l.count) ++ up_to coded (value (number l.price)) l.more (drop l.i (held l.words l.count)) ≡ best_prices coded l.depth (held l.words l.count))

@@ -5,61 +5,47 @@ use native.Mathlib.Omega.{arith}
 use Rattle.orders.specs.declared.Order.{Order}
 use Rattle.level.specs.Ranked.{All}
 use Rattle.order_edit.specs.Ids.{same_id, id_words}
-use Rattle.orders.specs.Words.{order_id, no_order}
-use Rattle.orders.specs.Words.{held}
+use Rattle.order_edit.proofs.Ids.{same_words}
+use Rattle.orders.specs.Words.{order_id, no_order, held}
 use Rattle.level.proofs.All.{all-next}
 use Rattle.orders.proofs.Held.{held-length, held_at}
 use Rattle.orders.proofs.searching.find_id.Goals as goal
 
-pub look-init : goal.look-init
+pub loop-i-init : goal.loop-i-init
 unfolding All
-look-init c = (omega arith, tt)
+loop-i-init c = tt
 
-pub order_at-standing-requires : goal.order_at-standing-requires
-order_at-standing-requires c = let s = c in omega (arith, s.requires)
-
-pub returns-then-is_same_id : goal.returns-then-is_same_id
-returns-then-is_same_id c =
-    let s = c in
-    let p = c.look in
-    let l = held-length s.args.words.now s.args.count s.requires in
+pub returns-then-eq : goal.returns-then-eq
+returns-then-eq c =
+    let a = c.args in
+    let t = c.loop-i in
+    let l = held-length a.words.now a.count c.requires in
     record {
-      within = omega (arith, l, p.invariant.0);
-      ahead = p.invariant.1;
+      within = omega (arith, l);
+      ahead = t.invariant;
       here =
           λ h.
-          ap (λ (x : Order). same_id (order_id x) (id_words s.args.id))
-          (held_at s.args.words.now s.args.count p.i c.look-test.true ∙ sym c.order_at-standing.ensures)
-          ∙ sym c.is_same_id.ensures ∙ c.if-is_same_id.true;
+          ap (λ (x : Order). same_id (order_id x) (id_words a.id)) (held_at a.words.now a.count t.i c.loop-i-test.true ∙ sym c.order_at.ensures)
+          ∙ sym (same_words c.order_at.result.id a.id) ∙ sym c.eq.ensures ∙ c.if-eq.true;
     }
 
-pub overflow_add-i : goal.overflow_add-i
-overflow_add-i c = omega arith
-
-pub look-smaller : goal.look-smaller
-look-smaller c = omega arith
-
-pub look-preserved : goal.look-preserved
-look-preserved c =
-    let s = c in
-    let p = c.look in
-    let t = c.look-test.true in
-    let l = held-length s.args.words.now s.args.count s.requires in (
-      omega arith,
-      all-next (λ x. same_id (order_id x) (id_words s.args.id) ≡ false) (held s.args.words.now s.args.count) p.i no_order (omega (arith, l, t)) p.invariant.1
-          (ap (λ (x : Order). same_id (order_id x) (id_words s.args.id))
-          (held_at s.args.words.now s.args.count p.i t ∙ sym c.order_at-standing.ensures)
-          ∙ sym c.is_same_id.ensures ∙ c.if-is_same_id.false),
-    )
+pub loop-i-preserved : goal.loop-i-preserved
+loop-i-preserved c =
+    let a = c.args in
+    let t = c.loop-i in
+    let l = held-length a.words.now a.count c.requires in
+    all-next (λ x. same_id (order_id x) (id_words a.id) ≡ false) (held a.words.now a.count) t.i no_order (omega (arith, l, c.loop-i-test.true)) t.invariant
+    (ap (λ (x : Order). same_id (order_id x) (id_words a.id)) (held_at a.words.now a.count t.i c.loop-i-test.true ∙ sym c.order_at.ensures)
+    ∙ sym (same_words c.order_at.result.id a.id) ∙ sym c.eq.ensures ∙ c.if-eq.false)
 
 pub returns : goal.returns
 returns c =
-    let s = c in
-    let p = c.look in
-    let l = held-length s.args.words.now s.args.count s.requires in
-    let e : p.i ≡ s.args.count = omega (arith, p.invariant.0, c.look-test.false) in
+    let a = c.args in
+    let t = c.loop-i in
+    let l = held-length a.words.now a.count c.requires in
+    let e : t.i ≡ a.count = omega (arith, c.loop-i-test.false) in
     record {
       within = omega (arith, l);
-      ahead = rw e at p.invariant.1;
+      ahead = rw e at t.invariant;
       here = λ h. absurd (omega (arith, l));
     }

@@ -1,4 +1,3 @@
-use Prim.Native.Nat.{◌-◌, ◌≤◌}
 use mathlib.Core.Path.{◌≡◌}
 use mathlib.Core.Bool.{false}
 use lib.ListN.{take}
@@ -8,8 +7,5 @@ use Rattle.orders.specs.Words.{order_id}
 use Rattle.orders.specs.Words.{held}
 use Rattle.orders.proofs.searching.find_id.Given as goal
 
-abbrev pub invariant-look : goal.invariant-look
-invariant-look l = (l.i ≤ l.count) × All (λ x. same_id (order_id x) (id_words l.id) ≡ false) (take l.i (held l.words l.count))
-
-abbrev pub decreases-look : goal.decreases-look
-decreases-look l = l.count - l.i
+abbrev pub invariant-loop-i : goal.invariant-loop-i
+invariant-loop-i l = All (λ x. same_id (order_id x) (id_words l.id) ≡ false) (take l.i (held l.words l.count))

@@ -22,15 +22,15 @@ overflow_sub-middle c = omega arith
 pub overflow_add-middle : goal.overflow_add-middle
 overflow_add-middle c = omega arith
 
-pub order_at-standing-requires : goal.order_at-standing-requires
-order_at-standing-requires c = let s = c in omega (arith, s.requires.0.room)
+pub order_at-requires : goal.order_at-requires
+order_at-requires c = let s = c in omega (arith, s.requires.0.room)
 
 pub compare-requires : goal.compare-requires
 compare-requires c =
     let s = c in
     let p = c.find in
     let m = p.low + (p.high - p.low) / 2 in
-    (s.requires.1, sound-read s.args.words.now s.args.count m (omega (arith, p.invariant.1, c.find-test.true)) c.order_at-standing.result c.order_at-standing.ensures c.price_of.result c.price_of.ensures s.requires.0.room s.requires.0.sound)
+    (s.requires.1, sound-read s.args.words.now s.args.count m (omega (arith, p.invariant.1, c.find-test.true)) c.order_at.result c.order_at.ensures c.price_of-stood.result c.price_of-stood.ensures s.requires.0.room s.requires.0.sound)
 
 pub find-smaller-then-is_ahead : goal.find-smaller-then-is_ahead
 find-smaller-then-is_ahead c = omega arith
@@ -44,7 +44,7 @@ find-preserved-then-is_ahead c =
     let l = held-length s.args.words.now s.args.count s.requires.0.room in
     let lt : m < s.args.count = omega (arith, p.invariant.1, t) in (
       bracket-down coded s.args.side (held s.args.words.now s.args.count) (value (number s.args.price)) s.requires.0.sorted m no_order (omega (arith, l)) p.low p.high p.invariant.0 (omega arith)
-          (ahead-said s.args.words.now s.args.count m lt c.order_at-standing.result c.order_at-standing.ensures c.price_of.result c.price_of.ensures s.args.side s.args.price c.compare.result c.compare.ensures c.is_ahead.result c.is_ahead.ensures true c.if-is_ahead.true),
+          (ahead-said s.args.words.now s.args.count m lt c.order_at.result c.order_at.ensures c.price_of-stood.result c.price_of-stood.ensures s.args.side s.args.price c.compare.result c.compare.ensures c.is_ahead.result c.is_ahead.ensures true c.if-is_ahead.true),
       omega arith,
     )
 
@@ -63,7 +63,7 @@ find-preserved c =
     let l = held-length s.args.words.now s.args.count s.requires.0.room in
     let lt : m < s.args.count = omega (arith, p.invariant.1, t) in (
       bracket-up coded s.args.side (held s.args.words.now s.args.count) (value (number s.args.price)) s.requires.0.sorted m no_order (omega (arith, l)) p.low p.high p.invariant.0 (omega arith)
-          (ahead-said s.args.words.now s.args.count m lt c.order_at-standing.result c.order_at-standing.ensures c.price_of.result c.price_of.ensures s.args.side s.args.price c.compare.result c.compare.ensures c.is_ahead.result c.is_ahead.ensures false c.if-is_ahead.false),
+          (ahead-said s.args.words.now s.args.count m lt c.order_at.result c.order_at.ensures c.price_of-stood.result c.price_of-stood.ensures s.args.side s.args.price c.compare.result c.compare.ensures c.is_ahead.result c.is_ahead.ensures false c.if-is_ahead.false),
       omega arith,
     )
 

@@ -24,25 +24,25 @@ apply-second-requires c =
     let s = c in
     let es = take s.args.entries (entries_in s.args.buffer.now) in
     let o = c.copy-2.ensures in
-    let g = bids-good s.args.listed s.args.depth s.args.b s.args.a s.args.bids.now s.args.asks.now es _ _ c.copy.ensures.orders c.copy-2.ensures.orders _ c.apply-first.result c.apply-first.ensures c.in-Taken.n c.in-Taken.is in
+    let g = bids-good s.args.listed s.args.depth s.args.b s.args.a s.args.bids.now s.args.asks.now es _ _ c.copy.ensures.orders c.copy-2.ensures.orders _ c.apply-first.result c.apply-first.ensures c.in-Some.n c.in-Some.is in
     (good-copied Asks s.args.asks.now _ s.args.a _ s.requires.1.good (omega (arith, s.requires.1.few)) o, record { room = omega (arith, o.room, s.requires.1.few, s.requires.2.asks); other_room = g.room; wide = s.requires.2.wide; few = s.requires.2.few; sound = s.requires.2.sound }, s.requires.3)
 
 pub returns-in_default-second : goal.returns-in_default-second
 returns-in_default-second c =
     let s = c in
     let es = take s.args.entries (entries_in s.args.buffer.now) in
-    second-clash s.args.listed s.args.depth s.args.b s.args.a s.args.bids.now s.args.asks.now es _ _ c.copy.ensures.orders c.copy-2.ensures.orders _ c.apply-first.result c.apply-first.ensures c.in-Taken.n c.in-Taken.is _ c.apply-second.result c.apply-second.ensures c.in_default-second.is
+    second-clash s.args.listed s.args.depth s.args.b s.args.a s.args.bids.now s.args.asks.now es _ _ c.copy.ensures.orders c.copy-2.ensures.orders _ c.apply-first.result c.apply-first.ensures c.in-Some.n c.in-Some.is _ c.apply-second.result c.apply-second.ensures c.in_default-second.is
 
 pub keep-requires : goal.keep-requires
 keep-requires c =
     let s = c in
     let es = take s.args.entries (entries_in s.args.buffer.now) in
-    let b = bids-good s.args.listed s.args.depth s.args.b s.args.a s.args.bids.now s.args.asks.now es _ _ c.copy.ensures.orders c.copy-2.ensures.orders _ c.apply-first.result c.apply-first.ensures c.in-Taken.n c.in-Taken.is in
-    let a = asks-good s.args.listed s.args.depth s.args.b s.args.a s.args.bids.now s.args.asks.now es _ _ c.copy.ensures.orders c.copy-2.ensures.orders _ c.apply-first.result c.apply-first.ensures c.in-Taken.n c.in-Taken.is _ c.apply-second.result c.apply-second.ensures c.in-Taken-second.m c.in-Taken-second.is in
+    let b = bids-good s.args.listed s.args.depth s.args.b s.args.a s.args.bids.now s.args.asks.now es _ _ c.copy.ensures.orders c.copy-2.ensures.orders _ c.apply-first.result c.apply-first.ensures c.in-Some.n c.in-Some.is in
+    let a = asks-good s.args.listed s.args.depth s.args.b s.args.a s.args.bids.now s.args.asks.now es _ _ c.copy.ensures.orders c.copy-2.ensures.orders _ c.apply-first.result c.apply-first.ensures c.in-Some.n c.in-Some.is _ c.apply-second.result c.apply-second.ensures c.in-Some-second.m c.in-Some-second.is in
     (b, a, s.requires.0.wide, s.requires.1.wide)
 
 pub returns : goal.returns
 returns c =
     let s = c in
     let es = take s.args.entries (entries_in s.args.buffer.now) in
-    rw (cut-sides s.args.listed s.args.depth s.args.b s.args.a s.args.bids.now s.args.asks.now es _ _ c.copy.ensures.orders c.copy-2.ensures.orders _ c.apply-first.result c.apply-first.ensures c.in-Taken.n c.in-Taken.is _ c.apply-second.result c.apply-second.ensures c.in-Taken-second.m c.in-Taken-second.is) at c.keep.ensures
+    rw (cut-sides s.args.listed s.args.depth s.args.b s.args.a s.args.bids.now s.args.asks.now es _ _ c.copy.ensures.orders c.copy-2.ensures.orders _ c.apply-first.result c.apply-first.ensures c.in-Some.n c.in-Some.is _ c.apply-second.result c.apply-second.ensures c.in-Some-second.m c.in-Some-second.is) at c.keep.ensures

@@ -5,6 +5,7 @@ ghost use Rattle.writer.specs.Parts.{Room, Put};
 ghost use Rattle.orders.specs.Words.{Sound};
 ghost use Rattle.order_writer.specs.Parts.{entry, next_entry, entries, WritableSide};
 
+use crate::measuring::word_length;
 use order_edit::Id;
 use orders::{Order, order_at};
 use writer::{lay, lay_decimal};
@@ -27,10 +28,8 @@ fn lay_side(words: &[u64], n: usize, buffer: &mut [u8], at: usize) -> usize
         return at;
     }
     let mut end = lay_order(order_at(words, 0), buffer, at);
-    let mut i = 1;
-    while i < n {
+    for i in 1..n {
         end = lay_next(order_at(words, i), buffer, end);
-        i += 1;
     }
     end
 }
@@ -73,18 +72,5 @@ fn lay_word(word: u64, buffer: &mut [u8], at: usize) -> usize
     requires { Room buffer.old at (bytes_of 8 word) }
     ensures { Put buffer.old at (bytes_of 8 word) buffer.new result }
 {
-    let mut rest = word;
-    let mut n: usize = 0;
-    let mut end = at;
-    while n < 8 {
-        let byte = rest % 256;
-        if byte == 0 {
-            return end;
-        }
-        buffer[end] = byte as u8;
-        rest /= 256;
-        n += 1;
-        end += 1;
-    }
-    end
+    lay(&word.to_le_bytes()[..word_length(word)], buffer, at)
 }

@@ -3,7 +3,7 @@
 // The text is laid at the start of a lent buffer, whole or not at all: its length is known before the first byte is
 // laid. Bytes past it stay.
 //
-//     order_writer::write(b"BTC/USD", &bids, 1, &asks, 0, 123, buffer)   // `To(155)` of `{"channel":"level3",..`, or `Full`
+//     order_writer::write(b"BTC/USD", &bids, 1, &asks, 0, 123, buffer)   // `Some(155)` of `{"channel":"level3",..`, or `None`
 #![tactic(auto)]
 
 mod laying;
@@ -18,7 +18,6 @@ ghost use Rattle.orders.specs.Kept.{Kept};
 ghost use Rattle.order_writer.specs.Snapshot.{order_snapshot};
 ghost use Rattle.order_writer.specs.Parts.{snapshot_text, WritableSide};
 
-use decimal::Written;
 pub use laying::lay_id;
 use laying::lay_listed;
 pub use measuring::id_length;
@@ -34,14 +33,14 @@ pub fn write(
     a: usize,
     checksum: u32,
     buffer: &mut [u8],
-) -> Written
+) -> Option<usize>
     requires { Kept Bids bids.now b × Kept Asks asks.now a × (length name.now ≤ max_name) }
     ensures { Laid buffer.old 0 (order_snapshot name.now (map shown (held bids.now b)) (map shown (held asks.now a)) checksum) buffer.new result }
 {
     if buffer.len() < snapshot_length(name, bids, b, asks, a, checksum) {
-        return Written::Full;
+        return None;
     }
-    Written::To(lay_snapshot(name, bids, b, asks, a, checksum, buffer))
+    Some(lay_snapshot(name, bids, b, asks, a, checksum, buffer))
 }
 
 // Lays the text of a book, bids first.

@@ -35,16 +35,11 @@ fn side_length(words: &[u64], n: usize) -> usize
     requires { WritableSide words.now n }
     ensures { (result ≡ length (entries words.now n)) × (result ≤ max_side) }
 {
-    let mut sum = 0;
-    let mut i = 0;
-    while i < n {
+    let mut sum: usize = 0;
+    for i in 0..n {
         sum += 1 + order_length(order_at(words, i));
-        i += 1;
     }
-    if sum == 0 {
-        return 0;
-    }
-    sum - 1
+    sum.saturating_sub(1)
 }
 
 // The length of an order's text.
@@ -65,17 +60,11 @@ pub fn id_length(id: Id) -> usize
 }
 
 // How many bytes a word of an id has: up to eight, until a zero.
-fn word_length(word: u64) -> usize
+pub fn word_length(word: u64) -> usize
     ensures { (result ≡ length (bytes_of 8 word)) × (result ≤ 8) }
 {
-    let mut rest = word;
-    let mut n = 0;
-    while n < 8 {
-        if rest % 256 == 0 {
-            return n;
-        }
-        rest /= 256;
-        n += 1;
-    }
-    n
+    word.to_le_bytes()
+        .iter()
+        .position(|byte| *byte == 0)
+        .unwrap_or(8)
 }

@@ -1,4 +1,4 @@
-use Prim.Native.Nat.{◌+◌, ◌-◌, ◌*◌, ◌≤◌}
+use Prim.Native.Nat.{◌+◌, ◌*◌, ◌≤◌}
 use mathlib.Core.Path.{◌≡◌}
 use lib.ListN.{length, drop}
 use Rattle.orders.specs.Words.{held}
@@ -8,7 +8,4 @@ use Rattle.order_writer.proofs.measuring.side_length.Given as goal
 
 abbrev pub invariant-loop-i : goal.invariant-loop-i
 invariant-loop-i l =
-    (l.sum + length (led (drop l.i (held l.words l.n))) ≡ length (led (held l.words l.n))) × (l.sum ≤ (max_entry + 1) * l.i) × (l.i ≤ l.n)
-
-abbrev pub decreases-loop-i : goal.decreases-loop-i
-decreases-loop-i l = l.n - l.i
+    (l.sum + length (led (drop l.i (held l.words l.n))) ≡ length (led (held l.words l.n))) × (l.sum ≤ (max_entry + 1) * l.i)

@@ -1,38 +1,20 @@
--- `word_length` meets its contract: one byte more at each turn.
-use Prim.Native.Nat.{◌-◌}
-use mathlib.Core.Path.{ap}
-use native.Mathlib.Omega.{arith}
-use borrow.Author.Rules.{rules}
-use lib.ListN.{length}
-use Rattle.order_writer.proofs.Ids.{bytes_next, bytes-stop, bytes-end}
+-- `word_length` meets its contract: how many bytes stand before the first zero.
+use Rattle.std.proofs.Common.{rules, tests, ℕ, ◌≡◌, length, ap, ◌∙◌, arith}
+use Rattle.std.proofs.lemmas.Iterator.{YieldsList-from_slice}
+use Rattle.std.proofs.lemmas.Iterator.Search.{position_from_yields_List}
+use lib.Dec.{eqb}
+use Rattle.std.specs.List.{position}
+use Rattle.std.specs.Prelude.{Option, unwrap_or}
+use Rattle.order_edit.specs.Ids.{bytes_of}
+use Rattle.order_writer.proofs.Ids.{length-word, bytes-short}
 use Rattle.order_writer.proofs.measuring.word_length.Goals as goal
-
-pub loop-n-init : goal.loop-n-init
-loop-n-init c = (omega arith, search rules)
-
-pub returns-then-rest-eq0 : goal.returns-then-rest-eq0
-returns-then-rest-eq0 c =
-    let t = c.loop-n in
-    let e = ap length (bytes-stop (8 - t.n) t.rest c.if-rest-eq0.true) in
-    let v = t.invariant.0 in
-    (omega arith, t.invariant.1)
-
-pub overflow_add-n : goal.overflow_add-n
-overflow_add-n c = omega arith
-
-pub loop-n-smaller : goal.loop-n-smaller
-loop-n-smaller c = omega arith
-
-pub loop-n-preserved : goal.loop-n-preserved
-loop-n-preserved c =
-    let t = c.loop-n in
-    let e = ap length (bytes_next t.n t.rest c.loop-n-test.true (λ z. absurd (omega (arith, z, c.if-rest-eq0.false)))) in
-    let v = t.invariant.0 in
-    (omega arith, omega arith)
 
 pub returns : goal.returns
 returns c =
-    let t = c.loop-n in
-    let e = ap length (bytes-end t.n t.rest c.loop-n-test.false) in
-    let v = t.invariant.0 in
-    (omega arith, t.invariant.1)
+    let w = c.args.word in
+    let p = position_from_yields_List (λ (x : ℕ). eqb x 0) _ _ c.position.result c.position.ensures.ran (YieldsList-from_slice _ c.iter.ensures.rest) (λ x t q k. search (rules, tests)) in
+    let at : c.position.result ≡ position (λ (x : ℕ). eqb x 0) c.to_le_bytes.result = p in
+    let e : c.unwrap_or.result ≡ length (bytes_of 8 w) =
+    c.unwrap_or.ensures ∙ ap (λ (o : Option ℕ). unwrap_or o 8) (at ∙ ap (position (λ (x : ℕ). eqb x 0)) c.to_le_bytes.ensures) ∙ length-word w in
+    let s = bytes-short 8 w in
+    (e, omega arith)

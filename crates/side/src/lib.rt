@@ -13,10 +13,8 @@ ghost use Rattle.level.specs.Words.{edit};
 ghost use Rattle.level.specs.Kept.{max_levels, kept_in, Good};
 ghost use Rattle.side.specs.Applying.{LevelWithin, with_sum, Given, changes_for, AfterEntries};
 
-use edit::{BUFFER_WORDS, Side, entry_in, is_same};
-use level::{
-    Change, EMPTY, MAX_WORDS, entry_of, is_ahead, is_equal, level_in, price_of, put_level, size_of,
-};
+use edit::{BUFFER_WORDS, Side, entry_in};
+use level::{Change, EMPTY, MAX_WORDS, entry_of, is_ahead, level_in, price_of, put_level, size_of};
 use settings::SumText;
 
 // How many levels there is room for while one message is worked: 100 that stood, and 100 entries.
@@ -64,7 +62,7 @@ pub fn apply(
         let numbers = entry_in(buffer, k);
         k += 1;
         let entry_side = numbers.side;
-        if !is_same(entry_side, side) {
+        if entry_side != side {
             continue;
         }
         let price = numbers.price;
@@ -85,7 +83,7 @@ pub fn apply(
         }
         if low < count {
             let level = levels[low];
-            if is_equal(decimal::compare(price_of(level), price)) {
+            if decimal::compare(price_of(level), price).is_eq() {
                 match change {
                     Change::Set(new) => {
                         levels[low] = new;
@@ -115,10 +113,7 @@ pub fn apply(
             moved += count - 1 - low;
         }
     }
-    let mut left = count;
-    if depth < left {
-        left = depth;
-    }
+    let left = count.min(depth);
     i = 0;
     'cut: while i < left {
         let level = levels[i];

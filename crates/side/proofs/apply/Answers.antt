@@ -4,7 +4,7 @@ use mathlib.Core.Path.{◌≡◌, refl, sym, ap, ◌∙◌, subst}
 use mathlib.Core.Bool.{Bool, true, false, not, ◌||◌, or-false, or-true}
 use mathlib.Core.List.{List}
 use Prim.Native.Nat.{ℕ, ◌+◌, ◌-◌, ◌/◌, ◌≤◌, ◌<◌}
-use native.Mathlib.Nat.{add-zero}
+use native.Mathlib.Nat.{add-zero, min-le_right}
 use native.Mathlib.Omega.{arith}
 use lib.ListN.{length, get_or, set, take, drop, length-set}
 use lib.Seq.{length-take-le, get_or-take}
@@ -18,6 +18,7 @@ use Rattle.level.specs.Words.{level_price}
 use Rattle.edit.specs.Edit.{Edit, sets, removes, Numbers, is_same, side_of}
 use Rattle.edit.specs.Buffer.{entries_in, numbers_of, no_numbers}
 use Rattle.edit.specs.declared.Side.{Side}
+use Rattle.edit.proofs.Sides.{same-is}
 use Rattle.level.specs.Side.{nearer, without, apply_all, standing}
 use Rattle.level.specs.Ranked.{All, after_message, replaces, replaced, Sorted, map_edit, IfSet}
 use Rattle.edit.specs.Edit.{named}
@@ -32,9 +33,9 @@ use Rattle.level.proofs.Moving.{moves-replaced, moves-inserted, moves-removed, m
 use Rattle.level.proofs.Shift.{up, up_start, up_turn, length_up, down, down-start, down_turn, length-down}
 use Rattle.level.proofs.Stored.{length-levels, past_more}
 use Rattle.side.proofs.Find.{bracket-start, bracket-up, bracket-down, past, past_same, past-none, bracket-head, bracket-place, set_new, set_same, remove-same, remove-none, none-standing}
-use Rattle.side.proofs.Entries.{Sound, given-length, does, does-named, summed-does, plain-within, Turn, turn-start, turn-pass, turn-room, turn_step, turn-levels, turn-count, turn_moved, turn-met, key, sound-at, ahead-at, same_at, other_at, copied, cut_short, cut-whole}
+use Rattle.side.proofs.Entries.{Sound, given-length, does, does-named, summed-does, plain-within, Turn, turn-start, turn-pass, turn-room, turn_step, turn-levels, turn-count, turn_moved, turn-met, key, sound-at, ahead-at, same_at, other_at, copied, cut-to}
 use Rattle.side.proofs.apply.Goals as goal
-use Rattle.side.proofs.apply.Goals.{then-low-count+else-is_equal, else-low-count, then-depth-left, else-depth-left}
+use Rattle.side.proofs.apply.Goals.{then-low-count+else-is_eq, else-low-count}
 use Rattle.side.proofs.apply.Lts as lts
 use Rattle.side.proofs.apply.Tie as tie
 use Rattle.side.proofs.apply.Reads as reads
@@ -49,17 +50,17 @@ After-load = lts.After-load tie.the-claims reads.Pre reads.Post goal.the-invaria
 abbrev At-entry : Type 0
 At-entry = lts.At-entry tie.the-claims reads.Pre reads.Post goal.the-invariant-load goal.the-decreases-load goal.the-invariant-find goal.the-decreases-find goal.the-invariant-down goal.the-decreases-down goal.the-invariant-up goal.the-decreases-up goal.the-invariant-entry goal.the-decreases-entry goal.the-invariant-cut goal.the-decreases-cut
 
-abbrev After-is_same : Type 0
-After-is_same = lts.After-is_same tie.the-claims reads.Pre reads.Post goal.the-invariant-load goal.the-decreases-load goal.the-invariant-find goal.the-decreases-find goal.the-invariant-down goal.the-decreases-down goal.the-invariant-up goal.the-decreases-up goal.the-invariant-entry goal.the-decreases-entry goal.the-invariant-cut goal.the-decreases-cut
+abbrev After-ne : Type 0
+After-ne = lts.After-ne tie.the-claims reads.Pre reads.Post goal.the-invariant-load goal.the-decreases-load goal.the-invariant-find goal.the-decreases-find goal.the-invariant-down goal.the-decreases-down goal.the-invariant-up goal.the-decreases-up goal.the-invariant-entry goal.the-decreases-entry goal.the-invariant-cut goal.the-decreases-cut
 
 abbrev After-with_sum-change : Type 0
 After-with_sum-change = lts.After-with_sum tie.the-claims reads.Pre reads.Post goal.the-invariant-load goal.the-decreases-load goal.the-invariant-find goal.the-decreases-find goal.the-invariant-down goal.the-decreases-down goal.the-invariant-up goal.the-decreases-up goal.the-invariant-entry goal.the-decreases-entry goal.the-invariant-cut goal.the-decreases-cut
 
+abbrev After-min : Type 0
+After-min = lts.After-min tie.the-claims reads.Pre reads.Post goal.the-invariant-load goal.the-decreases-load goal.the-invariant-find goal.the-decreases-find goal.the-invariant-down goal.the-decreases-down goal.the-invariant-up goal.the-decreases-up goal.the-invariant-entry goal.the-decreases-entry goal.the-invariant-cut goal.the-decreases-cut
+
 abbrev Joined-low-count : Type 0
 Joined-low-count = lts.Joined3 tie.the-claims reads.Pre reads.Post goal.the-invariant-load goal.the-decreases-load goal.the-invariant-find goal.the-decreases-find goal.the-invariant-down goal.the-decreases-down goal.the-invariant-up goal.the-decreases-up goal.the-invariant-entry goal.the-decreases-entry goal.the-invariant-cut goal.the-decreases-cut
-
-abbrev Joined-depth-left : Type 0
-Joined-depth-left = lts.Joined5 tie.the-claims reads.Pre reads.Post goal.the-invariant-load goal.the-decreases-load goal.the-invariant-find goal.the-decreases-find goal.the-invariant-down goal.the-decreases-down goal.the-invariant-up goal.the-decreases-up goal.the-invariant-entry goal.the-decreases-entry goal.the-invariant-cut goal.the-decreases-cut
 
 one_less : (n m : ℕ) → n - m ≡ n + 1 - 1 - m
 one_less n m = omega arith
@@ -102,16 +103,16 @@ module _ (E : At-entry) (h : E.entry.k < (St E).args.entries) where
   entry-within = all-at EntryWithin entries E.entry.k no_numbers in-message (St E).requires.1.within
 
 -- the test of its side
-tested : (c : After-is_same) → c.is_same.result ≡ is_same (numbers c.before.before.before c.entry-test.true).side (St c.before.before.before).args.side
+tested : (c : After-ne) → c.ne.result ≡ not (is_same (numbers c.before.before.before.before.before c.entry-test.true).side (St c.before.before.before.before.before).args.side)
 tested c =
-    let E = c.before.before.before in
-    c.is_same.ensures
-    ∙ ap (λ (x : Side). is_same x (St E).args.side) (ap side_of (c.entry_in-numbers.ensures ∙ sym (in_buffer E c.entry-test.true)))
+    let E = c.before.before.before.before.before in
+    c.ne.ensures ∙ ap not (same-is c.entry_in-numbers.result.side (St E).args.side)
+    ∙ ap (λ (x : Side). not (is_same x (St E).args.side)) (ap side_of (c.entry_in-numbers.ensures ∙ sym (in_buffer E c.entry-test.true)))
 
 -- in a turn, once the price of the entry is had
 module _ (v : After-with_sum-change) where
   abbrev E : At-entry
-  E = v.before.before.before.before.before.before.before.before
+  E = v.before.before.before.before.before.before.before.before.before.before
 
   abbrev s : Start
   s = St E
@@ -161,7 +162,7 @@ module _ (v : After-with_sum-change) where
   this = does s.args.text e
 
   own : is_same e.side s.args.side ≡ true
-  own = sym (tested v.before.before.before.before.before) ∙ v.if-not-is_same.false
+  own = not-false (is_same e.side s.args.side) (sym (tested v.before.before.before.before.before) ∙ v.if-ne.false)
 
   long : length A ≡ 200
   long = E.entry.invariant.long
@@ -250,32 +251,20 @@ behind-all c =
     let p = c.find in
     let out : p.high ≤ p.low = c.find-test.false in
     elim c.if-low-count.branch [
-      | then-low-count+else-is_equal w ↦
+      | then-low-count+else-is_eq w ↦
           let lt : p.low < length (S v) = omega (arith, side-long v, w.if-low-count.true) in
           past level_price (s v).args.side (S v) (P v) (E v).entry.invariant.sorted p.low no_level lt
           (bracket-head level_price (s v).args.side (S v) (P v) p.low p.high no_level p.invariant.0 out lt)
-          (other_at (A v) (N v) p.low w.if-low-count.true w.price_of-then-low-count.result (price v) w.compare-then-low-count.result w.price_of-then-low-count.ensures w.compare-then-low-count.ensures w.is_equal.result w.is_equal.ensures w.if-is_equal.false)
+          (other_at (A v) (N v) p.low w.if-low-count.true w.price_of-then-low-count.result (price v) w.compare-then-low-count.result w.price_of-then-low-count.ensures w.compare-then-low-count.ensures w.is_eq.result w.is_eq.ensures w.if-is_eq.false)
       | else-low-count w ↦ past-none level_price (s v).args.side (S v) (P v) p.low (omega (arith, side-long v, w.if-low-count.false))
     ]
 
 -- the cut: no more than depth, and no more than there is
-cut-eq : (c : Joined-depth-left) → (take c.if-depth-left.left c.entry.levels ≡ take (St c.before.before).args.depth (take c.entry.count c.entry.levels)) × (c.if-depth-left.left ≤ (St c.before.before).args.depth)
+cut-eq : (c : After-min) → (take c.min-left.result c.entry.levels ≡ take (St c.before.before).args.depth (take c.entry.count c.entry.levels)) × (c.min-left.result ≤ (St c.before.before).args.depth)
 cut-eq c =
     let E = c.before.before in
-    let s = St E in
-    let d = s.args.depth in
-    let n = E.entry.count in
-    let l : n ≤ length E.entry.levels = omega (arith, E.entry.invariant.long, E.entry.invariant.fits) in
-    elim c.if-depth-left.branch [
-      | then-depth-left w ↦
-          let h : d < n = w.if-depth-left.true in
-          let e : c.if-depth-left.left ≡ d = w.left-is in
-          (ap (λ (i : ℕ). take i E.entry.levels) e ∙ cut_short E.entry.levels n d (omega arith), omega arith)
-      | else-depth-left w ↦
-          let h : n ≤ d = w.if-depth-left.false in
-          let e : c.if-depth-left.left ≡ n = w.left-is in
-          (ap (λ (i : ℕ). take i E.entry.levels) e ∙ cut-whole E.entry.levels n d l h, omega arith)
-    ]
+    let l : E.entry.count ≤ length E.entry.levels = omega (arith, E.entry.invariant.long, E.entry.invariant.fits) in
+    (cut-to E.entry.levels E.entry.count (St E).args.depth c.min-left.result l c.min-left.ensures, omega (arith, c.min-left.ensures, min-le_right))
 
 pub load-init : goal.load-init
 load-init c = (refl, omega arith, refl)
@@ -303,23 +292,23 @@ entry-init c =
 pub entry_in-numbers-requires : goal.entry_in-numbers-requires
 entry_in-numbers-requires c = let g = (St c.before.before).requires.1 in (omega (arith, g.few, c.entry-test.true), g.room)
 
-pub entry-preserved-then-not-is_same : goal.entry-preserved-then-not-is_same
-entry-preserved-then-not-is_same c =
-    let E = c.before.before.before.before.before in
+pub entry-preserved-then-ne : goal.entry-preserved-then-ne
+entry-preserved-then-ne c =
+    let E = c.before.before.before.before.before.before.before in
     let s = St E in
     let h = c.entry-test.true in
     turn-pass s.args.text s.args.side (entries E h) (take s.args.kept E.load.levels) s.args.kept s.requires.0.few s.requires.1.own
-    E.entry.levels E.entry.count E.entry.moved E.entry.k E.entry.replaced E.entry.invariant (in-message E h) (sym (tested c.before.before) ∙ c.if-not-is_same.true)
+    E.entry.levels E.entry.count E.entry.moved E.entry.k E.entry.replaced E.entry.invariant (in-message E h) (not-true (is_same (numbers E h).side s.args.side) (sym (tested c.before.before) ∙ c.if-ne.true))
 
 pub entry_of-entry-requires : goal.entry_of-entry-requires
 entry_of-entry-requires c =
-    let E = c.before.before.before.before.before.before.before in
+    let E = c.before.before.before.before.before.before.before.before.before in
     let h = c.entry-test.true in
     subst EntryWithin (in_buffer E h ∙ sym c.entry_in-numbers.ensures) (entry-within E h)
 
 pub with_sum-change-requires : goal.with_sum-change-requires
 with_sum-change-requires c =
-    let E = c.before.before.before.before.before.before.before.before in
+    let E = c.before.before.before.before.before.before.before.before.before.before in
     let h = c.entry-test.true in
     let same = c.entry_in-numbers.ensures ∙ sym (in_buffer E h) in
     (subst (IfSet LevelWithin) (sym (c.entry_of-entry.ensures.says ∙ ap (change_of level_plain) same)) (plain-within (numbers E h) (entry-within E h)), (St E).requires.3)
@@ -386,7 +375,7 @@ entry-preserved-in-Set c =
     let p = c.find in
     let lt : p.low < N v = c.if-low-count.true in
     let ls : p.low < length (S v) = omega (arith, side-long v) in
-    let same : key (get_or (S v) p.low no_level) ≡ P v = same_at (A v) (N v) p.low lt c.price_of-then-low-count.result (price v) c.compare-then-low-count.result c.price_of-then-low-count.ensures c.compare-then-low-count.ensures c.is_equal.result c.is_equal.ensures c.if-is_equal.true in
+    let same : key (get_or (S v) p.low no_level) ≡ P v = same_at (A v) (N v) p.low lt c.price_of-then-low-count.result (price v) c.compare-then-low-count.result c.price_of-then-low-count.ensures c.compare-then-low-count.ensures c.is_eq.result c.is_eq.ensures c.if-is_eq.true in
     let high = past_same level_price (s v).args.side (S v) (P v) (E v).entry.invariant.sorted p.low no_level ls same in
     let new = c.in-Set.new in
     let is = c.in-Set.is in
@@ -402,7 +391,7 @@ entry-preserved-after-down c =
     let p = c.find in
     let lt : p.low < N v = c.if-low-count.true in
     let ls : p.low < length (S v) = omega (arith, side-long v) in
-    let same : key (get_or (S v) p.low no_level) ≡ P v = same_at (A v) (N v) p.low lt c.price_of-then-low-count.result (price v) c.compare-then-low-count.result c.price_of-then-low-count.ensures c.compare-then-low-count.ensures c.is_equal.result c.is_equal.ensures c.if-is_equal.true in
+    let same : key (get_or (S v) p.low no_level) ≡ P v = same_at (A v) (N v) p.low lt c.price_of-then-low-count.result (price v) c.compare-then-low-count.result c.price_of-then-low-count.ensures c.compare-then-low-count.ensures c.is_eq.result c.is_eq.ensures c.if-is_eq.true in
     let high = past_same level_price (s v).args.side (S v) (P v) (E v).entry.invariant.sorted p.low no_level ls same in
     let q = c.down in
     let j : q.j ≡ N v - 1 = omega (arith, q.invariant.2, c.down-test.false) in
@@ -480,7 +469,7 @@ cut-preserved c =
     let p = c.cut in
     let q = cut-eq c.before.before.before.before.before.before in
     let E = c.before.before.before.before.before.before.before.before in
-    let t : p.i < c.if-depth-left.left = c.cut-test.true in
+    let t : p.i < c.min-left.result = c.cut-test.true in
     let d : c.args.depth ≤ 100 = c.requires.2 in
     let l : length E.entry.levels ≡ 200 = E.entry.invariant.long in
     let w = c.put_level.ensures in (
@@ -500,7 +489,7 @@ returns c =
     let s = St E in
     let es = take s.args.entries (entries_in s.args.buffer.now) in
     let all = changes_for s.args.text s.args.side es in
-    let i : p.i ≡ c.if-depth-left.left = omega (arith, p.invariant.1, c.cut-test.false) in
+    let i : p.i ≡ c.min-left.result = omega (arith, p.invariant.1, c.cut-test.false) in
     let o = loaded E.before in
     let eq = (rw i at p.invariant.2) ∙ q.0 in
     let l : E.entry.count ≤ length E.entry.levels = omega (arith, E.entry.invariant.long, E.entry.invariant.fits) in
@@ -548,8 +537,8 @@ load-smaller c = omega arith
 pub overflow_add-k : goal.overflow_add-k
 overflow_add-k c = omega arith
 
-pub entry-smaller-then-not-is_same : goal.entry-smaller-then-not-is_same
-entry-smaller-then-not-is_same c = omega arith
+pub entry-smaller-then-ne : goal.entry-smaller-then-ne
+entry-smaller-then-ne c = omega arith
 
 pub overflow_sub-middle : goal.overflow_sub-middle
 overflow_sub-middle c = omega arith

@@ -247,24 +247,11 @@ module _ (a : List Level) (n k : ℕ) (h : k < n) where
         ap (λ (x : ℕ). nearer side x (value (number price))) (key-at ∙ ap value (sym is))
         ∙ sym (ahead-is side (value (number read)) (value (number price))) ∙ ap (ahead_of side) (sym compared) ∙ sym e ∙ f
 
-    tested : (t u : Bool) → t ≡ is_eq o → t ≡ u → eqb (key (get_or (take n a) k no_level)) (value (number price)) ≡ u
+    pub equal-at : (t u : Bool) → t ≡ is_eq o → t ≡ u → eqb (key (get_or (take n a) k no_level)) (value (number price)) ≡ u
     unfolding order
-    tested t u e f =
+    equal-at t u e f =
         ap (λ (x : ℕ). eqb x (value (number price))) (key-at ∙ ap value (sym is))
         ∙ sym (equal_is (value (number read)) (value (number price))) ∙ ap is_eq (sym compared) ∙ sym e ∙ f
-
-    pub same_at : (t : Bool) → t ≡ is_eq o → t ≡ true → key (get_or (take n a) k no_level) ≡ value (number price)
-    same_at t e f = eqb-true (key (get_or (take n a) k no_level)) (value (number price)) (tested t true e f)
-
-    pub other_at : (t : Bool) → t ≡ is_eq o → t ≡ false → key (get_or (take n a) k no_level) ≡ value (number price) → ⊥
-    other_at t e f = eqb-false (key (get_or (take n a) k no_level)) (value (number price)) (tested t false e f)
-
--- ---- copying from one array to another, one level a turn
-
-pub copied : {A : Type 0} (a c : List A) (i : ℕ) (d : A) → i < length a → i < length c → take i c ≡ take i a → take (i + 1) (set c i (get_or a i d)) ≡ take (i + 1) a
-copied a c i d h l e =
-    rw add-one
-    (take-suc-set c i (get_or a i d) l ∙ (ap (λ r. r ++ get_or a i d ∷ []) e ∙ sym (take-suc a i d h)))
 
 -- ---- the cut
 

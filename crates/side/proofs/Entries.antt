@@ -1,20 +1,22 @@
 -- A message's entries on one side: what the loop over them keeps, and what it has shown at the end. An entry for the other side changes nothing.
 -- Assumes nothing.
-use Prim.Native.Nat.{ℕ, suc, ◌+◌, ◌*◌, ◌≤◌, ◌<◌}
+use Prim.Native.Nat.{ℕ, suc, ◌+◌, ◌*◌, ◌≤◌, ◌<◌, min}
 use mathlib.Core.Path.{◌≡◌, refl, sym, ap, ap₂, ◌∙◌, subst}
 use mathlib.Core.Bool.{Bool, true, false, ◌||◌, or_assoc, or-false}
 use mathlib.Core.List.{List, [], ◌∷◌, ◌++◌}
-use native.Mathlib.Nat.{add_assoc, add-zero, zero-add}
+use native.Mathlib.Nat.{add_assoc, add-zero, zero-add, min_comm, min-le_right}
+use Rattle.std.proofs.lemmas.List.{take_min}
 use native.Mathlib.Numerals.{add-one}
 use native.Mathlib.Omega.{arith}
 use borrow.Author.Tests.{eqb-true, eqb-false}
 use lib.Dec.{eqb, lit<, lit≤}
 use lib.ListN.{length, get_or, set, take, drop, drop_of_length-le, length-map}
-use lib.Seq.{drop-cons, take-suc, take-suc-set, take-take, take_all, length-take-le, get_or-take}
+use lib.Seq.{drop-cons, take-suc, take-suc-set, take-take, length-take-le, get_or-take}
 use Rattle.decimal.specs.Decimal.{number, value}
 use Rattle.decimal.specs.Limits.{order, Within}
 use Rattle.decimal.specs.declared.Decimal.{Decimal}
-use Rattle.decimal.specs.declared.Order.{Order}
+use Rattle.std.specs.declared.cmp.Ordering.{Ordering}
+use Rattle.std.specs.Ordering.{is_eq}
 use Rattle.edit.specs.declared.Side.{Side}
 use Rattle.level.specs.declared.Level.{Level}
 use Rattle.level.specs.Words.{level_price, level_size}
@@ -25,7 +27,7 @@ use Rattle.level.specs.Side.{nearer, without, apply_all, ranked}
 use Rattle.level.specs.Ranked.{All, after_message, replaces, replaced, Sorted, map_edit, IfSet}
 use Rattle.level.specs.Moved.{moves, moved}
 use Rattle.edit.specs.Edit.{named}
-use Rattle.level.specs.Order.{ahead_of, equal_of}
+use Rattle.level.specs.Order.{ahead_of}
 use Rattle.level.specs.Words.{no_level, level_plain, change_of}
 use Rattle.checksum.specs.Carried.{level_for}
 use Rattle.checksum.proofs.Pieces.{level-price}
@@ -238,36 +240,22 @@ module _ (a : List Level) (n k : ℕ) (h : k < n) where
       subst Sound (get_or-take n a k no_level h)
       (all-at Sound (take n a) k no_level (omega (arith, length-take-le n a l)) s)
 
-  module _ (read price : Decimal) (o : Order) (is : number read ≡ level_price (get_or a k no_level)) (compared : o ≡ order (number read) (number price)) where
+  module _ (read price : Decimal) (o : Ordering) (is : number read ≡ level_price (get_or a k no_level)) (compared : o ≡ order (number read) (number price)) where
     pub ahead-at : (side : Side) (t u : Bool) → t ≡ ahead_of side o → t ≡ u → nearer side (key (get_or (take n a) k no_level)) (value (number price)) ≡ u
     unfolding order
     ahead-at side t u e f =
         ap (λ (x : ℕ). nearer side x (value (number price))) (key-at ∙ ap value (sym is))
         ∙ sym (ahead-is side (value (number read)) (value (number price))) ∙ ap (ahead_of side) (sym compared) ∙ sym e ∙ f
 
-    tested : (t u : Bool) → t ≡ equal_of o → t ≡ u → eqb (key (get_or (take n a) k no_level)) (value (number price)) ≡ u
+    pub equal-at : (t u : Bool) → t ≡ is_eq o → t ≡ u → eqb (key (get_or (take n a) k no_level)) (value (number price)) ≡ u
     unfolding order
-    tested t u e f =
+    equal-at t u e f =
         ap (λ (x : ℕ). eqb x (value (number price))) (key-at ∙ ap value (sym is))
-        ∙ sym (equal_is (value (number read)) (value (number price))) ∙ ap equal_of (sym compared) ∙ sym e ∙ f
-
-    pub same_at : (t : Bool) → t ≡ equal_of o → t ≡ true → key (get_or (take n a) k no_level) ≡ value (number price)
-    same_at t e f = eqb-true (key (get_or (take n a) k no_level)) (value (number price)) (tested t true e f)
-
-    pub other_at : (t : Bool) → t ≡ equal_of o → t ≡ false → key (get_or (take n a) k no_level) ≡ value (number price) → ⊥
-    other_at t e f = eqb-false (key (get_or (take n a) k no_level)) (value (number price)) (tested t false e f)
-
--- ---- copying from one array to another, one level a turn
-
-pub copied : {A : Type 0} (a c : List A) (i : ℕ) (d : A) → i < length a → i < length c → take i c ≡ take i a → take (i + 1) (set c i (get_or a i d)) ≡ take (i + 1) a
-copied a c i d h l e =
-    rw add-one
-    (take-suc-set c i (get_or a i d) l ∙ (ap (λ r. r ++ get_or a i d ∷ []) e ∙ sym (take-suc a i d h)))
+        ∙ sym (equal_is (value (number read)) (value (number price))) ∙ ap is_eq (sym compared) ∙ sym e ∙ f
 
 -- ---- the cut
 
-pub cut_short : {A : Type 0} (a : List A) (n depth : ℕ) → depth ≤ n → take depth a ≡ take depth (take n a)
-cut_short a n depth h = sym (take-take depth n a h)
-
-pub cut-whole : {A : Type 0} (a : List A) (n depth : ℕ) → n ≤ length a → n ≤ depth → take n a ≡ take depth (take n a)
-cut-whole a n depth l h = sym (take_all depth (take n a) (omega (arith, length-take-le n a l)))
+pub cut-to : {A : Type 0} (a : List A) (n depth left : ℕ) → n ≤ length a → left ≡ min n depth → take left a ≡ take depth (take n a)
+cut-to a n depth left l e =
+    ap (λ (i : ℕ). take i a) (e ∙ min_comm n depth) ∙ sym (take-take (min depth n) n a (min-le_right depth n))
+    ∙ (ap (λ (i : ℕ). take (min depth i) (take n a)) (sym (length-take-le n a l)) ∙ take_min depth (take n a))

@@ -5,17 +5,26 @@
 //     level::level_at(Levels { words: bids, count: applied.left }, 0)        // the best bid now
 #![tactic(auto)]
 
-ghost use Rattle.std.specs.Prelude.{◌≡◌, ◌≤◌, take};
+ghost use Rattle.std.specs.Prelude.{◌≡◌, ◌+◌, ◌-◌, ◌≤◌, ◌<◌, length, take};
+ghost use Rattle.std.specs.List.{insert, remove};
 ghost use Rattle.crc32.specs.Table.{ShiftTable};
-ghost use Rattle.edit.specs.Buffer.{entries_in};
+ghost use Rattle.checksum.specs.Carried.{level_for};
+ghost use Rattle.decimal.specs.Decimal.{number, value};
+ghost use Rattle.decimal.specs.Limits.{Within};
+ghost use Rattle.edit.specs.Edit.{named};
+ghost use Rattle.edit.specs.Buffer.{entries_in, numbers_of};
+ghost use Rattle.level.specs.Side.{standing};
+ghost use Rattle.level.specs.Moved.{place_of};
 ghost use Rattle.level.specs.Ranked.{map_edit, IfSet};
-ghost use Rattle.level.specs.Words.{edit};
-ghost use Rattle.level.specs.Kept.{max_levels, kept_in, Good};
-ghost use Rattle.side.specs.Applying.{LevelWithin, with_sum, Given, changes_for, AfterEntries};
+ghost use Rattle.level.specs.Words.{edit, change_of, level_price};
+ghost use Rattle.level.specs.Kept.{max_levels, max_words, kept_in, held, Good};
+ghost use Rattle.side.specs.Applying.{EntryWithin, LevelWithin, with_sum, Given, changes_for, AfterEntries};
+ghost use Rattle.side.specs.Working.{max_working, Working, AfterChange, Stored};
 
-use edit::{BUFFER_WORDS, Side, entry_in, is_same};
+use decimal::Decimal;
+use edit::{BUFFER_WORDS, Buffered, Side, entry_in};
 use level::{
-    Change, EMPTY, MAX_WORDS, entry_of, is_ahead, is_equal, level_in, price_of, put_level, size_of,
+    Change, EMPTY, Level, MAX_WORDS, entry_of, is_ahead, level_in, price_of, put_level, size_of,
 };
 use settings::SumText;
 
@@ -32,11 +41,25 @@ pub struct Applied {
     pub replaced: bool,
 }
 
+// What one entry did: how many levels there are after it, how many it moved, and whether it set a level at a price where one stood.
+#[derive(Clone, Copy)]
+struct Step {
+    count: usize,
+    moved: usize,
+    replaced: bool,
+}
+
+// Where a price belongs on a side: how many levels stand nearer the top, and whether a level stands at the price.
+#[derive(Clone, Copy)]
+struct Place {
+    at: usize,
+    stands: bool,
+}
+
 // A side after those of the first `entries` entries of a buffer that are for it. The side is the first `kept` levels of the words,
-// and then the first `left` of what is answered; the words past these stay as they are. All in one function, since it owns the
-// working side: an entry moves the levels that it shifts, and copies no side. The side is loaded; the price of each entry for it is
-// searched for, and its level set or removed there; then the best are kept. Levels are summed by way of the table, which
-// `crc32::fill_table` filled; one of no entries will do.
+// and then the first `left` of what is answered; the words past these stay as they are. The side is worked in an array of its own,
+// that an entry changes in place; then the best are kept. Levels are summed by way of the table, which `crc32::fill_table` filled;
+// one of no entries will do.
 pub fn apply(
     words: &mut [u64; MAX_WORDS],
     kept: usize,
@@ -51,86 +74,57 @@ pub fn apply(
     ensures { AfterEntries side depth (changes_for text side (take entries (entries_in buffer.now))) (kept_in words.old kept) words.new result }
 {
     let mut levels = [EMPTY; MAX_WORKING];
+    load(words, kept, &mut levels);
     let mut count = kept;
-    let mut i = 0;
-    'load: while i < count {
-        levels[i] = level_in(words, i);
-        i += 1;
-    }
     let mut moved = 0;
     let mut replaced = false;
-    let mut k = 0;
-    'entry: while k < entries {
+    for k in 0..entries {
         let numbers = entry_in(buffer, k);
-        k += 1;
-        let entry_side = numbers.side;
-        if !is_same(entry_side, side) {
-            continue;
-        }
-        let price = numbers.price;
-        let entry = entry_of(entry_side, price, numbers.size);
-        let plain = entry.change;
-        let change = with_sum(text, plain, table);
-        // the levels before `low` stand nearer the top than the price, and those from `high` on do not
-        let mut low = 0;
-        let mut high = count;
-        'find: while low < high {
-            let middle = low + ((high - low) >> 1);
-            let level = levels[middle];
-            if is_ahead(side, decimal::compare(price_of(level), price)) {
-                low = middle + 1;
-            } else {
-                high = middle;
-            }
-        }
-        if low < count {
-            let level = levels[low];
-            if is_equal(decimal::compare(price_of(level), price)) {
-                match change {
-                    Change::Set(new) => {
-                        levels[low] = new;
-                        replaced = true;
-                    }
-                    Change::Remove(_) => {
-                        count -= 1;
-                        moved += count - low;
-                        let mut j = low;
-                        'down: while j < count {
-                            levels[j] = levels[j + 1];
-                            j += 1;
-                        }
-                    }
-                }
-                continue;
-            }
-        }
-        if let Change::Set(new) = change {
-            let mut j = count;
-            'up: while low < j {
-                levels[j] = levels[j - 1];
-                j -= 1;
-            }
-            levels[low] = new;
-            count += 1;
-            moved += count - 1 - low;
+        if numbers.side == side {
+            let change = change_for(text, numbers, table);
+            let step = apply_change(&mut levels, count, side, numbers.price, change);
+            count = step.count;
+            moved += step.moved;
+            replaced = replaced || step.replaced;
         }
     }
-    let mut left = count;
-    if depth < left {
-        left = depth;
-    }
-    i = 0;
-    'cut: while i < left {
-        let level = levels[i];
-        put_level(words, i, level);
-        i += 1;
-    }
+    let left = count.min(depth);
+    store(words, &levels, left);
     Applied {
-        left: left,
-        count: count,
-        moved: moved,
-        replaced: replaced,
+        left,
+        count,
+        moved,
+        replaced,
     }
+}
+
+// The first `kept` levels of the words, into an array.
+fn load(words: &[u64; MAX_WORDS], kept: usize, levels: &mut [Level; MAX_WORKING])
+    requires { (length words.now ≡ max_words) × (kept ≤ max_levels) × (length levels.old ≡ max_working) }
+    ensures { (length levels.new ≡ max_working) × (take kept levels.new ≡ held (kept_in words.now kept)) }
+{
+    for i in 0..kept {
+        levels[i] = level_in(words, i);
+    }
+}
+
+// The first `left` levels of an array, into the words. No word past these is touched.
+fn store(words: &mut [u64; MAX_WORDS], levels: &[Level; MAX_WORKING], left: usize)
+    requires { (length words.old ≡ max_words) × (length levels.now ≡ max_working) × (left ≤ max_levels) }
+    ensures { Stored words.old (take left levels.now) left words.new }
+{
+    for i in 0..left {
+        put_level(words, i, levels[i]);
+    }
+}
+
+// What an entry does: its level with its sum, or a removal.
+fn change_for(text: SumText, numbers: Buffered, table: &[u32]) -> Change
+    requires { EntryWithin (numbers_of numbers) × ShiftTable table.now }
+    ensures { edit result ≡ change_of (level_for text) (numbers_of numbers) }
+{
+    let entry = entry_of(numbers.side, numbers.price, numbers.size);
+    with_sum(text, entry.change, table)
 }
 
 // The change with the sum of the level that it sets.
@@ -147,4 +141,100 @@ fn with_sum(text: SumText, change: Change, table: &[u32]) -> Change
         )),
         Change::Remove(price) => Change::Remove(price),
     }
+}
+
+// The first `count` levels with a change at a price: its level is set at its place, or the level at the price is removed.
+fn apply_change(
+    levels: &mut [Level; MAX_WORKING],
+    count: usize,
+    side: Side,
+    price: Decimal,
+    change: Change,
+) -> Step
+    requires { Working side levels.old count × (count < max_working) × Within (number price) × (number price ≡ named level_price (edit change)) }
+    ensures { AfterChange side (edit change) (take count levels.old) levels.new result }
+{
+    let place = find_price(levels, count, side, price);
+    let at = place.at;
+    match change {
+        Change::Set(new) => {
+            if place.stands {
+                levels[at] = new;
+                return Step {
+                    count,
+                    moved: 0,
+                    replaced: true,
+                };
+            }
+            insert(levels, count, at, new);
+            Step {
+                count: count + 1,
+                moved: count - at,
+                replaced: false,
+            }
+        }
+        Change::Remove(_) => {
+            if place.stands {
+                remove(levels, count, at);
+                return Step {
+                    count: count - 1,
+                    moved: count - 1 - at,
+                    replaced: false,
+                };
+            }
+            Step {
+                count,
+                moved: 0,
+                replaced: false,
+            }
+        }
+    }
+}
+
+// Where a price belongs among the first `count` levels.
+fn find_price(levels: &[Level; MAX_WORKING], count: usize, side: Side, price: Decimal) -> Place
+    requires { Working side levels.now count × Within (number price) }
+    ensures { (result.at ≡ place_of level_price side (value (number price)) (take count levels.now)) × (result.stands ≡ standing level_price (value (number price)) (take count levels.now)) }
+{
+    let at = place_of(levels, count, side, price);
+    Place {
+        at,
+        stands: at < count && decimal::compare(price_of(levels[at]), price).is_eq(),
+    }
+}
+
+// How many of the first `count` levels stand nearer the top than a price.
+fn place_of(levels: &[Level; MAX_WORKING], count: usize, side: Side, price: Decimal) -> usize
+    requires { Working side levels.now count × Within (number price) }
+    ensures { result ≡ place_of level_price side (value (number price)) (take count levels.now) }
+{
+    let mut low = 0;
+    let mut high = count;
+    // the levels before `low` stand nearer the top than the price, and those from `high` on do not
+    'find: while low < high {
+        let middle = low + ((high - low) >> 1);
+        if is_ahead(side, decimal::compare(price_of(levels[middle]), price)) {
+            low = middle + 1;
+        } else {
+            high = middle;
+        }
+    }
+    low
+}
+
+// A level put in at a place of the first `count` levels; those from there on move up.
+fn insert(levels: &mut [Level; MAX_WORKING], count: usize, at: usize, new: Level)
+    requires { (length levels.old ≡ max_working) × (at ≤ count) × (count < max_working) }
+    ensures { (length levels.new ≡ max_working) × (take (count + 1) levels.new ≡ insert (take count levels.old) at new) }
+{
+    levels.copy_within(at..count, at + 1);
+    levels[at] = new;
+}
+
+// The level at a place taken out of the first `count` levels; those behind it move down.
+fn remove(levels: &mut [Level; MAX_WORKING], count: usize, at: usize)
+    requires { (length levels.old ≡ max_working) × (at < count) × (count ≤ max_working) }
+    ensures { (length levels.new ≡ max_working) × (take (count - 1) levels.new ≡ remove (take count levels.old) at) }
+{
+    levels.copy_within(at + 1..count, at);
 }

@@ -1,12 +1,14 @@
 -- Laws of words, and of a call that is whole. Assumes nothing.
-use Prim.Native.Nat.{ℕ, zero, suc, ◌-◌, ◌/◌, ◌%◌, ◌≤◌, ◌<◌}
+use Prim.Native.Nat.{ℕ, zero, suc, ◌-◌, ◌/◌, ◌≤◌, ◌<◌}
 use mathlib.Core.Path.{◌≡◌, refl, sym, ap}
 use mathlib.Core.Bool.{Bool, true, false, ◌&&◌, true≢false}
-use mathlib.Core.List.{List, [], ◌∷◌}
-use native.Mathlib.Omega.{arith}
+use mathlib.Core.List.{List}
 use borrow.Author.Tests.{leb-true, le-leb, lt-leb}
 use lib.Dec.{leb}
 use lib.ListN.{length}
+use Rattle.std.proofs.Common.{w64}
+use Rattle.std.specs.Int.{to_le_bytes}
+use Rattle.std.proofs.Math.Nat.{div-div-eq-div-mul}
 use Rattle.replay.specs.Format.{bytes_of, opcode, message_length, buffer_length, is_whole}
 
 pub length-bytes : (k n : ℕ) → length (bytes_of k n) ≡ k
@@ -14,16 +16,18 @@ unfolding bytes_of
 length-bytes zero n = refl
 length-bytes (suc k) n = ap suc (length-bytes k (n / 256))
 
--- the lowest byte, and the others
-pub next-byte : (i n : ℕ) → 0 < i → bytes_of i n ≡ n % 256 ∷ bytes_of (i - 1) (n / 256)
+-- std's bytes of a number, the lowest first, are these
+pub le-bytes : (n : ℕ) → to_le_bytes w64 n ≡ bytes_of 8 n
 unfolding bytes_of
-next-byte zero n h = elim h [ ]
-next-byte (suc i) n h = let e : suc i - 1 ≡ i = omega arith in rw e
-
-pub no_bytes : (i n : ℕ) → i ≤ 0 → bytes_of i n ≡ []
-unfolding bytes_of
-no_bytes zero n h = refl
-no_bytes (suc _) n h = elim h [ ]
+le-bytes n =
+    rw (
+      div-div-eq-div-mul n 256 256,
+      div-div-eq-div-mul n 65536 256,
+      div-div-eq-div-mul n 16777216 256,
+      div-div-eq-div-mul n 4294967296 256,
+      div-div-eq-div-mul n 1099511627776 256,
+      div-div-eq-div-mul n 281474976710656 256,
+    )
 
 -- ---- a call that is whole
 

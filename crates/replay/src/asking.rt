@@ -37,6 +37,7 @@ pub fn answer(book: &Book, call: &[u8], buffer: &mut [u8]) -> Replied
         return take(book, &call[HEADER..]);
     }
     let scope = scope_of(word_at(call, SCOPE));
+    // Tests one after another: of the last arm of a `match` on numbers a proof cannot name what it is not.
     if opcode == 1 {
         return counts(book, scope);
     }
@@ -116,22 +117,24 @@ pub fn lay_reply(reply: Replied, part: &mut [u8]) -> usize
     lay_word(reply.sixth, part, end)
 }
 
+#[tactic(auto, unfolding(crate::specs::Format::scope_of))]
 fn scope_of(n: u64) -> Scope
     ensures { result ≡ scope_of n }
 {
-    if n == 0 {
-        return Scope::Current;
+    match n {
+        0 => Scope::Current,
+        _ => Scope::LastGood,
     }
-    Scope::LastGood
 }
 
+#[tactic(auto, unfolding(crate::specs::Format::side_of))]
 fn side_of(n: u64) -> Side
     ensures { result ≡ side_of n }
 {
-    if n == 0 {
-        return Side::Bids;
+    match n {
+        0 => Side::Bids,
+        _ => Side::Asks,
     }
-    Side::Asks
 }
 
 fn step_replied(step: Step) -> Replied

@@ -4,6 +4,7 @@ ghost use Rattle.writer.specs.Parts.{Put};
 ghost use Rattle.replay.specs.Format.{bytes_of, is_whole, call_length, reply_length};
 
 use text::word_at;
+use writer::lay;
 
 // A call's header is six words: what is asked, scope, side, index, the lengths of the lent buffer and of the message.
 pub const HEADER: usize = 48;
@@ -30,16 +31,7 @@ pub fn lay_word(n: u64, part: &mut [u8], at: usize) -> usize
     requires { at + 8 ≤ length part.old }
     ensures { Put part.old at (bytes_of 8 n) part.new result }
 {
-    let mut left = n;
-    let mut end = at;
-    let mut i: usize = 8;
-    while 0 < i {
-        part[end] = (left % 256) as u8;
-        left = left / 256;
-        end += 1;
-        i -= 1;
-    }
-    end
+    lay(&n.to_le_bytes(), part, at)
 }
 
 // Whether a script begins with a whole call, and so many bytes hold its reply.

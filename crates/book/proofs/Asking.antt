@@ -1,5 +1,6 @@
 -- Questions: what a book answers is what the reference book answers.
 -- Assumes nothing.
+use Rattle.std.specs.Prelude.{None, Some}
 use mathlib.Core.Path.{◌≡◌, refl, sym, ap, ap₂, ◌∙◌, subst}
 use mathlib.Core.List.{List, [], ◌∷◌, map}
 use mathlib.Core.Bool.{Bool, true, false, true≢false, cond}
@@ -25,7 +26,6 @@ use Rattle.edit.specs.declared.Side.{Side}
 use Rattle.edit.specs.declared.Side.TheVariants.{Bids, Asks}
 use Rattle.level.specs.declared.Level.{Level}
 use Rattle.level.specs.declared.Levels.{Levels}
-use Rattle.level.specs.declared.MaybeLevel.TheVariants.{At, Nothing}
 use Rattle.answer.specs.Answers.{answer_number as number_of, is_taken}
 use Rattle.answer.specs.declared.Answer.{Answer}
 use Rattle.answer.specs.declared.Answer.TheVariants.{Taken, Shut, NoSnapshot, NoLevel}
@@ -203,7 +203,7 @@ counts-told h scope r e bids asks g = subst (λ (x : Counts). AnswersCounts (boo
 
 -- ---- a level
 
-here : (i : ℕ) (s : List Level) (l : Level) → kept·.level_at i s ≡ At l → (ltb i (length (map shown s)) ≡ true) × (get_or (map shown s) i no_level ≡ shown l)
+here : (i : ℕ) (s : List Level) (l : Level) → kept·.level_at i s ≡ Some l → (ltb i (length (map shown s)) ≡ true) × (get_or (map shown s) i no_level ≡ shown l)
 unfolding kept·.level_at
 here i [] l h = let z : ◌≡◌ {A = ℕ} 0 1 = cc in absurd (omega arith)
 here zero (x ∷ s) l h = let e : x ≡ l = cc in (lt-ltb 0 (suc (length (map shown s))) (omega arith), ap shown e)
@@ -212,7 +212,7 @@ here (suc i) (x ∷ s) l h =
     let m : i < length (map shown s) = ltb-true i (length (map shown s)) k.0 in
     (lt-ltb (suc i) (suc (length (map shown s))) (omega arith), k.1)
 
-none_here : (i : ℕ) (s : List Level) → kept·.level_at i s ≡ Nothing → ltb i (length (map shown s)) ≡ false
+none_here : (i : ℕ) (s : List Level) → kept·.level_at i s ≡ None → ltb i (length (map shown s)) ≡ false
 unfolding kept·.level_at
 none_here i [] h = le-ltb i 0 (omega arith)
 none_here zero (x ∷ s) h = let z : ◌≡◌ {A = ℕ} 0 1 = cc in absurd (omega arith)
@@ -230,12 +230,12 @@ module _ (b : Book) (scope : Scope) (side : Side) (i : ℕ) where
   abbrev asked : List ℕ → Response
   asked x = respond q (length x) (level_at scope side i)
 
-  in-here : (s : Side) (l : Level) → level_in b s i ≡ At l → (ltb i (length (side_of s q)) ≡ true) × (get_or (side_of s q) i no_level ≡ shown l)
+  in-here : (s : Side) (l : Level) → level_in b s i ≡ Some l → (ltb i (length (side_of s q)) ≡ true) × (get_or (side_of s q) i no_level ≡ shown l)
   unfolding level_in side_of shows
   in-here Bids l h = here i (held b.bids) l h
   in-here Asks l h = here i (held b.asks) l h
 
-  in-none : (s : Side) → level_in b s i ≡ Nothing → ltb i (length (side_of s q)) ≡ false
+  in-none : (s : Side) → level_in b s i ≡ None → ltb i (length (side_of s q)) ≡ false
   unfolding level_in side_of shows
   in-none Bids h = none_here i (held b.bids) h
   in-none Asks h = none_here i (held b.asks) h
@@ -245,7 +245,7 @@ module _ (b : Book) (scope : Scope) (side : Side) (i : ℕ) where
   unfolding respond shows
   answered h t e x = asked-yes q (asked x) h ∙ ap (λ (y : Bool). cond y Taken NoLevel) e
 
-  pub level-here : open' ≡ true → (l : Level) → level_in b side i ≡ At l → (price size : Decimal) → number price ≡ level_price l → number size ≡ level_size l
+  pub level-here : open' ≡ true → (l : Level) → level_in b side i ≡ Some l → (price size : Decimal) → number price ≡ level_price l → number size ≡ level_size l
       → AnswersLevel b scope side i (record { book = b; answer = Taken; price = price; size = size })
   unfolding does respond replied shown
   level-here h l e price size x z =
@@ -259,7 +259,7 @@ module _ (b : Book) (scope : Scope) (side : Side) (i : ℕ) where
   no-level : {a : Answer} {r : LevelReply} → WithoutLevel b a r → record { price = number r.price; size = number r.size } ≡ no_level
   no-level w = ap₂ (λ (u v : Number). record { price = u; size = v }) w.price w.size
 
-  pub level-none : open' ≡ true → level_in b side i ≡ Nothing → {r : LevelReply} → WithoutLevel b NoLevel r → AnswersLevel b scope side i r
+  pub level-none : open' ≡ true → level_in b side i ≡ None → {r : LevelReply} → WithoutLevel b NoLevel r → AnswersLevel b scope side i r
   unfolding does respond replied zeros is_taken number_of
   level-none h e w =
       let n = in-none side e in

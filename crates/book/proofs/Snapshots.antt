@@ -1,5 +1,6 @@
 -- The writer: the text that is laid into the buffer is the snapshot of the reference book.
 -- Assumes nothing.
+use Rattle.std.specs.Prelude.{None, Option, Some}
 use mathlib.Core.Path.{◌≡◌, refl, sym, ap, ◌∙◌}
 use mathlib.Core.List.{List, map}
 use mathlib.Core.Bool.{Bool, true, false, cond}
@@ -11,8 +12,6 @@ use lib.ListN.{length, take, length-take}
 use Rattle.lifecycle.specs.Lifecycle.{status_of, answers, refusal_of}
 use Rattle.decimal.specs.Buffer.{overlaid}
 use Rattle.decimal.specs.Laying.{fits, Laid}
-use Rattle.decimal.specs.declared.Written.{Written}
-use Rattle.decimal.specs.declared.Written.TheVariants.{To, Full}
 use Rattle.settings.specs.Kept.{config_of}
 use Rattle.settings.specs.declared.Dialect.{Dialect}
 use Rattle.settings.specs.declared.Dialect.TheVariants.{K, M, Unknown}
@@ -60,7 +59,7 @@ module _ (b : Book) where
       interleaves = refl
 
   -- a book of no dialect has no text
-  pub no_text : b.settings.dialect ≡ Unknown → (buffer : List ℕ) → Laid buffer 0 (snapshot_text (shows b)) buffer (To 0)
+  pub no_text : b.settings.dialect ≡ Unknown → (buffer : List ℕ) → Laid buffer 0 (snapshot_text (shows b)) buffer (Some 0)
   unfolding text_in fits overlaid
   no_text e buffer = let z = le-leb 0 (length buffer) (omega arith) in rw (text-is Unknown e) (record { bytes = rw z; end = rw z })
 
@@ -79,16 +78,16 @@ module _ (b : Book) (before after : List ℕ) where
   abbrev asked : Response
   asked = respond p (length before) write
 
-  module _ (h : yes ≡ true) (w : Written) (l : Laid before 0 text after w) where
+  module _ (h : yes ≡ true) (w : Option ℕ) (l : Laid before 0 text after w) where
     asked_is : (t : Bool) → ltb (length before) (length text) ≡ t → refusal p asked ≡ cond t NoRoom Taken
     unfolding respond shows
     asked_is t e = asked-yes p asked h ∙ ap (λ (x : Bool). cond x NoRoom Taken) e
 
-    pub wrote-to : (n : ℕ) → w ≡ To n → Wrote b before after (record { book = b; answer = Taken; value = n })
+    pub wrote-to : (n : ℕ) → w ≡ Some n → Wrote b before after (record { book = b; answer = Taken; value = n })
     unfolding does respond replied fits
     wrote-to n e = go (leb (0 + length text) (length before)) refl l.bytes (sym e ∙ l.end)
       where
-        go : (t : Bool) → leb (0 + length text) (length before) ≡ t → after ≡ elim t [ true ↦ overlaid before 0 text | false ↦ before ] → To n ≡ elim t [ true ↦ To (0 + length text) | false ↦ Full ]
+        go : (t : Bool) → leb (0 + length text) (length before) ≡ t → after ≡ elim t [ true ↦ overlaid before 0 text | false ↦ before ] → Some n ≡ elim t [ true ↦ Some (0 + length text) | false ↦ None ]
             → Wrote b before after (record { book = b; answer = Taken; value = n })
         go true q x y =
             let f : 0 + length text ≤ length before = leb-true (0 + length text) (length before) q in
@@ -99,11 +98,11 @@ module _ (b : Book) (before after : List ℕ) where
             record { book = refl; answer = sym a; value = ap amount k ∙ sym z.0; buffer = x ∙ sym z.1 }
         go false q x y = let z : ◌≡◌ {A = ℕ} 0 1 = cc in absurd (omega arith)
 
-    pub wrote-full : w ≡ Full → Wrote b before after (record { book = b; answer = NoRoom; value = 0 })
+    pub wrote-full : w ≡ None → Wrote b before after (record { book = b; answer = NoRoom; value = 0 })
     unfolding does respond replied zeros fits is_taken number_of
     wrote-full e = go (leb (0 + length text) (length before)) refl l.bytes (sym e ∙ l.end)
       where
-        go : (t : Bool) → leb (0 + length text) (length before) ≡ t → after ≡ elim t [ true ↦ overlaid before 0 text | false ↦ before ] → Full ≡ elim t [ true ↦ To (0 + length text) | false ↦ Full ]
+        go : (t : Bool) → leb (0 + length text) (length before) ≡ t → after ≡ elim t [ true ↦ overlaid before 0 text | false ↦ before ] → None ≡ elim t [ true ↦ Some (0 + length text) | false ↦ None ]
             → Wrote b before after (record { book = b; answer = NoRoom; value = 0 })
         go true q x y = let z : ◌≡◌ {A = ℕ} 0 1 = cc in absurd (omega arith)
         go false q x y =

@@ -1,12 +1,12 @@
 -- What the methods of a book ask on their way. Assumes nothing: these are definitions.
-use Rattle.std.specs.Prelude.{ℕ, ◌≡◌, cond}
+use Rattle.level.specs.declared.Level.{Level}
+use Rattle.std.specs.Prelude.{ℕ, ◌≡◌, cond, Option}
 use Rattle.decimal.specs.Decimal.{number}
 use Rattle.decimal.specs.Limits.{no_number}
 use Rattle.level.specs.Kept.{held}
 use Rattle.level.specs.Kept as kept·
 use Rattle.edit.specs.declared.Side.{Side}
 use Rattle.edit.specs.declared.Side.TheVariants.{Bids, Asks}
-use Rattle.level.specs.declared.MaybeLevel.{MaybeLevel}
 use Rattle.answer.specs.declared.Answer.{Answer}
 use Rattle.book.specs.declared.Book.{Book}
 use Rattle.answer.specs.declared.Answer.TheVariants.{Taken}
@@ -22,7 +22,7 @@ pub record WithoutLevel (b : Book) (a : Answer) (r : LevelReply) : Type 0 where
   pub price : number r.price ≡ no_number
   pub size : number r.size ≡ no_number
 
-unfoldable pub level_in : Book → Side → ℕ → MaybeLevel
+unfoldable pub level_in : Book → Side → ℕ → Option Level
 level_in b Bids i = kept·.level_at i (held b.bids)
 level_in b Asks i = kept·.level_at i (held b.asks)
 

@@ -24,9 +24,9 @@ ghost use Rattle.book.specs.Shown.{shows, book_of, header_of, parts_of, Good, Op
 ghost use Rattle.book.specs.Asking.{level_in, told, WithoutLevel};
 
 use answer::Answer;
-use decimal::{Decimal, Written};
+use decimal::Decimal;
 use edit::Side;
-use level::{Levels, MAX_WORDS, MaybeLevel};
+use level::{Level, Levels, MAX_WORDS};
 use lifecycle::{Counts, Lifecycle, count_levels, first_state, refusal, stands};
 use reference::Scope;
 use settings::{Dialect, Settings};
@@ -244,13 +244,13 @@ impl Book {
         let lifecycle = self.lifecycle;
         if stands(lifecycle, scope) {
             return match level_in(self, side, i) {
-                MaybeLevel::At(level) => LevelReply {
+                Some(level) => LevelReply {
                     book: self,
                     answer: Answer::Taken,
                     price: level::price_of(level),
                     size: level::size_of(level),
                 },
-                MaybeLevel::Nothing => no_level(self, Answer::NoLevel),
+                None => no_level(self, Answer::NoLevel),
             };
         }
         no_level(self, refusal(lifecycle))
@@ -296,19 +296,19 @@ impl Book {
         let lifecycle = self.lifecycle;
         if stands(lifecycle, Scope::Current) {
             return match writing::lay(self, buffer) {
-                Written::To(n) => NumberReply {
+                Some(n) => NumberReply {
                     book: self,
                     answer: Answer::Taken,
                     value: n as u64,
                 },
-                Written::Full => no_value(self, Answer::NoRoom),
+                None => no_value(self, Answer::NoRoom),
             };
         }
         no_value(self, refusal(lifecycle))
     }
 }
 
-fn level_in(book: Book, side: Side, i: usize) -> MaybeLevel
+fn level_in(book: Book, side: Side, i: usize) -> Option<Level>
     requires { Good book }
     ensures { result ≡ level_in book side i }
 {

@@ -5,11 +5,10 @@ ghost use Rattle.reference.specs.Reference.{snapshot_text};
 ghost use Rattle.book.specs.Shown.{shows, Good};
 
 use crate::Book;
-use decimal::Written;
 use settings::{Dialect, rules_of};
 
-// Lays the text of the book at the start of the buffer, or nothing where the room does not suffice.
-pub fn lay(book: Book, buffer: &mut [u8]) -> Written
+// Lays the text of the book at the start of the buffer, and answers where it ends; or lays nothing, where the room does not suffice.
+pub fn lay(book: Book, buffer: &mut [u8]) -> Option<usize>
     requires { Good book }
     ensures { Laid buffer.old 0 (snapshot_text (shows book)) buffer.new result }
 {
@@ -35,6 +34,6 @@ pub fn lay(book: Book, buffer: &mut [u8]) -> Written
             );
             writer::m_write(&name[..n], bids, asks, sum, book.number, buffer)
         }
-        Dialect::Unknown => Written::To(0),
+        Dialect::Unknown => Some(0),
     }
 }

@@ -4,15 +4,15 @@ use mathlib.Core.Path.{refl, sym, subst, ◌∙◌}
 use Rattle.book.specs.Shown.{Wrote}
 use Rattle.book.proofs.Book.write.Goals as goal
 
-pub returns-in-To : goal.returns-in-To
-returns-in-To c =
+pub returns-in-Some : goal.returns-in-Some
+returns-in-Some c =
     let a = c.args in
-    wrote-to a.self a.buffer.now c.lay.new.buffer (sym c.stands.ensures ∙ c.if-stands.true) c.lay.result c.lay.ensures c.in-To.n c.in-To.is
+    wrote-to a.self a.buffer.now c.lay.new.buffer (sym c.stands.ensures ∙ c.if-stands.true) c.lay.result c.lay.ensures c.in-Some.n c.in-Some.is
 
-pub returns-in-Full : goal.returns-in-Full
-returns-in-Full c =
+pub returns-in-None : goal.returns-in-None
+returns-in-None c =
     let a = c.args in
-    subst (Wrote a.self _ _) (sym c.no_value.ensures) (wrote-full a.self a.buffer.now c.lay.new.buffer (sym c.stands.ensures ∙ c.if-stands.true) c.lay.result c.lay.ensures c.in-Full.is)
+    subst (Wrote a.self _ _) (sym c.no_value.ensures) (wrote-full a.self a.buffer.now c.lay.new.buffer (sym c.stands.ensures ∙ c.if-stands.true) c.lay.result c.lay.ensures c.in-None.is)
 
 pub returns : goal.returns
 returns c =

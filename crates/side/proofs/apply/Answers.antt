@@ -1,13 +1,11 @@
 -- `apply` meets its contract: the loop over the entries keeps `Turn`, that what is left of the message on the working side gives the same as the
 -- whole message on the side that was kept.
-use mathlib.Core.Path.{◌≡◌, refl, sym, ap, ◌∙◌}
-use mathlib.Core.Bool.{true, false}
+use mathlib.Core.Path.{refl, sym, ap, ◌∙◌}
 use mathlib.Core.List.{List}
-use Prim.Native.Nat.{ℕ, ◌≤◌}
+use Prim.Native.Nat.{◌≤◌}
 use native.Mathlib.Nat.{min-le_right}
 use native.Mathlib.Omega.{arith}
 use lib.ListN.{length, take}
-use Rattle.checksum.specs.Carried.{level_for}
 use Rattle.edit.specs.Edit.{named}
 use Rattle.edit.specs.Buffer.{entries_in, numbers_of}
 use Rattle.edit.proofs.Sides.{same-is}
@@ -15,7 +13,7 @@ use Rattle.level.specs.declared.Level.{Level}
 use Rattle.level.specs.Side.{apply_all}
 use Rattle.level.specs.Ranked.{after_message, Sorted, replaced}
 use Rattle.level.specs.Moved.{moved}
-use Rattle.level.specs.Words.{level_price, levels_in, edit}
+use Rattle.level.specs.Words.{level_price, edit}
 use Rattle.level.specs.Kept.{held}
 use Rattle.level.proofs.All.{all_take}
 use Rattle.level.proofs.Ranking.{sorted-take}

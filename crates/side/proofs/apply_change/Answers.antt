@@ -1,17 +1,15 @@
 use mathlib.Core.Path.{◌≡◌, sym, ap, ◌∙◌, subst}
 use mathlib.Core.Bool.{true, false}
-use Prim.Native.Nat.{ℕ, ◌+◌, ◌-◌, ◌≤◌, ◌<◌}
+use Prim.Native.Nat.{◌+◌, ◌-◌}
 use native.Mathlib.Omega.{arith}
-use lib.ListN.{length, set, take}
-use lib.Seq.{length-take-le}
+use lib.ListN.{set, take}
 use Rattle.decimal.specs.Decimal.{number, value}
 use Rattle.decimal.specs.declared.Decimal.{Decimal}
-use Rattle.edit.specs.Edit.{Edit, named}
+use Rattle.edit.specs.Edit.{named}
 use Rattle.level.specs.declared.Change.{Change}
 use Rattle.level.specs.declared.Change.TheVariants.{Set, Remove}
 use Rattle.level.specs.declared.Level.{Level}
 use Rattle.level.specs.Words.{edit, level_price}
-use Rattle.level.specs.Side.{standing}
 use Rattle.side.specs.Working.{AfterChange}
 use Rattle.side.proofs.Steps.{key, step, inside, below-count, after-replaced, after-inserted, after-absent, after-removed}
 use Rattle.side.proofs.apply_change.Goals as goal

@@ -87,7 +87,7 @@ module _ (b : Book) (before after : List ℕ) where
     unfolding does respond replied fits
     wrote-to n e = go (leb (0 + length text) (length before)) refl l.bytes (sym e ∙ l.end)
       where
-        go : (t : Bool) → leb (0 + length text) (length before) ≡ t → after ≡ elim t [ true ↦ overlaid before 0 text | false ↦ before ] → Some n ≡ elim t [ true ↦ Some (0 + length text) | false ↦ None ]
+        go : (t : Bool) → leb (0 + length text) (length before) ≡ t → after ≡ elim t [ true ↦ overlaid before 0 text | false ↦ before ] → ◌≡◌ {A = Option ℕ} (Some n) (elim t [ true ↦ Some (0 + length text) | false ↦ None ])
             → Wrote b before after (record { book = b; answer = Taken; value = n })
         go true q x y =
             let f : 0 + length text ≤ length before = leb-true (0 + length text) (length before) q in
@@ -102,7 +102,7 @@ module _ (b : Book) (before after : List ℕ) where
     unfolding does respond replied zeros fits is_taken number_of
     wrote-full e = go (leb (0 + length text) (length before)) refl l.bytes (sym e ∙ l.end)
       where
-        go : (t : Bool) → leb (0 + length text) (length before) ≡ t → after ≡ elim t [ true ↦ overlaid before 0 text | false ↦ before ] → None ≡ elim t [ true ↦ Some (0 + length text) | false ↦ None ]
+        go : (t : Bool) → leb (0 + length text) (length before) ≡ t → after ≡ elim t [ true ↦ overlaid before 0 text | false ↦ before ] → ◌≡◌ {A = Option ℕ} None (elim t [ true ↦ Some (0 + length text) | false ↦ None ])
             → Wrote b before after (record { book = b; answer = NoRoom; value = 0 })
         go true q x y = let z : ◌≡◌ {A = ℕ} 0 1 = cc in absurd (omega arith)
         go false q x y =

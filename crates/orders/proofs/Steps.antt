@@ -6,54 +6,53 @@ use mathlib.Core.List.{List, ◌∷◌, ◌++◌}
 use native.Mathlib.Omega.{arith}
 use lib.Dec.{eqb}
 use lib.ListN.{length, get_or, take, drop}
-use lib.Seq.{split_at, set_split, take-set-lt, take_all}
+use lib.Seq.{split_at, set_split, take-set-lt}
+use Rattle.std.specs.Prelude.{Option, Some, None, is_some}
 use Rattle.edit.specs.declared.Side.{Side}
 use Rattle.level.specs.Ranked.{All}
 use Rattle.level.specs.Side.{nearer}
 use Rattle.orders.specs.declared.Order.{Order}
 use Rattle.orders.specs.Orders.{priced, stands, stands_at, place, changed, without}
 use Rattle.orders.specs.Words.{coded, order_id, resized_order, orders_in, held, no_order}
-use Rattle.orders.specs.Kept.{FoundId, StandsAt, PlaceFor, PutAt}
+use Rattle.orders.specs.Kept.{FirstWith, FoundId, PlaceFor, PutAt}
 use Rattle.orders.proofs.Held.{held-length}
 use Rattle.orders.proofs.Places.{placed}
-use Rattle.orders.proofs.Ids.{stands-none, stands_at-none, stands_here, stands_at-here, changed-here, without-here}
+use Rattle.orders.proofs.Ids.{stands-none, stands_here, stands_at-here, changed-here, without-here}
 
-module _ (s : List Order) (id : List ℕ) (at : ℕ) (f : FoundId s id at) where
-  pub found-stands : at < length s → stands coded id s ≡ true
-  found-stands h =
-      ap (stands coded id) (split_at s at no_order h)
-      ∙ stands_here coded id (get_or s at no_order) (drop (suc at) s) (f.here h) (take at s) f.ahead
+module _ (s : List Order) (id : List ℕ) (at : ℕ) (f : FirstWith s id at) where
+  first-stands : stands coded id s ≡ true
+  first-stands =
+      ap (stands coded id) (split_at s at no_order f.within)
+      ∙ stands_here coded id (get_or s at no_order) (drop (suc at) s) f.here (take at s) f.ahead
 
-  pub found_none : length s ≤ at → stands coded id s ≡ false
-  found_none h = stands-none coded id s (rw (take_all at s h) at f.ahead)
+  pub first-price : (p : ℕ) → stands_at coded id p s ≡ eqb (priced coded (get_or s at no_order)) p
+  first-price p =
+      ap (stands_at coded id p) (split_at s at no_order f.within)
+      ∙ stands_at-here coded id (get_or s at no_order) (drop (suc at) s) f.here p (take at s) f.ahead
 
-  pub found-price : at < length s → (p : ℕ) → stands_at coded id p s ≡ eqb (priced coded (get_or s at no_order)) p
-  found-price h p =
-      ap (stands_at coded id p) (split_at s at no_order h)
-      ∙ stands_at-here coded id (get_or s at no_order) (drop (suc at) s) (f.here h) p (take at s) f.ahead
+-- what the search for an id says
+pub found-stands : (s : List Order) (id : List ℕ) (o : Option ℕ) → FoundId s id o → stands coded id s ≡ is_some o
+unfolding FoundId
+found-stands s id (Some at) f = first-stands s id at f
+found-stands s id None f = stands-none coded id s f
 
-  pub found_nowhere : length s ≤ at → (p : ℕ) → stands_at coded id p s ≡ false
-  found_nowhere h p = stands_at-none coded id p s (rw (take_all at s h) at f.ahead)
+pub stands-nowhere : (s : List Order) (x : Order) (p : ℕ) → priced coded x ≡ p → stands_at coded (order_id x) p s ≡ false → stands_at coded (order_id x) (priced coded x) s ≡ false
+stands-nowhere s x p e f = ap (λ (q : ℕ). stands_at coded (order_id x) q s) e ∙ f
 
-module _ (s : List Order) (x : Order) (p at : ℕ) (e : priced coded x ≡ p) (f : StandsAt s (order_id x) p at) where
-  pub stands-nowhere : length s ≤ at → stands_at coded (order_id x) (priced coded x) s ≡ false
-  stands-nowhere h = ap (λ (q : ℕ). stands_at coded (order_id x) q s) e ∙ f.nowhere h
+-- the order at `at` has the id and the price of x
+module _ (s : List Order) (x : Order) (p at : ℕ) (e : priced coded x ≡ p) (f : FirstWith s (order_id x) at) where
+  pub stands-there : eqb (priced coded (get_or s at no_order)) p ≡ true → stands_at coded (order_id x) (priced coded x) s ≡ true
+  stands-there q = ap (λ (n : ℕ). stands_at coded (order_id x) n s) e ∙ first-price s (order_id x) at f p ∙ q
 
-  module _ (h : at < length s) where
-    pub stands-there : stands_at coded (order_id x) (priced coded x) s ≡ true
-    stands-there =
-        ap (λ (q : ℕ). stands_at coded (order_id x) q s) e
-        ∙ found-price s (order_id x) at (record { within = f.within; ahead = f.ahead h; here = f.here }) h p ∙ f.price h
+  pub changed-there : take at s ++ resized_order (get_or s at no_order) x ∷ drop (suc at) s ≡ changed coded x s
+  changed-there =
+      sym (ap (changed coded x) (split_at s at no_order f.within)
+      ∙ changed-here coded x (get_or s at no_order) (drop (suc at) s) f.here (take at s) f.ahead)
 
-    pub changed-there : take at s ++ resized_order (get_or s at no_order) x ∷ drop (suc at) s ≡ changed coded x s
-    changed-there =
-        sym (ap (changed coded x) (split_at s at no_order h)
-        ∙ changed-here coded x (get_or s at no_order) (drop (suc at) s) (f.here h) (take at s) (f.ahead h))
-
-    pub gone-there : take at s ++ drop (suc at) s ≡ without coded (order_id x) s
-    gone-there =
-        sym (ap (without coded (order_id x)) (split_at s at no_order h)
-        ∙ without-here coded (order_id x) (get_or s at no_order) (drop (suc at) s) (f.here h) (take at s) (f.ahead h))
+  pub gone-there : take at s ++ drop (suc at) s ≡ without coded (order_id x) s
+  gone-there =
+      sym (ap (without coded (order_id x)) (split_at s at no_order f.within)
+      ∙ without-here coded (order_id x) (get_or s at no_order) (drop (suc at) s) f.here (take at s) f.ahead)
 
 -- an order put at its place among the first n
 pub put-held : (words : List ℕ) (n at : ℕ) (x : Order) (after : List ℕ) → 6 * n ≤ length words → at < n → PutAt words at x after

@@ -26,19 +26,21 @@ pub record PutAt (words : List ℕ) (i : ℕ) (x : Order) (after : List ℕ) : T
   pub orders : orders_in after ≡ set (orders_in words) i x
   pub past : drop (6 * i + 6) after ≡ drop (6 * i + 6) words
 
--- Where the order with an id stands, or the end.
-pub record FoundId (s : List Order) (id : List ℕ) (at : ℕ) : Type 0 where
-  pub within : at ≤ length s
+-- The first order with an id.
+pub record FirstWith (s : List Order) (id : List ℕ) (at : ℕ) : Type 0 where
+  pub within : at < length s
   pub ahead : All (λ x. same_id (order_id x) id ≡ false) (take at s)
-  pub here : at < length s → same_id (order_id (get_or s at no_order)) id ≡ true
+  pub here : same_id (order_id (get_or s at no_order)) id ≡ true
 
--- Where the order with an id stands, if that is at this price by value, or the end.
-pub record StandsAt (s : List Order) (id : List ℕ) (p at : ℕ) : Type 0 where
-  pub within : at ≤ length s
-  pub ahead : at < length s → All (λ y. same_id (order_id y) id ≡ false) (take at s)
-  pub here : at < length s → same_id (order_id (get_or s at no_order)) id ≡ true
-  pub price : at < length s → eqb (priced coded (get_or s at no_order)) p ≡ true
-  pub nowhere : length s ≤ at → stands_at coded id p s ≡ false
+-- Where the order with an id stands, if one does.
+unfoldable pub FoundId : List Order → List ℕ → Option ℕ → Type 0
+FoundId s id (Some at) = FirstWith s id at
+FoundId s id None = All (λ x. same_id (order_id x) id ≡ false) s
+
+-- Where the order with an id stands, if that is at this price by value.
+unfoldable pub StandsAt : List Order → List ℕ → ℕ → Option ℕ → Type 0
+StandsAt s id p (Some at) = FirstWith s id at × (eqb (priced coded (get_or s at no_order)) p ≡ true)
+StandsAt s id p None = stands_at coded id p s ≡ false
 
 -- Where an order of this price goes: behind all that it does not stand nearer the top than.
 pub record PlaceFor (side : Side) (s : List Order) (p at : ℕ) : Type 0 where

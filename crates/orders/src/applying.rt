@@ -81,7 +81,7 @@ fn add(
     ensures { AfterOne (stands coded (order_id (order_for (order_entry entry))) (held words.old count) || stands coded (order_id (order_for (order_entry entry))) (held other.now others)) (place coded side (order_for (order_entry entry)) (held words.old count)) words.old count words.new result }
 {
     let id = entry.id;
-    if find_id(words, count, id) < count || find_id(other, others, id) < others {
+    if find_id(words, count, id).is_some() || find_id(other, others, id).is_some() {
         return None;
     }
     let at = place_for(words, count, side, entry.price);
@@ -95,16 +95,13 @@ fn modify(words: &mut [u64], count: usize, entry: Buffered, table: &[u32]) -> Op
     requires { (6 * count ≤ length words.old) × All Sound (held words.old count) × EntrySound (order_entry entry) × ShiftTable table.now }
     ensures { AfterOne (not (stands_at coded (order_id (order_for (order_entry entry))) (priced coded (order_for (order_entry entry))) (held words.old count))) (changed coded (order_for (order_entry entry)) (held words.old count)) words.old count words.new result }
 {
-    let at = standing(words, count, entry.id, entry.price);
-    if at < count {
-        let found = order_at(words, at);
-        let price = price_of(found.level);
-        let level = checksum::level_of(SumText::Stripped, price, entry.size, table);
-        let id = found.id;
-        put_order(words, at, Order { level, id });
-        return Some(count);
-    }
-    None
+    let at = standing(words, count, entry.id, entry.price)?;
+    let found = order_at(words, at);
+    let price = price_of(found.level);
+    let level = checksum::level_of(SumText::Stripped, price, entry.size, table);
+    let id = found.id;
+    put_order(words, at, Order { level, id });
+    Some(count)
 }
 
 // Takes the order with this id out, if it stands at this price.
@@ -112,10 +109,7 @@ fn delete(words: &mut [u64], count: usize, entry: Buffered) -> Option<usize>
     requires { (6 * count ≤ length words.old) × All Sound (held words.old count) × EntrySound (order_entry entry) }
     ensures { AfterOne (not (stands_at coded (order_id (order_for (order_entry entry))) (priced coded (order_for (order_entry entry))) (held words.old count))) (without coded (order_id (order_for (order_entry entry))) (held words.old count)) words.old count words.new result }
 {
-    let at = standing(words, count, entry.id, entry.price);
-    if at < count {
-        remove(words, count, at);
-        return Some(count - 1);
-    }
-    None
+    let at = standing(words, count, entry.id, entry.price)?;
+    remove(words, count, at);
+    Some(count - 1)
 }

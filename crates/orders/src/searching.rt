@@ -13,32 +13,31 @@ use edit::Side;
 use level::{is_ahead, price_of};
 use order_edit::Id;
 
-// Where the order with this id stands among the first `count`, or `count`.
-pub(crate) fn find_id(words: &[u64], count: usize, id: Id) -> usize
+// Where the order with this id stands among the first `count`.
+pub(crate) fn find_id(words: &[u64], count: usize, id: Id) -> Option<usize>
     requires { 6 * count ≤ length words.now }
     ensures { FoundId (held words.now count) (id_words id) result }
 {
     for i in 0..count {
         if order_at(words, i).id == id {
-            return i;
+            return Some(i);
         }
     }
-    count
+    None
 }
 
-// Where the order with this id stands among the first `count`, if that is at this price, or `count`.
-pub(crate) fn standing(words: &[u64], count: usize, id: Id, price: Decimal) -> usize
+// Where the order with this id stands among the first `count`, if that is at this price.
+pub(crate) fn standing(words: &[u64], count: usize, id: Id, price: Decimal) -> Option<usize>
     requires { (6 * count ≤ length words.now) × All Sound (held words.now count) × Within (number price) }
     ensures { StandsAt (held words.now count) (id_words id) (value (number price)) result }
 {
-    let at = find_id(words, count, id);
-    if at < count {
-        let stood = price_of(order_at(words, at).level);
-        if decimal::compare(stood, price).is_eq() {
-            return at;
-        }
+    let at = find_id(words, count, id)?;
+    let stood = price_of(order_at(words, at).level);
+    if decimal::compare(stood, price).is_eq() {
+        Some(at)
+    } else {
+        None
     }
-    count
 }
 
 // Where an order of this price goes: last at its price.

@@ -67,7 +67,7 @@ fn work(
     copy(bids, &mut working, b);
     let mut others = [0; MAX_WORKING];
     copy(asks, &mut others, a);
-    let first = apply(
+    let n = apply(
         listed,
         &mut working,
         b,
@@ -77,11 +77,9 @@ fn work(
         buffer,
         entries,
         table,
-    );
-    let Some(n) = first else {
-        return Err(Refusal::Clashed);
-    };
-    let second = apply(
+    )
+    .ok_or(Refusal::Clashed)?;
+    let m = apply(
         listed,
         &mut others,
         a,
@@ -91,10 +89,8 @@ fn work(
         buffer,
         entries,
         table,
-    );
-    let Some(m) = second else {
-        return Err(Refusal::Clashed);
-    };
+    )
+    .ok_or(Refusal::Clashed)?;
     keep(&working, n, &others, m, depth, bids, asks)
 }
 

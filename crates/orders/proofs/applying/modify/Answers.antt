@@ -3,24 +3,54 @@ use Prim.Native.Nat.{suc, ◌<◌}
 use mathlib.Core.Path.{◌≡◌, refl, sym, ap, ap₂, ◌∙◌}
 use mathlib.Core.List.{◌∷◌, ◌++◌}
 use native.Mathlib.Omega.{arith}
-use lib.ListN.{length, get_or, take, drop}
+use lib.ListN.{get_or, take, drop}
 use Rattle.decimal.specs.Decimal.{Number, number, value}
 use Rattle.level.specs.declared.Level.{Level}
 use Rattle.order_edit.specs.Buffer.{order_entry}
 use Rattle.orders.specs.declared.Order.{Order}
 use Rattle.orders.specs.Orders.{taken}
 use Rattle.orders.specs.Words.{level_of_order, order_price, order_size, resized_order, held, no_order, order_for}
-use Rattle.orders.specs.Kept.{outcome, count_of}
+use Rattle.orders.specs.Kept.{StandsAt, outcome, count_of}
 use Rattle.orders.proofs.Held.{held-length, held_at}
 use Rattle.orders.proofs.Sounds.{entry-price, entry-size}
 use Rattle.orders.proofs.Priced.{sound-read}
 use Rattle.orders.proofs.Steps.{stands-nowhere, stands-there, changed-there, put-held}
 use Rattle.orders.proofs.applying.modify.Goals as goal
 
+pub returns-in_err-at : goal.returns-in_err-at
+unfolding StandsAt outcome count_of order_for
+returns-in_err-at c =
+    let a = c.args in
+    let e = order_entry a.entry in
+    rw c.from_residual.ensures
+    (record {
+      room = refl;
+      outcome = rw (stands-nowhere (held a.words.now a.count) (order_for e) (value e.price) (ap value (entry-price e c.requires.2)) c.in_err-at.ensures);
+      few = omega arith;
+    })
+
+pub order_at-found-requires : goal.order_at-found-requires
+unfolding StandsAt
+order_at-found-requires c =
+    let l = held-length c.args.words.now c.args.count c.requires.0 in
+    let f = c.in_ok-at.ensures in
+    omega (arith, l, f.0.within, c.requires.0)
+
 pub level_of-level-requires : goal.level_of-level-requires
+unfolding StandsAt
 level_of-level-requires c =
-    let s = c in
-    (sound-read s.args.words.now s.args.count c.standing-at.result c.if-at-count.true c.order_at-found.result c.order_at-found.ensures c.price_of-price.result c.price_of-price.ensures s.requires.0 s.requires.1, s.requires.2.size, s.requires.3)
+    let a = c.args in
+    let l = held-length a.words.now a.count c.requires.0 in
+    let f = c.in_ok-at.ensures in
+    let h : c.in_ok-at.at < a.count = omega (arith, l, f.0.within) in
+    (sound-read a.words.now a.count c.in_ok-at.at h c.order_at-found.result c.order_at-found.ensures c.price_of-price.result c.price_of-price.ensures c.requires.0 c.requires.1, c.requires.2.size, c.requires.3)
+
+pub put_order-requires : goal.put_order-requires
+unfolding StandsAt
+put_order-requires c =
+    let l = held-length c.args.words.now c.args.count c.requires.0 in
+    let f = c.in_ok-at.ensures in
+    omega (arith, l, f.0.within, c.requires.0)
 
 -- the order that is put is the one that stood there, resized
 resized : (found standing : Order) → found ≡ standing → (price size : Number) (x : Order) → price ≡ order_price found → order_size x ≡ size → (level : Level) → level ≡ level_of_order price size
@@ -29,41 +59,27 @@ unfolding resized_order
 resized found standing is price size x p z level l =
     ap (λ (y : Level). record { level = y; id = found.id }) (l ∙ ap₂ level_of_order p (sym z)) ∙ ap (λ (y : Order). record { level = level_of_order (order_price y) (order_size x); id = y.id }) is
 
-pub returns-then-at-count : goal.returns-then-at-count
-unfolding outcome count_of order_for
-returns-then-at-count c =
-    let s = c in
-    let S = held s.args.words.now s.args.count in
-    let e = order_entry s.args.entry in
-    let p = ap value (entry-price e s.requires.2) in
-    let l = held-length s.args.words.now s.args.count s.requires.0 in
-    let f = c.standing-at in
-    let lt = c.if-at-count.true in
+pub returns : goal.returns
+unfolding StandsAt outcome count_of order_for
+returns c =
+    let a = c.args in
+    let at = c.in_ok-at.at in
+    let S = held a.words.now a.count in
+    let e = order_entry a.entry in
+    let p = ap value (entry-price e c.requires.2) in
+    let l = held-length a.words.now a.count c.requires.0 in
+    let f = c.in_ok-at.ensures in
+    let h : at < a.count = omega (arith, l, f.0.within) in
     let w = c.put_order.ensures in
-    let h : f.result < length S = omega (arith, l, lt) in
     let x =
-    resized c.order_at-found.result (get_or S f.result no_order) (c.order_at-found.ensures ∙ sym (held_at s.args.words.now s.args.count f.result lt)) (number c.price_of-price.result) e.size (order_for e) c.price_of-price.ensures (entry-size e s.requires.2) c.level_of-level.result c.level_of-level.ensures in
+    resized c.order_at-found.result (get_or S at no_order) (c.order_at-found.ensures ∙ sym (held_at a.words.now a.count at h)) (number c.price_of-price.result) e.size (order_for e) c.price_of-price.ensures (entry-size e c.requires.2) c.level_of-level.result c.level_of-level.ensures in
     record {
       room = w.room;
       outcome =
-          rw (stands-there S (order_for e) (value e.price) f.result p f.ensures h)
+          rw (stands-there S (order_for e) (value e.price) at p f.0 f.1)
           (ap taken
-          (put-held s.args.words.now s.args.count f.result _ _ s.requires.0 lt w
-          ∙ ap (λ (y : Order). take f.result S ++ y ∷ drop (suc f.result) S) x
-          ∙ changed-there S (order_for e) (value e.price) f.result p f.ensures h));
-      few = omega arith;
-    }
-
-pub returns : goal.returns
-unfolding outcome count_of order_for
-returns c =
-    let s = c in
-    let S = held s.args.words.now s.args.count in
-    let e = order_entry s.args.entry in
-    let l = held-length s.args.words.now s.args.count s.requires.0 in
-    let f = c.standing-at in
-    record {
-      room = refl;
-      outcome = rw (stands-nowhere S (order_for e) (value e.price) f.result (ap value (entry-price e s.requires.2)) f.ensures (omega (arith, l, c.if-at-count.false)));
+          (put-held a.words.now a.count at _ _ c.requires.0 h w
+          ∙ ap (λ (y : Order). take at S ++ y ∷ drop (suc at) S) x
+          ∙ changed-there S (order_for e) (value e.price) at p f.0));
       few = omega arith;
     }

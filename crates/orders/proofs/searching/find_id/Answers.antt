@@ -2,11 +2,13 @@
 use mathlib.Core.Path.{◌≡◌, sym, ap, ◌∙◌}
 use mathlib.Core.Bool.{false}
 use native.Mathlib.Omega.{arith}
+use lib.Seq.{take_all}
 use Rattle.orders.specs.declared.Order.{Order}
 use Rattle.level.specs.Ranked.{All}
 use Rattle.order_edit.specs.Ids.{same_id, id_words}
 use Rattle.order_edit.proofs.Ids.{same_words}
 use Rattle.orders.specs.Words.{order_id, no_order, held}
+use Rattle.orders.specs.Kept.{FoundId}
 use Rattle.level.proofs.All.{all-next}
 use Rattle.orders.proofs.Held.{held-length, held_at}
 use Rattle.orders.proofs.searching.find_id.Goals as goal
@@ -16,6 +18,7 @@ unfolding All
 loop-i-init c = tt
 
 pub returns-then-eq : goal.returns-then-eq
+unfolding FoundId
 returns-then-eq c =
     let a = c.args in
     let t = c.loop-i in
@@ -24,7 +27,6 @@ returns-then-eq c =
       within = omega (arith, l);
       ahead = t.invariant;
       here =
-          λ h.
           ap (λ (x : Order). same_id (order_id x) (id_words a.id)) (held_at a.words.now a.count t.i c.loop-i-test.true ∙ sym c.order_at.ensures)
           ∙ sym (same_words c.order_at.result.id a.id) ∙ sym c.eq.ensures ∙ c.if-eq.true;
     }
@@ -39,13 +41,9 @@ loop-i-preserved c =
     ∙ sym (same_words c.order_at.result.id a.id) ∙ sym c.eq.ensures ∙ c.if-eq.false)
 
 pub returns : goal.returns
+unfolding FoundId
 returns c =
     let a = c.args in
     let t = c.loop-i in
     let l = held-length a.words.now a.count c.requires in
-    let e : t.i ≡ a.count = omega (arith, c.loop-i-test.false) in
-    record {
-      within = omega (arith, l);
-      ahead = rw e at t.invariant;
-      here = λ h. absurd (omega (arith, l));
-    }
+    rw (take_all t.i (held a.words.now a.count) (omega (arith, l, c.loop-i-test.false))) at t.invariant

@@ -1,79 +1,56 @@
 -- `standing` meets its contract: the order that was found stands at the price, or none does.
-use mathlib.Core.Path.{◌≡◌, ◌∙◌}
-use mathlib.Core.Bool.{Bool, true, false}
+use Prim.Native.Nat.{◌<◌}
+use mathlib.Core.Path.{◌∙◌}
+use mathlib.Core.Bool.{true, false}
 use native.Mathlib.Omega.{arith}
-use lib.Dec.{eqb}
-use lib.ListN.{get_or}
 use Rattle.decimal.specs.Decimal.{number, value}
 use Rattle.order_edit.specs.Ids.{id_words}
-use Rattle.orders.specs.Orders.{priced}
-use Rattle.orders.specs.Words.{coded, held, no_order}
+use Rattle.orders.specs.Words.{coded, held}
+use Rattle.orders.specs.Kept.{FoundId, StandsAt}
 use Rattle.orders.proofs.Held.{held-length}
+use Rattle.orders.proofs.Ids.{stands_at-none}
 use Rattle.orders.proofs.Priced.{sound-read, equal-at}
-use Rattle.orders.proofs.Steps.{found-price, found_nowhere}
+use Rattle.orders.proofs.Steps.{first-price}
 use Rattle.orders.proofs.searching.standing.Goals as goal
-use Rattle.orders.proofs.searching.standing.Lts as lts
-use Rattle.orders.proofs.searching.standing.Tie as tie
-use Rattle.orders.proofs.searching.standing.Reads as reads
 
--- Places in the code.
-abbrev After-is_eq : Type 0
-After-is_eq = lts.After-is_eq tie.the-claims reads.Pre reads.Post
+pub returns-in_err-at : goal.returns-in_err-at
+unfolding FoundId StandsAt
+returns-in_err-at c = let a = c.args in rw c.from_residual.ensures (stands_at-none coded (id_words a.id) (value (number a.price)) (held a.words.now a.count) c.in_err-at.ensures)
+
+pub order_at-requires : goal.order_at-requires
+unfolding FoundId
+order_at-requires c =
+    let l = held-length c.args.words.now c.args.count c.requires.0 in
+    let f = c.in_ok-at.ensures in
+    omega (arith, l, f.within, c.requires.0)
 
 pub compare-requires : goal.compare-requires
+unfolding FoundId
 compare-requires c =
-    let s = c in
-    (sound-read s.args.words.now s.args.count c.find_id-at.result c.if-at-count.true c.order_at.result c.order_at.ensures c.price_of-stood.result c.price_of-stood.ensures s.requires.0 s.requires.1, s.requires.2)
-
--- what the comparison of the two prices answered
-said : (c : After-is_eq) (u : Bool) → c.is_eq.result ≡ u
-    → eqb (priced coded (get_or (held c.args.words.now c.args.count) c.find_id-at.result no_order)) (value (number c.args.price)) ≡ u
-said c u f =
-    let s = c in
-    equal-at s.args.words.now s.args.count c.find_id-at.result c.if-at-count.true c.order_at.result c.order_at.ensures c.price_of-stood.result c.price_of-stood.ensures s.args.price c.compare.result c.compare.ensures c.is_eq.result c.is_eq.ensures u f
+    let a = c.args in
+    let at = c.in_ok-at.at in
+    let l = held-length a.words.now a.count c.requires.0 in
+    let f = c.in_ok-at.ensures in
+    let h : at < a.count = omega (arith, l, f.within) in
+    (sound-read a.words.now a.count at h c.order_at.result c.order_at.ensures c.price_of-stood.result c.price_of-stood.ensures c.requires.0 c.requires.1, c.requires.2)
 
 pub returns-then-is_eq : goal.returns-then-is_eq
+unfolding FoundId StandsAt
 returns-then-is_eq c =
-    let s = c in
-    let l = held-length s.args.words.now s.args.count s.requires.0 in
-    let f = c.find_id-at in
-    let lt = c.if-at-count.true in
-    record {
-      within = f.ensures.within;
-      ahead = λ h. f.ensures.ahead;
-      here = f.ensures.here;
-      price = λ h. said c.before.before true c.if-is_eq.true;
-      nowhere = λ h. absurd (omega (arith, l, lt));
-    }
+    let a = c.args in
+    let at = c.in_ok-at.at in
+    let l = held-length a.words.now a.count c.requires.0 in
+    let f = c.in_ok-at.ensures in
+    let h : at < a.count = omega (arith, l, f.within) in
+    (f, equal-at a.words.now a.count at h c.order_at.result c.order_at.ensures c.price_of-stood.result c.price_of-stood.ensures a.price c.compare.result c.compare.ensures c.is_eq.result c.is_eq.ensures true c.if-is_eq.true)
 
 pub returns-else-is_eq : goal.returns-else-is_eq
+unfolding FoundId StandsAt
 returns-else-is_eq c =
-    let s = c in
-    let S = held s.args.words.now s.args.count in
-    let l = held-length s.args.words.now s.args.count s.requires.0 in
-    let f = c.find_id-at in
-    let lt = c.if-at-count.true in
-    record {
-      within = omega (arith, l);
-      ahead = λ h. absurd (omega (arith, l));
-      here = λ h. absurd (omega (arith, l));
-      price = λ h. absurd (omega (arith, l));
-      nowhere =
-          λ h.
-          found-price S (id_words s.args.id) f.result f.ensures (omega (arith, l, lt)) (value (number s.args.price)) ∙ said c.before.before false c.if-is_eq.false;
-    }
-
-pub returns-else-at-count : goal.returns-else-at-count
-returns-else-at-count c =
-    let s = c in
-    let l = held-length s.args.words.now s.args.count s.requires.0 in
-    let f = c.find_id-at in
-    record {
-      within = omega (arith, l);
-      ahead = λ h. absurd (omega (arith, l));
-      here = λ h. absurd (omega (arith, l));
-      price = λ h. absurd (omega (arith, l));
-      nowhere =
-          λ h.
-          found_nowhere (held s.args.words.now s.args.count) (id_words s.args.id) f.result f.ensures (omega (arith, l, c.if-at-count.false)) (value (number s.args.price));
-    }
+    let a = c.args in
+    let at = c.in_ok-at.at in
+    let l = held-length a.words.now a.count c.requires.0 in
+    let f = c.in_ok-at.ensures in
+    let h : at < a.count = omega (arith, l, f.within) in
+    first-price (held a.words.now a.count) (id_words a.id) at f (value (number a.price))
+    ∙ equal-at a.words.now a.count at h c.order_at.result c.order_at.ensures c.price_of-stood.result c.price_of-stood.ensures a.price c.compare.result c.compare.ensures c.is_eq.result c.is_eq.ensures false c.if-is_eq.false

@@ -1,9 +1,9 @@
-// What every layer asks of bytes and of truth values. No crate stands below this one.
+// What every layer asks of bytes. No crate stands below this one.
 //
 //     text::byte_at(b"7", 0) == b'7', text::byte_at(b"7", 1) == 0, text::is_digit(b'7'), text::wide(55) == 55
 #![tactic(auto)]
 
-ghost use Rattle.std.specs.Prelude.{◌≡◌, ◌&&◌, ◌||◌, ◌+◌, ◌≤◌, ◌<◌, length};
+ghost use Rattle.std.specs.Prelude.{◌≡◌, ◌+◌, ◌≤◌, ◌<◌, length};
 ghost use Rattle.text.specs.Text.{byte_at, is_digit};
 ghost use Rattle.text.specs.Words.{word_at};
 
@@ -41,16 +41,4 @@ pub fn word_at(s: &[u8], at: usize) -> u64
         + wide(s[at + 5]) * 1099511627776
         + wide(s[at + 6]) * 281474976710656
         + wide(s[at + 7]) * 72057594037927936
-}
-
-pub fn either(a: bool, b: bool) -> bool
-    ensures { result ≡ (a || b) }
-{
-    a || b
-}
-
-pub fn both(a: bool, b: bool) -> bool
-    ensures { result ≡ (a && b) }
-{
-    a && b
 }

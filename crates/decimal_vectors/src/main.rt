@@ -7,7 +7,6 @@
 // A text that is refused prints `refused`. What is to come was worked out apart from the crate, by tools/decimal_vectors.py.
 #![tactic(auto)]
 
-ghost use Rattle.std.specs.Prelude.{◌≡◌, ◌≤◌, length};
 ghost use Rattle.decimal.specs.Decimal.{number};
 ghost use Rattle.decimal.specs.Limits.{Within};
 
@@ -82,7 +81,7 @@ fn say_decimal(out: &impl Print, d: Decimal) -> io::Result<()>
 fn say_text(out: &impl Print, d: Decimal, at: usize) -> io::Result<()>
     requires { Within (number d) }
 {
-    let mut buffer = [42u8; 28];
+    let mut buffer = [b'*'; 28];
     let part: &mut [u8] = &mut buffer;
     match decimal::write(d, part, at) {
         Some(end) => out.print(end)?,
@@ -110,7 +109,7 @@ fn run_whole(out: &impl Print, s: &[u8]) -> io::Result<()> {
 
 // Where the digits end in a buffer of 28 bytes; then the whole buffer.
 fn say_whole(out: &impl Print, n: u64) -> io::Result<()> {
-    let mut buffer = [42u8; 28];
+    let mut buffer = [b'*'; 28];
     let part: &mut [u8] = &mut buffer;
     match decimal::write_whole(n, part, 2) {
         Some(end) => out.print(end)?,

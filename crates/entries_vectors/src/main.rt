@@ -130,8 +130,8 @@ fn end(out: &impl Print, e: usize) -> io::Result<()> {
 
 fn part(out: &impl Print, s: &[u8], from: usize, to: usize) -> io::Result<()> {
     write(out, b" ")?;
-    if from <= to && to <= s.len() {
-        write(out, &s[from..to])?;
+    if let Some(bytes) = s.get(from..to) {
+        write(out, bytes)?;
     }
     Ok(())
 }

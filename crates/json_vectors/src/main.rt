@@ -198,8 +198,8 @@ fn container(out: &impl Print, s: &[u8], from: usize, to: usize) -> io::Result<(
 }
 
 fn part(out: &impl Print, s: &[u8], from: usize, to: usize) -> io::Result<()> {
-    if from <= to && to <= s.len() {
-        write(out, &s[from..to])?;
+    if let Some(bytes) = s.get(from..to) {
+        write(out, bytes)?;
     }
     Ok(())
 }

@@ -15,7 +15,7 @@ ghost use Rattle.edit.specs.Buffer.{buffer_words};
 use decimal::Decimal;
 use edit::{BUFFER_WORDS, MAX_BUFFERED, Side};
 use entries::{ENTRY_DEPTH, Entries, EntryPlace, Form, none_yet};
-use lines::{LINE_END, find};
+use lines::LINE_END;
 use reading::read_full;
 use std::io;
 
@@ -33,15 +33,9 @@ fn write(out: &impl Print, s: &[u8]) -> io::Result<()> {
 }
 
 fn run_lines(out: &impl Print, s: &[u8]) -> io::Result<()> {
-    let mut i = 0;
-    while i < s.len() {
-        let e = find(s, i, LINE_END);
-        line(out, &s[i..e])?;
+    for whole in s.split_inclusive(|b| *b == LINE_END) {
+        line(out, whole.strip_suffix(b"\n").unwrap_or(whole))?;
         newline(out)?;
-        if s.len() <= e {
-            return Ok(());
-        }
-        i = e + 1;
     }
     Ok(())
 }
@@ -55,17 +49,13 @@ fn line(out: &impl Print, s: &[u8]) -> io::Result<()> {
     if s.len() < 2 {
         return Ok(());
     }
-    let c = s[0];
-    if c == b'K' {
-        tell_entry(out, s, entries::entry_at(s, 2, ENTRY_DEPTH, Form::Triple))?;
-    } else if c == b'M' {
-        tell_entry(out, s, entries::entry_at(s, 2, ENTRY_DEPTH, Form::Pair))?;
-    } else if c == b'k' {
-        array(out, s, Form::Triple)?;
-    } else if c == b'm' {
-        array(out, s, Form::Pair)?;
+    match s[0] {
+        b'K' => tell_entry(out, s, entries::entry_at(s, 2, ENTRY_DEPTH, Form::Triple)),
+        b'M' => tell_entry(out, s, entries::entry_at(s, 2, ENTRY_DEPTH, Form::Pair)),
+        b'k' => array(out, s, Form::Triple),
+        b'm' => array(out, s, Form::Pair),
+        _ => Ok(()),
     }
-    Ok(())
 }
 
 fn tell_entry(out: &impl Print, s: &[u8], found: EntryPlace) -> io::Result<()> {
@@ -98,14 +88,14 @@ fn tell_entries(out: &impl Print, read: Entries, buffer: &[u64; BUFFER_WORDS]) -
     let met = read.tally;
     if met.well_formed {
         write(out, b" entries ")?;
-        number(out, met.bids as u64)?;
+        out.print(met.bids)?;
         if 0 < met.broken_at {
             write(out, b" broken ")?;
-            number(out, met.broken_at as u64)?;
+            out.print(met.broken_at)?;
         }
         if 0 < met.strict_at {
             write(out, b" strict ")?;
-            number(out, met.strict_at as u64)?;
+            out.print(met.strict_at)?;
         }
         numbers(out, buffer, met.bids)?;
     }
@@ -116,10 +106,7 @@ fn tell_entries(out: &impl Print, read: Entries, buffer: &[u64; BUFFER_WORDS]) -
 fn numbers(out: &impl Print, buffer: &[u64; BUFFER_WORDS], n: usize) -> io::Result<()>
     requires { length buffer.now ≡ buffer_words }
 {
-    for k in 0..n {
-        if MAX_BUFFERED <= k {
-            return Ok(());
-        }
+    for k in 0..n.min(MAX_BUFFERED) {
         let entry = edit::entry_in(buffer, k);
         write(out, b"\n    ")?;
         decimal(out, entry.price)?;
@@ -131,26 +118,20 @@ fn numbers(out: &impl Print, buffer: &[u64; BUFFER_WORDS], n: usize) -> io::Resu
 
 fn decimal(out: &impl Print, a: Decimal) -> io::Result<()> {
     let parts = decimal::parts_of(a);
-    number(out, parts.digits)?;
+    out.print(parts.digits)?;
     write(out, b"/")?;
-    number(out, parts.code)
-}
-
-fn number(out: &impl Print, n: u64) -> io::Result<()> {
-    out.print(n)
+    out.print(parts.code)
 }
 
 fn end(out: &impl Print, e: usize) -> io::Result<()> {
     write(out, b"\n  end ")?;
-    number(out, e as u64)
+    out.print(e)
 }
 
 fn part(out: &impl Print, s: &[u8], from: usize, to: usize) -> io::Result<()> {
     write(out, b" ")?;
-    if from <= to {
-        if to <= s.len() {
-            write(out, &s[from..to])?;
-        }
+    if let Some(bytes) = s.get(from..to) {
+        write(out, bytes)?;
     }
     Ok(())
 }

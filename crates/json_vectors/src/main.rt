@@ -81,24 +81,19 @@ fn sign(out: &impl Print, s: &[u8]) -> io::Result<()> {
 
 // A string, a blank and a name.
 fn name_sign(out: &impl Print, s: &[u8]) -> io::Result<()> {
-    let e = string_end(s, 0);
-    if e < s.len() {
-        if is_name(s, 0, e, &s[e + 1..]) {
-            write(out, b"= ")?;
-        } else {
-            write(out, b"! ")?;
-        }
+    let Some(end) = string_end(s, 0) else {
+        return Ok(());
+    };
+    if end < s.len() {
+        let means = is_name(s, 0, end, &s[end + 1..]);
+        write(out, if means { b"= " } else { b"! " })?;
     }
     Ok(())
 }
 
 // Whether the whole of s is JSON.
 fn is_json(s: &[u8]) -> bool {
-    let e = value_end(s, skip_blanks(s, 0), MAX_DEPTH);
-    if e == 0 {
-        return false;
-    }
-    is_ended(s, e)
+    value_end(s, skip_blanks(s, 0), MAX_DEPTH).is_some_and(|end| is_ended(s, end))
 }
 
 // ---- elements and members
@@ -113,62 +108,60 @@ const MAX_ITEMS: usize = 32;
 
 fn elements(out: &impl Print, s: &[u8]) -> io::Result<()> {
     let empty = array_close_end(s, 1);
-    if 0 < empty {
-        return end(out, empty);
+    if empty.is_some() {
+        return tell_end(out, empty);
     }
-    let mut i = skip_blanks(s, 1);
+    let mut at = skip_blanks(s, 1);
     for _ in 0..MAX_ITEMS {
-        let e = value_end(s, i, ITEM_DEPTH);
-        if e == 0 {
-            return end(out, 0);
-        }
-        item(out, s, i, e)?;
-        let j = comma_end(s, e);
-        if j == 0 {
-            return end(out, array_close_end(s, e));
-        }
-        i = j;
+        let Some(end) = value_end(s, at, ITEM_DEPTH) else {
+            return tell_end(out, None);
+        };
+        item(out, s, at, end)?;
+        let Some(next) = comma_end(s, end) else {
+            return tell_end(out, array_close_end(s, end));
+        };
+        at = next;
     }
     Ok(())
 }
 
 fn members(out: &impl Print, s: &[u8]) -> io::Result<()> {
     let empty = object_close_end(s, 1);
-    if 0 < empty {
-        return end(out, empty);
+    if empty.is_some() {
+        return tell_end(out, empty);
     }
-    let mut i = skip_blanks(s, 1);
+    let mut at = skip_blanks(s, 1);
     for _ in 0..MAX_ITEMS {
-        let e = member(out, s, i)?;
-        if e == 0 {
-            return end(out, 0);
-        }
-        let j = comma_end(s, e);
-        if j == 0 {
-            return end(out, object_close_end(s, e));
-        }
-        i = j;
+        let Some(found) = member_at(s, at) else {
+            return tell_end(out, None);
+        };
+        name(out, s, at, found.name_end)?;
+        item(out, s, found.value_from, found.end)?;
+        let Some(next) = comma_end(s, found.end) else {
+            return tell_end(out, object_close_end(s, found.end));
+        };
+        at = next;
     }
     Ok(())
 }
 
-// The member at i: past it, or 0 where none stands there.
-fn member(out: &impl Print, s: &[u8], i: usize) -> io::Result<usize> {
-    let k = string_end(s, i);
-    if k == 0 {
-        return Ok(0);
-    }
-    let v = colon_end(s, k);
-    if v == 0 {
-        return Ok(0);
-    }
-    let e = value_end(s, v, ITEM_DEPTH);
-    if e == 0 {
-        return Ok(0);
-    }
-    name(out, s, i, k)?;
-    item(out, s, v, e)?;
-    Ok(e)
+// A member: where its name ends, where its value begins, and the position past it.
+#[derive(Clone, Copy)]
+struct Member {
+    name_end: usize,
+    value_from: usize,
+    end: usize,
+}
+
+fn member_at(s: &[u8], at: usize) -> Option<Member> {
+    let name_end = string_end(s, at)?;
+    let value_from = colon_end(s, name_end)?;
+    let end = value_end(s, value_from, ITEM_DEPTH)?;
+    Some(Member {
+        name_end,
+        value_from,
+        end,
+    })
 }
 
 // A name, with a `=` where it means `as`.
@@ -182,11 +175,11 @@ fn name(out: &impl Print, s: &[u8], from: usize, to: usize) -> io::Result<()> {
 
 // A value behind its kind, which the function that passes over it tells.
 fn item(out: &impl Print, s: &[u8], from: usize, to: usize) -> io::Result<()> {
-    if string_end(s, from) == to {
+    if string_end(s, from) == Some(to) {
         write(out, b"  string ")?;
-    } else if number_end(s, from) == to {
+    } else if number_end(s, from) == Some(to) {
         write(out, b"  number ")?;
-    } else if scalar_end(s, from) == to {
+    } else if scalar_end(s, from) == Some(to) {
         write(out, b"  literal ")?;
     } else if from < s.len() {
         container(out, s, from, to)?;
@@ -197,33 +190,27 @@ fn item(out: &impl Print, s: &[u8], from: usize, to: usize) -> io::Result<()> {
 fn container(out: &impl Print, s: &[u8], from: usize, to: usize) -> io::Result<()>
     requires { from < length s.now }
 {
-    let c = s[from];
-    if c == OPEN_ARRAY {
-        if array_end(s, from + 1, INNER_DEPTH) == to {
-            write(out, b"  array ")?;
-        }
-    } else if c == OPEN_OBJECT {
-        if object_end(s, from + 1, INNER_DEPTH) == to {
-            write(out, b"  object ")?;
-        }
+    match s[from] {
+        OPEN_ARRAY if array_end(s, from + 1, INNER_DEPTH) == Some(to) => write(out, b"  array "),
+        OPEN_OBJECT if object_end(s, from + 1, INNER_DEPTH) == Some(to) => write(out, b"  object "),
+        _ => Ok(()),
     }
-    Ok(())
 }
 
 fn part(out: &impl Print, s: &[u8], from: usize, to: usize) -> io::Result<()> {
-    if from <= to && to <= s.len() {
-        write(out, &s[from..to])?;
+    if let Some(bytes) = s.get(from..to) {
+        write(out, bytes)?;
     }
     Ok(())
 }
 
-// Where the array or the object ends, 0 where it is not JSON.
-fn end(out: &impl Print, e: usize) -> io::Result<()> {
-    if e == 0 {
+// Where the array or the object ends, if it is JSON.
+fn tell_end(out: &impl Print, found: Option<usize>) -> io::Result<()> {
+    let Some(end) = found else {
         return write(out, b"  broken");
-    }
+    };
     write(out, b"  end at ")?;
-    out.print(e)
+    out.print(end)
 }
 
 // ---- rows of bytes

@@ -1,7 +1,6 @@
 -- A decimal that was read is within the limits.
-use Rattle.std.proofs.Common.{take}
 use Rattle.decimal.proofs.RoundTrip.{parsed-within}
 use Rattle.decimal_vectors.proofs.run_order.Goals as goal
 
-pub run_second-requires : goal.run_second-requires
-run_second-requires g c = parsed-within (take c.find-end.result c.args.s.now) c.parse.ensures c.in-Number.is
+pub compare-requires : goal.compare-requires
+compare-requires g c = (parsed-within _ c.parse.ensures c.in-Some-parse.is, parsed-within _ c.parse-2.ensures c.in-Some-parse-2.is)

@@ -79,11 +79,9 @@ fn sign(out: &impl Print, s: &[u8]) -> io::Result<()> {
     write(out, b" ")
 }
 
-// A string, a blank and a name.
+// A string, a blank and a name. Where no string stands, nothing at the front means no name.
 fn name_sign(out: &impl Print, s: &[u8]) -> io::Result<()> {
-    let Some(end) = string_end(s, 0) else {
-        return Ok(());
-    };
+    let end = string_end(s, 0).unwrap_or(0);
     if end < s.len() {
         let means = is_name(s, 0, end, &s[end + 1..]);
         write(out, if means { b"= " } else { b"! " })?;

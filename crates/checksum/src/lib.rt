@@ -90,13 +90,7 @@ pub fn m_checksum(
 }
 
 // The state after the pieces of the levels from one place to another.
-fn sum_levels(
-    state: u32,
-    words: &[u64; MAX_WORDS],
-    from: usize,
-    to: usize,
-    table: &[u32],
-) -> u32
+fn sum_levels(state: u32, words: &[u64; MAX_WORDS], from: usize, to: usize, table: &[u32]) -> u32
     requires { (from ≤ to) × (to ≤ max_levels) × (length words.now ≡ max_words) × ShiftTable table.now }
     ensures { result ≡ summed state (drop from (take to (levels_in words.now))) }
 {

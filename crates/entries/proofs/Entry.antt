@@ -6,13 +6,11 @@ use mathlib.Core.List.{List, [], ◌∷◌}
 use mathlib.Core.Bool.{Bool, true, false, true≢false, ◌&&◌}
 use Prim.Native.Nat.{ℕ, zero, suc, ◌+◌, ◌≤◌, ◌<◌}
 use native.Mathlib.Omega.{arith}
-use borrow.Author.Tests.{eq-eqb, ne_eqb, eqb-true, eqb-false}
-use lib.Dec.{eqb}
+use borrow.Author.Tests.{eq-eqb, ne_eqb}
 use Rattle.text.specs.Text.{byte_at}
 use Rattle.json_tokens.specs.Tokens.{blanks, closing, separator, string}
 use Rattle.json_tokens.specs.Ends.{end_of}
-use Rattle.json_tokens.proofs.Laws.{end-at}
-use Rattle.json_tokens.proofs.Bounds.{bounds, end-broken, closing-in, separator-in}
+use Rattle.json_tokens.proofs.Bounds.{bounds, separator-in}
 use lib.ListN.{length}
 use Rattle.json_values.specs.Json.{Span, item, Items, items, no_items, next, prepended, onward, list, items_end, elements, value}
 use Rattle.json_values.proofs.Laws.{value-array, before-end, element-is, element-wrong, later-item, later-ends, later-wrong}

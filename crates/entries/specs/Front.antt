@@ -1,6 +1,6 @@
 -- What the readers of an entry find on the way: the two strings at its front, and the end of its array from a later element on.
 -- Assumes nothing: these are definitions.
-use Rattle.std.specs.Prelude.{ℕ, zero, suc, ◌+◌, ◌≤◌, ◌≡◌, true, false, List, length, None, Option, Some}
+use Rattle.std.specs.Prelude.{ℕ, suc, ◌+◌, ◌≤◌, ◌≡◌, true, false, List, length, None, Option, Some}
 use Rattle.text.specs.Text.{byte_at}
 use Rattle.json_tokens.specs.Bytes.{open_array, comma, close_array}
 use Rattle.json_tokens.specs.Tokens.{blanks, separator, string}

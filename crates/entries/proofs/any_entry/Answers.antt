@@ -1,6 +1,6 @@
 -- `any_entry` meets its contract: the two texts that were found are read, counted by what they say, and put as numbers.
 use mathlib.Core.Bool.{Bool, true, false, ◌||◌}
-use mathlib.Core.Path.{◌≡◌, refl, sym, ap₂, ◌∙◌, subst}
+use mathlib.Core.Path.{◌≡◌, refl, sym, ◌∙◌, subst}
 use Rattle.decimal.specs.Decimal.{number}
 use Rattle.decimal.specs.Limits.{Within}
 use Rattle.decimal.specs.Reads.{parsed}
@@ -53,15 +53,15 @@ returns-then-found c =
     let price = c.is_bad_price-bad.ensures in
     let bad = bad-by a.s.now a.at a.found (parsed p.result) (parsed z.result) p.ensures z.ensures in
     let broken : c.if-bad.broken ≡ (is_bad_price (parsed p.result) || is_bad_size false (parsed z.result)) =
-        elim c.if-bad.branch [
-          | then-bad w ↦ w.broken-is ∙ w.if-bad.true ∙ sym (or-true _ (sym price ∙ w.if-bad.true))
-          | else-bad w ↦ w.broken-is ∙ w.is_bad_size-broken.ensures ∙ sym (or-next (sym price ∙ w.if-bad.false))
-        ] in
+    elim c.if-bad.branch [
+      | then-bad w ↦ w.broken-is ∙ w.if-bad.true ∙ sym (or-true _ (sym price ∙ w.if-bad.true))
+      | else-bad w ↦ w.broken-is ∙ w.is_bad_size-broken.ensures ∙ sym (or-next (sym price ∙ w.if-bad.false))
+    ] in
     let strict : c.if-bad-2.strict ≡ (is_bad_price (parsed p.result) || is_bad_size true (parsed z.result)) =
-        elim c.if-bad-2.branch [
-          | then-bad-2 w ↦ w.strict-is ∙ w.if-bad-2.true ∙ sym (or-true _ (sym price ∙ w.if-bad-2.true))
-          | else-bad-2 w ↦ w.strict-is ∙ w.is_bad_size-strict.ensures ∙ sym (or-next (sym price ∙ w.if-bad-2.false))
-        ] in
+    elim c.if-bad-2.branch [
+      | then-bad-2 w ↦ w.strict-is ∙ w.if-bad-2.true ∙ sym (or-true _ (sym price ∙ w.if-bad-2.true))
+      | else-bad-2 w ↦ w.strict-is ∙ w.is_bad_size-strict.ensures ∙ sym (or-next (sym price ∙ w.if-bad-2.false))
+    ] in
     counted-entry a.s.now a.side a.before a.at a.found a.buffer.now _ c.if-found.true refl
     c.if-bad.broken c.if-bad-2.strict c.with_entry-tally.ensures (broken ∙ bad false) (strict ∙ bad true)
     _ (number n.number_of.result) (number n.number_of-then-found.result) c.put.ensures (price-number n) (size_number n)

@@ -1,7 +1,7 @@
 -- `entries::ended_at` meets its contract: it hands on the front that was found, or passes the value over.
 -- Assumes nothing.
-use Rattle.std.specs.Prelude.{None, Some, ℕ, ◌≡◌}
-use mathlib.Core.Path.{sym, ap, ◌∙◌, refl}
+use Rattle.std.specs.Prelude.{Some, ℕ, ◌≡◌}
+use mathlib.Core.Path.{sym, ap, ◌∙◌}
 use native.Mathlib.Omega.{arith}
 use Rattle.entries.specs.Found.{entry_place_of, row_from}
 use Rattle.entries.proofs.ended_at.Goals as goal

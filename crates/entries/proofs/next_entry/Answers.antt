@@ -2,7 +2,7 @@
 use Rattle.std.specs.Prelude.{Some}
 use Prim.Native.Nat.{ℕ, ◌+◌, ◌≤◌, ◌<◌}
 use mathlib.Core.Bool.{Bool, true, false, true≢false, ◌||◌}
-use mathlib.Core.Path.{◌≡◌, refl, sym, ap, ap₂, ◌∙◌, subst}
+use mathlib.Core.Path.{◌≡◌, refl, sym, ap, ◌∙◌, subst}
 use native.Mathlib.Omega.{arith}
 use lib.ListN.{length}
 use Rattle.decimal.specs.Decimal.{number, read, is_zero}
@@ -78,10 +78,10 @@ returns-in-Some-entry_end c =
     let d = m.in-Some.front in
     let bad = bad-by a.s.now (a.base + a.at) (found m) (Some (number d.price)) (Some (number d.size)) (sym (price m)) (sym (size m)) in
     let strict : c.if-broken.strict ≡ (is_zero (number d.price) || is_zero (number d.size)) =
-        elim c.if-broken.branch [
-          | then-broken w ↦ w.strict-is ∙ w.if-broken.true ∙ sym (or-true _ (sym c.is_zero-broken.ensures ∙ w.if-broken.true))
-          | else-broken w ↦ w.strict-is ∙ w.is_zero-strict.ensures ∙ sym (or-next (sym c.is_zero-broken.ensures ∙ w.if-broken.false))
-        ] in
+    elim c.if-broken.branch [
+      | then-broken w ↦ w.strict-is ∙ w.if-broken.true ∙ sym (or-true _ (sym c.is_zero-broken.ensures ∙ w.if-broken.true))
+      | else-broken w ↦ w.strict-is ∙ w.is_zero-strict.ensures ∙ sym (or-next (sym c.is_zero-broken.ensures ∙ w.if-broken.false))
+    ] in
     counted-entry a.s.now a.side a.before (a.base + a.at) (found m) a.buffer.now _ (formed m) (sym (ends m))
     c.is_zero-broken.result c.if-broken.strict c.with_entry-tally.ensures
     (c.is_zero-broken.ensures ∙ or-false (is_zero (number d.price)) ∙ bad false)

@@ -3,7 +3,7 @@
 use lib.ListN.{length}
 use mathlib.Core.Path.{refl, sym, ◌∙◌}
 use native.Mathlib.Omega.{arith}
-use Rattle.json_values.specs.Json.{list, value}
+use Rattle.json_values.specs.Json.{list}
 use Rattle.entries.proofs.Entry.{rest-close, rest-further, rest-on, rest-wrong}
 use Rattle.entries.proofs.rest_end.Goals as goal
 

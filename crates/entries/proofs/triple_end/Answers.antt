@@ -1,8 +1,7 @@
 -- `entries::triple_end` meets its contract: past the two strings stand a third one and the rest of the array.
 -- Assumes nothing.
-use mathlib.Core.Path.{◌∙◌, ap, refl, sym}
-use native.Mathlib.Omega.{arith}
-use Rattle.json_tokens.specs.Tokens.{separator, string}
+use mathlib.Core.Path.{◌∙◌, ap, sym}
+use Rattle.json_tokens.specs.Tokens.{separator}
 use Rattle.entries.specs.Found.{entry_place_of}
 use Rattle.entries.proofs.Entry.{triple-is, triple-no-comma, triple-no-third, triple-none, none-some}
 use Rattle.entries.proofs.triple_end.Goals as goal

@@ -3,15 +3,14 @@
 use Prim.Native.Nat.{ℕ, suc, ◌+◌, ◌*◌, ◌≤◌, ◌<◌, min}
 use mathlib.Core.Path.{◌≡◌, refl, sym, ap, ap₂, ◌∙◌, subst}
 use mathlib.Core.Bool.{Bool, true, false, ◌||◌, or_assoc, or-false}
-use mathlib.Core.List.{List, [], ◌∷◌, ◌++◌}
+use mathlib.Core.List.{List, [], ◌∷◌}
 use native.Mathlib.Nat.{add_assoc, add-zero, zero-add, min_comm, min-le_right}
 use Rattle.std.proofs.lemmas.List.{take_min}
 use native.Mathlib.Numerals.{add-one}
 use native.Mathlib.Omega.{arith}
-use borrow.Author.Tests.{eqb-true, eqb-false}
 use lib.Dec.{eqb, lit<, lit≤}
-use lib.ListN.{length, get_or, set, take, drop, drop_of_length-le, length-map}
-use lib.Seq.{drop-cons, take-suc, take-suc-set, take-take, length-take-le, get_or-take}
+use lib.ListN.{length, get_or, take, drop, drop_of_length-le, length-map}
+use lib.Seq.{drop-cons, take-take, length-take-le, get_or-take}
 use Rattle.decimal.specs.Decimal.{number, value}
 use Rattle.decimal.specs.Limits.{order, Within}
 use Rattle.decimal.specs.declared.Decimal.{Decimal}

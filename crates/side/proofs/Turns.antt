@@ -20,7 +20,7 @@ use Rattle.level.proofs.Ranking.{apply_ranked}
 use Rattle.settings.specs.declared.SumText.{SumText}
 use Rattle.side.specs.declared.Step.{Step}
 use Rattle.side.specs.Applying.{EntryWithin, Given}
-use Rattle.side.specs.Working.{Working, AfterChange}
+use Rattle.side.specs.Working.{AfterChange}
 use Rattle.side.proofs.Entries.{Turn, turn-pass, turn-room, turn_step, given-length}
 use Rattle.side.proofs.Steps.{rank-one, count-le}
 

@@ -100,8 +100,8 @@ pub fn apply(
 
 // The first `kept` levels of the words, into an array.
 fn load(words: &[u64; MAX_WORDS], kept: usize, levels: &mut [Level; MAX_WORKING])
-    requires { (length words.now ≡ max_words) × (kept ≤ max_levels) × (length levels.old ≡ max_working) }
-    ensures { (length levels.new ≡ max_working) × (take kept levels.new ≡ held (kept_in words.now kept)) }
+    requires { kept ≤ max_levels }
+    ensures { take kept levels.new ≡ held (kept_in words.now kept) }
 {
     for i in 0..kept {
         levels[i] = level_in(words, i);
@@ -110,7 +110,7 @@ fn load(words: &[u64; MAX_WORDS], kept: usize, levels: &mut [Level; MAX_WORKING]
 
 // The first `left` levels of an array, into the words. No word past these is touched.
 fn store(words: &mut [u64; MAX_WORDS], levels: &[Level; MAX_WORKING], left: usize)
-    requires { (length words.old ≡ max_words) × (length levels.now ≡ max_working) × (left ≤ max_levels) }
+    requires { left ≤ max_levels }
     ensures { Stored words.old (take left levels.now) left words.new }
 {
     for i in 0..left {
@@ -224,8 +224,8 @@ fn place_of(levels: &[Level; MAX_WORKING], count: usize, side: Side, price: Deci
 
 // A level put in at a place of the first `count` levels; those from there on move up.
 fn insert(levels: &mut [Level; MAX_WORKING], count: usize, at: usize, new: Level)
-    requires { (length levels.old ≡ max_working) × (at ≤ count) × (count < max_working) }
-    ensures { (length levels.new ≡ max_working) × (take (count + 1) levels.new ≡ insert (take count levels.old) at new) }
+    requires { (at ≤ count) × (count < max_working) }
+    ensures { take (count + 1) levels.new ≡ insert (take count levels.old) at new }
 {
     levels.copy_within(at..count, at + 1);
     levels[at] = new;
@@ -233,8 +233,8 @@ fn insert(levels: &mut [Level; MAX_WORKING], count: usize, at: usize, new: Level
 
 // The level at a place taken out of the first `count` levels; those behind it move down.
 fn remove(levels: &mut [Level; MAX_WORKING], count: usize, at: usize)
-    requires { (length levels.old ≡ max_working) × (at < count) × (count ≤ max_working) }
-    ensures { (length levels.new ≡ max_working) × (take (count - 1) levels.new ≡ remove (take count levels.old) at) }
+    requires { (at < count) × (count ≤ max_working) }
+    ensures { take (count - 1) levels.new ≡ remove (take count levels.old) at }
 {
     levels.copy_within(at + 1..count, at);
 }

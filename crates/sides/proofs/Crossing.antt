@@ -1,7 +1,7 @@
 -- Whether two sides are crossed, from their first levels. Assumes nothing.
 use mathlib.Core.Path.{◌≡◌, refl, sym, ap, ap₂, ◌∙◌, subst}
 use mathlib.Core.List.{List, [], ◌∷◌}
-use mathlib.Core.Bool.{Bool, true, false, not}
+use mathlib.Core.Bool.{Bool, true, false, not, cond}
 use Prim.Native.Nat.{ℕ}
 use native.Mathlib.Omega.{arith}
 use lib.Dec.{ltb, eqb}
@@ -9,7 +9,8 @@ use lib.ListN.{get_or, drop}
 use lib.Seq.{drop-cons, get_or-take}
 use Rattle.decimal.specs.Decimal.{value}
 use Rattle.decimal.specs.Limits.{order_of, order, Within}
-use Rattle.decimal.specs.declared.Order.TheVariants.{Less, Equal, Greater}
+use Rattle.std.specs.Ordering.{is_ge}
+use Rattle.std.specs.declared.cmp.Ordering.TheVariants.{Less, Equal, Greater}
 use Rattle.edit.specs.declared.Side.{Side}
 use Rattle.edit.specs.declared.Side.TheVariants.{Bids, Asks}
 use Rattle.level.specs.Words.{level_price, levels_in, no_level}
@@ -19,13 +20,12 @@ use Rattle.level.specs.Kept.{held, Good}
 use Rattle.level.specs.declared.Level.{Level}
 use Rattle.level.specs.declared.Levels.{Levels}
 use Rattle.level.proofs.Held.{held-length}
-use Rattle.sides.specs.Crossed.{not_less}
 
-not-less-is : (x y : ℕ) → not_less (order_of x y) ≡ not (ltb x y)
+not_below : (x y : ℕ) → is_ge (order_of x y) ≡ not (ltb x y)
 unfolding order_of
-not-less-is x y = at (ltb x y) (eqb x y)
+not_below x y = at (ltb x y) (eqb x y)
   where
-    at : (a b : Bool) → not_less (elim a [ true ↦ Less | false ↦ elim b [ true ↦ Equal | false ↦ Greater ] ]) ≡ not a
+    at : (a b : Bool) → is_ge (cond a Less (cond b Equal Greater)) ≡ not a
     at true b = refl
     at false true = refl
     at false false = refl
@@ -67,8 +67,8 @@ module _ (side : Side) (kept : Levels) (g : Good side kept) (some : kept.count �
   best-within = (subst (All (λ level. Within (level_price level))) first g.within).0
 
 pub best-cross : (bids asks : Levels) → Good Bids bids → Good Asks asks → (bids.count ≡ 0 → ⊥) → (asks.count ≡ 0 → ⊥)
-    → not_less (order (level_price (best bids)) (level_price (best asks))) ≡ crosses level_price (held bids) (held asks)
+    → is_ge (order (level_price (best bids)) (level_price (best asks))) ≡ crosses level_price (held bids) (held asks)
 unfolding crosses order
 best-cross bids asks b a nb na =
-    not-less-is (value (level_price (best bids))) (value (level_price (best asks)))
+    not_below (value (level_price (best bids))) (value (level_price (best asks)))
     ∙ sym (ap₂ (crosses level_price) (first Bids bids b nb) (first Asks asks a na))

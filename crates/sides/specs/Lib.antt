@@ -1,3 +1,2 @@
--- In reading order: a side with the entries of a message applied; the order of two prices as a test.
+-- A side with the entries of a message applied.
 pub mod Worked
-pub mod Crossed

@@ -10,11 +10,9 @@ ghost use Rattle.level.specs.Kept.{kept_in, held, Good};
 ghost use Rattle.level.specs.Side.{crosses};
 ghost use Rattle.level.specs.Words.{level_price};
 ghost use Rattle.edit.specs.declared.Side.TheVariants.{Bids, Asks};
-ghost use Rattle.sides.specs.Crossed.{not_less};
 ghost use Rattle.side.specs.Applying.{Given};
 ghost use Rattle.sides.specs.Worked.{Sound, edits_for, side_after, Worked};
 
-use decimal::Order;
 use edit::{BUFFER_WORDS, Side};
 use level::{MAX_WORDS, level_in, price_of};
 use settings::SumText;
@@ -49,32 +47,19 @@ pub fn apply_entries(
 }
 
 // Whether a book of so many bids and asks is crossed: both sides have levels, and the best bid is not below the best ask.
-pub fn is_crossed<'a>(
-    bids: &'a [u64; MAX_WORDS],
+pub fn is_crossed(
+    bids: &[u64; MAX_WORDS],
     bid_count: usize,
-    asks: &'a [u64; MAX_WORDS],
+    asks: &[u64; MAX_WORDS],
     ask_count: usize,
 ) -> bool
     requires { Good Bids (kept_in bids.now bid_count) × Good Asks (kept_in asks.now ask_count) }
     ensures { result ≡ crosses level_price (held (kept_in bids.now bid_count)) (held (kept_in asks.now ask_count)) }
 {
-    if bid_count == 0 {
-        return false;
-    }
-    if ask_count == 0 {
+    if bid_count == 0 || ask_count == 0 {
         return false;
     }
     let bid = price_of(level_in(bids, 0));
     let ask = price_of(level_in(asks, 0));
-    is_not_less(decimal::compare(bid, ask))
-}
-
-fn is_not_less(order: Order) -> bool
-    ensures { result ≡ not_less order }
-{
-    match order {
-        Order::Less => false,
-        Order::Equal => true,
-        Order::Greater => true,
-    }
+    decimal::compare(bid, ask).is_ge()
 }

@@ -1,13 +1,11 @@
 -- `apply` meets its contract: the loop over the entries keeps `Turn`, that what is left of the message on the working side gives the same as the
 -- whole message on the side that was kept.
-use mathlib.Core.Path.{◌≡◌, refl, sym, ap, ◌∙◌}
-use mathlib.Core.Bool.{true, false}
+use mathlib.Core.Path.{refl, sym, ap, ◌∙◌}
 use mathlib.Core.List.{List}
-use Prim.Native.Nat.{ℕ, ◌≤◌}
+use Prim.Native.Nat.{◌≤◌}
 use native.Mathlib.Nat.{min-le_right}
 use native.Mathlib.Omega.{arith}
 use lib.ListN.{length, take}
-use Rattle.checksum.specs.Carried.{level_for}
 use Rattle.edit.specs.Edit.{named}
 use Rattle.edit.specs.Buffer.{entries_in, numbers_of}
 use Rattle.edit.proofs.Sides.{same-is}
@@ -15,7 +13,7 @@ use Rattle.level.specs.declared.Level.{Level}
 use Rattle.level.specs.Side.{apply_all}
 use Rattle.level.specs.Ranked.{after_message, Sorted, replaced}
 use Rattle.level.specs.Moved.{moved}
-use Rattle.level.specs.Words.{level_price, levels_in, edit}
+use Rattle.level.specs.Words.{level_price, edit}
 use Rattle.level.specs.Kept.{held}
 use Rattle.level.proofs.All.{all_take}
 use Rattle.level.proofs.Ranking.{sorted-take}
@@ -28,9 +26,9 @@ use Rattle.side.proofs.apply.Goals.{then-eq+then-replaced, then-eq+else-replaced
 pub loop-k-init : goal.loop-k-init
 loop-k-init c =
     let a = c.args in
-    let o = c.load.ensures.1 in
+    let o = c.load.ensures in
     turn-start a.text a.side (take a.entries (entries_in a.buffer.now)) (take a.kept c.load.new.levels) a.kept c.requires.0.few c.requires.1.own
-    c.load.new.levels c.load.ensures.0 refl (rw o c.requires.0.sorted) (rw o c.requires.0.within)
+    c.load.new.levels c.load.array_long refl (rw o c.requires.0.sorted) (rw o c.requires.0.within)
 
 pub change_for-change-requires : goal.change_for-change-requires
 change_for-change-requires c =
@@ -98,7 +96,7 @@ returns c =
     let es = take a.entries (entries_in a.buffer.now) in
     let all = changes_for a.text a.side es in
     let kept = take a.kept c.load.new.levels in
-    let o = c.load.ensures.1 in
+    let o = c.load.ensures in
     let l : p.count ≤ length p.levels = omega (arith, t.long, t.fits) in
     let eq = c.store.ensures.levels ∙ cut-to p.levels p.count a.depth left l c.min-left.ensures in
     let past : length es ≤ p.k = omega (arith, given-length c.requires.1, c.loop-k-test.false) in

@@ -1,17 +1,15 @@
 use mathlib.Core.Path.{◌≡◌, sym, ap, ◌∙◌, subst}
 use mathlib.Core.Bool.{true, false}
-use Prim.Native.Nat.{ℕ, ◌+◌, ◌-◌, ◌≤◌, ◌<◌}
+use Prim.Native.Nat.{◌+◌, ◌-◌}
 use native.Mathlib.Omega.{arith}
-use lib.ListN.{length, set, take}
-use lib.Seq.{length-take-le}
+use lib.ListN.{set, take}
 use Rattle.decimal.specs.Decimal.{number, value}
 use Rattle.decimal.specs.declared.Decimal.{Decimal}
-use Rattle.edit.specs.Edit.{Edit, named}
+use Rattle.edit.specs.Edit.{named}
 use Rattle.level.specs.declared.Change.{Change}
 use Rattle.level.specs.declared.Change.TheVariants.{Set, Remove}
 use Rattle.level.specs.declared.Level.{Level}
 use Rattle.level.specs.Words.{edit, level_price}
-use Rattle.level.specs.Side.{standing}
 use Rattle.side.specs.Working.{AfterChange}
 use Rattle.side.proofs.Steps.{key, step, inside, below-count, after-replaced, after-inserted, after-absent, after-removed}
 use Rattle.side.proofs.apply_change.Goals as goal
@@ -41,7 +39,7 @@ returns-then-place c =
     (after-replaced a.side a.levels.now a.count r.at (value (number a.price)) c.requires.0 f.0 c.in-Set.new (key-new a.price a.change c.in-Set.new c.requires.3 c.in-Set.is) (sym f.1 ∙ c.if-place.true))
 
 pub insert-requires : goal.insert-requires
-insert-requires c = (c.requires.0.room, inside c.args.side c.args.levels.now c.args.count c.find_price-place.result.at (value (number c.args.price)) c.requires.0 c.find_price-place.ensures.0, c.requires.1)
+insert-requires c = (inside c.args.side c.args.levels.now c.args.count c.find_price-place.result.at (value (number c.args.price)) c.requires.0 c.find_price-place.ensures.0, c.requires.1)
 
 pub overflow_sub-result : goal.overflow_sub-result
 overflow_sub-result c = inside c.args.side c.args.levels.now c.args.count c.find_price-place.result.at (value (number c.args.price)) c.requires.0 c.find_price-place.ensures.0
@@ -56,7 +54,7 @@ returns-else-place-2 c =
     (after-absent a.side a.levels.now a.count r.at (value (number a.price)) c.requires.0 f.0 (number c.in-Remove.field-0) (removed-price a.price a.change c.in-Remove.field-0 c.requires.3 c.in-Remove.is) (sym f.1 ∙ c.if-place-2.false))
 
 pub remove-requires : goal.remove-requires
-remove-requires c = (c.requires.0.room, below-count c.args.side c.args.levels.now c.args.count c.find_price-place.result.at (value (number c.args.price)) c.requires.0 c.find_price-place.ensures.0 (sym c.find_price-place.ensures.1 ∙ c.if-place-2.true), c.requires.0.few)
+remove-requires c = (below-count c.args.side c.args.levels.now c.args.count c.find_price-place.result.at (value (number c.args.price)) c.requires.0 c.find_price-place.ensures.0 (sym c.find_price-place.ensures.1 ∙ c.if-place-2.true), c.requires.0.few)
 
 pub overflow_sub-result-then-place-2 : goal.overflow_sub-result-then-place-2
 overflow_sub-result-then-place-2 c = omega (arith, below-count c.args.side c.args.levels.now c.args.count c.find_price-place.result.at (value (number c.args.price)) c.requires.0 c.find_price-place.ensures.0 (sym c.find_price-place.ensures.1 ∙ c.if-place-2.true))
@@ -75,7 +73,7 @@ returns-else-place c =
     let f = c.find_price-place.ensures in
     subst (λ (x : Change). AfterChange a.side (edit x) (take a.count a.levels.now) c.insert.new.levels (step (a.count + 1) (a.count - r.at) false)) (sym c.in-Set.is)
     (after-inserted a.side a.levels.now a.count r.at (value (number a.price)) c.requires.0 f.0 c.in-Set.new (key-new a.price a.change c.in-Set.new c.requires.3 c.in-Set.is) (sym f.1 ∙ c.if-place.false)
-    c.requires.1 c.insert.new.levels c.insert.ensures.0 c.insert.ensures.1)
+    c.requires.1 c.insert.new.levels c.insert.array_long c.insert.ensures)
 
 pub returns-then-place-2 : goal.returns-then-place-2
 unfolding edit
@@ -85,4 +83,4 @@ returns-then-place-2 c =
     let f = c.find_price-place.ensures in
     subst (λ (x : Change). AfterChange a.side (edit x) (take a.count a.levels.now) c.remove.new.levels (step (a.count - 1) (a.count - 1 - r.at) false)) (sym c.in-Remove.is)
     (after-removed a.side a.levels.now a.count r.at (value (number a.price)) c.requires.0 f.0 (number c.in-Remove.field-0) (removed-price a.price a.change c.in-Remove.field-0 c.requires.3 c.in-Remove.is) (sym f.1 ∙ c.if-place-2.true)
-    c.remove.new.levels c.remove.ensures.0 c.remove.ensures.1)
+    c.remove.new.levels c.remove.array_long c.remove.ensures)

@@ -12,7 +12,7 @@ use Rattle.side.proofs.load.Goals as goal
 pub loop-i-preserved : goal.loop-i-preserved
 loop-i-preserved c =
     let p = c.loop-i in
-    let l = length-levels 100 c.args.words.now c.requires.0 in (
+    let l = length-levels 100 c.args.words.now c.told-words in (
       simp length-set p.invariant.0,
       ap (λ (x : Level). take (p.i + 1) (set p.levels p.i x)) c.level_in.ensures
           ∙ copied (levels_in c.args.words.now) p.levels p.i no_level (omega arith) (omega (arith, p.invariant.0)) p.invariant.1,
@@ -22,4 +22,4 @@ pub returns : goal.returns
 unfolding held
 returns c =
     let e : c.loop-i.i ≡ c.args.kept = omega arith in
-    (c.loop-i.invariant.0, rw e at c.loop-i.invariant.1)
+    rw e at c.loop-i.invariant.1

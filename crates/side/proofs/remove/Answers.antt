@@ -6,7 +6,4 @@ use Rattle.side.proofs.Shifted.{removed}
 use Rattle.side.proofs.remove.Goals as goal
 
 pub returns : goal.returns
-returns c = (
-  c.copy_within.ensures.len ∙ c.requires.0,
-  ap (take (c.args.count - 1)) c.copy_within.ensures.after ∙ removed c.args.levels.now c.args.at c.args.count c.requires.1 (omega arith),
-)
+returns c = ap (take (c.args.count - 1)) c.copy_within.ensures.after ∙ removed c.args.levels.now c.args.at c.args.count c.requires.0 (omega arith)

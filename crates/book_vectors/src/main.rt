@@ -10,12 +10,12 @@
 // Other lines are written as they are. What is to come was worked out apart from the crate, by tools/book_vectors.py.
 #![tactic(auto)]
 
-ghost use Rattle.std.specs.Prelude.{◌≡◌, ◌≤◌, length, IfOk};
+ghost use Rattle.std.specs.Prelude.{◌≡◌, length, IfOk};
 ghost use Rattle.book.specs.Shown.{Good};
 
 use answer::{Answer, number_of};
 use book::Book;
-use decimal::{Decimal, ParsedWhole, Step};
+use decimal::Decimal;
 use edit::Side;
 use lines::{LINE_END, find};
 use reading::read_full;
@@ -40,7 +40,7 @@ fn empty_table() -> [u8; 262144]
 fn dots() -> [u8; ROOM]
     ensures { 20000 ≡ length result }
 {
-    [46; ROOM]
+    [b'.'; ROOM]
 }
 
 fn write(out: &impl Print, s: &[u8]) -> io::Result<()> {
@@ -53,71 +53,44 @@ fn say(out: &impl Print, n: u64) -> io::Result<()> {
 
 fn run_lines(out: &impl Print, s: &[u8]) -> io::Result<()> {
     let mut book = feed::open(b"");
-    let mut opening = 0;
-    let mut i = 0;
-    while i < s.len() {
-        let e = find(s, i, LINE_END);
-        opening = opening_at(s, opening, i);
-        book = run_line(out, book, s, opening, i, e)?;
-        write(out, b"\n")?;
-        if s.len() <= e {
-            return Ok(());
+    let mut opening = &s[..find(s, 0, LINE_END)];
+    // By an index: what each line keeps of the book did not close over `split_inclusive`.
+    let mut at = 0;
+    while at < s.len() {
+        let end = find(s, at, LINE_END);
+        let line = &s[at..end];
+        if line.starts_with(b"=") {
+            opening = line;
         }
-        i = e + 1;
+        book = run_line(out, book, opening, line)?;
+        write(out, b"\n")?;
+        at = end + 1;
     }
     Ok(())
 }
 
-// Where the line begins that opened the last book.
-fn opening_at(s: &[u8], opening: usize, i: usize) -> usize
-    requires { (opening ≤ length s.now) × (i ≤ length s.now) }
-    ensures { result ≤ length s.now }
-{
-    if i < s.len() {
-        if s[i] == b'=' {
-            return i;
-        }
-    }
-    opening
-}
-
-// The book after the line from `i` to `e`.
-fn run_line(
-    out: &impl Print,
-    book: Book,
-    s: &[u8],
-    opening: usize,
-    i: usize,
-    e: usize,
-) -> io::Result<Book>
-    requires { Good book × (opening ≤ length s.now) × (i ≤ e) × (e ≤ length s.now) }
+// The book after a line; `opening` is the line that opened it.
+fn run_line(out: &impl Print, book: Book, opening: &[u8], line: &[u8]) -> io::Result<Book>
+    requires { Good book }
     ensures { IfOk result (λ after. Good after) }
 {
-    let line = &s[i..e];
-    if line.len() < 1 {
+    if line.is_empty() {
         return Ok(book);
     }
-    let c = line[0];
-    if c == b'=' {
-        return Ok(open_line(line));
+    match line[0] {
+        b'=' => Ok(open_line(line)),
+        b'<' => hand(out, book, rest(line)),
+        b'r' => back(out, book, opening),
+        mark => {
+            ask_line(out, book, line, mark)?;
+            Ok(book)
+        }
     }
-    if c == b'<' {
-        return take_line(out, book, line);
-    }
-    if c == b'r' {
-        let end = find(s, opening, LINE_END);
-        return back(out, book, &s[opening..end]);
-    }
-    ask_line(out, book, line, c)?;
-    Ok(book)
 }
 
 // What stands past a mark and a blank.
 fn rest(line: &[u8]) -> &[u8] {
-    if line.len() < 2 {
-        return &line[..0];
-    }
-    &line[2..]
+    &line[line.len().min(2)..]
 }
 
 fn open_line(line: &[u8]) -> Book
@@ -126,57 +99,29 @@ fn open_line(line: &[u8]) -> Book
     feed::open(rest(line))
 }
 
-fn take_line(out: &impl Print, book: Book, line: &[u8]) -> io::Result<Book>
-    requires { Good book }
-    ensures { IfOk result (λ after. Good after) }
-{
-    hand(out, book, rest(line))
-}
-
-fn ask_line(out: &impl Print, book: Book, line: &[u8], c: u8) -> io::Result<()>
+fn ask_line(out: &impl Print, book: Book, line: &[u8], mark: u8) -> io::Result<()>
     requires { Good book }
 {
     let i = index(rest(line));
-    if c == b'c' {
-        tell_counts(out, book, Scope::Current)
-    } else if c == b'C' {
-        tell_counts(out, book, Scope::LastGood)
-    } else if c == b'n' {
-        tell_number(out, book, Scope::Current)
-    } else if c == b'N' {
-        tell_number(out, book, Scope::LastGood)
-    } else if c == b'u' {
-        tell_updates(out, book, Scope::Current)
-    } else if c == b'U' {
-        tell_updates(out, book, Scope::LastGood)
-    } else if c == b'w' {
-        tell_written(out, book, i)
-    } else {
-        ask_level(out, book, line, c, i)
+    match mark {
+        b'c' => tell_counts(out, book, Scope::Current),
+        b'C' => tell_counts(out, book, Scope::LastGood),
+        b'n' => tell_number(out, book, Scope::Current),
+        b'N' => tell_number(out, book, Scope::LastGood),
+        b'u' => tell_updates(out, book, Scope::Current),
+        b'U' => tell_updates(out, book, Scope::LastGood),
+        b'b' => tell_level(out, book, Scope::Current, Side::Bids, i),
+        b'a' => tell_level(out, book, Scope::Current, Side::Asks, i),
+        b'B' => tell_level(out, book, Scope::LastGood, Side::Bids, i),
+        b'A' => tell_level(out, book, Scope::LastGood, Side::Asks, i),
+        b'w' => tell_written(out, book, i),
+        _ => write(out, line),
     }
 }
 
-fn ask_level(out: &impl Print, book: Book, line: &[u8], c: u8, i: usize) -> io::Result<()>
-    requires { Good book }
-{
-    if c == b'b' {
-        tell_level(out, book, Scope::Current, Side::Bids, i)
-    } else if c == b'a' {
-        tell_level(out, book, Scope::Current, Side::Asks, i)
-    } else if c == b'B' {
-        tell_level(out, book, Scope::LastGood, Side::Bids, i)
-    } else if c == b'A' {
-        tell_level(out, book, Scope::LastGood, Side::Asks, i)
-    } else {
-        write(out, line)
-    }
-}
-
+// The whole number that a text writes, or 0 where it writes none.
 fn index(text: &[u8]) -> usize {
-    match decimal::parse_whole(text) {
-        ParsedWhole::Number(n) => n as usize,
-        ParsedWhole::Refused => 0,
-    }
+    decimal::parse_whole(text).unwrap_or(0) as usize
 }
 
 fn tell_answer(out: &impl Print, answer: Answer) -> io::Result<()> {
@@ -188,8 +133,7 @@ fn tell_counts(out: &impl Print, book: Book, scope: Scope) -> io::Result<()>
     requires { Good book }
 {
     let counted = book.counts(scope);
-    let answer = counted.answer;
-    tell_answer(out, answer)?;
+    tell_answer(out, counted.answer)?;
     say(out, counted.bids as u64)?;
     write(out, b" ")?;
     say(out, counted.asks as u64)
@@ -199,8 +143,7 @@ fn tell_number(out: &impl Print, book: Book, scope: Scope) -> io::Result<()>
     requires { Good book }
 {
     let reply = book.number(scope);
-    let answer = reply.answer;
-    tell_answer(out, answer)?;
+    tell_answer(out, reply.answer)?;
     say(out, reply.value)
 }
 
@@ -208,8 +151,7 @@ fn tell_updates(out: &impl Print, book: Book, scope: Scope) -> io::Result<()>
     requires { Good book }
 {
     let reply = book.updates(scope);
-    let answer = reply.answer;
-    tell_answer(out, answer)?;
+    tell_answer(out, reply.answer)?;
     say(out, reply.value)
 }
 
@@ -217,31 +159,21 @@ fn tell_level(out: &impl Print, book: Book, scope: Scope, side: Side, i: usize) 
     requires { Good book }
 {
     let reply = book.level(scope, side, i);
-    let answer = reply.answer;
-    tell_answer(out, answer)?;
-    let price = reply.price;
-    let size = reply.size;
-    tell_decimal(out, price)?;
+    tell_answer(out, reply.answer)?;
+    tell_decimal(out, reply.price)?;
     write(out, b" ")?;
-    tell_decimal(out, size)
+    tell_decimal(out, reply.size)
 }
 
 // Its text, which comes from the last byte to the first.
 fn tell_decimal(out: &impl Print, d: Decimal) -> io::Result<()> {
     let mut text = [0; 24];
-    let mut at = 24;
     let mut tail = decimal::text_tail(d);
-    while 0 < at {
-        match tail.step() {
-            Step::Byte(c, next) => {
-                at -= 1;
-                text[at] = c;
-                tail = next;
-            }
-            Step::End => {
-                return write(out, &text[at..]);
-            }
-        }
+    for at in (0..24).rev() {
+        let Some(c) = tail.pop() else {
+            return write(out, &text[at + 1..]);
+        };
+        text[at] = c;
     }
     Ok(())
 }
@@ -260,8 +192,7 @@ fn tell_room(out: &impl Print, book: Book, room: &mut [u8]) -> io::Result<()>
     requires { Good book }
 {
     let reply = book.write(room);
-    let answer = reply.answer;
-    tell_answer(out, answer)?;
+    tell_answer(out, reply.answer)?;
     say(out, reply.value)?;
     write(out, b" ")?;
     write(out, room)
@@ -274,13 +205,9 @@ fn back(out: &impl Print, book: Book, line: &[u8]) -> io::Result<Book>
 {
     let mut room = dots();
     let reply = book.write(&mut room);
-    let answer = reply.answer;
-    say(out, number_of(answer))?;
+    say(out, number_of(reply.answer))?;
     let n = reply.value as usize;
-    if n < 1 {
-        return Ok(book);
-    }
-    if ROOM < n {
+    if n == 0 || ROOM < n {
         return Ok(book);
     }
     write(out, b" ")?;
@@ -292,8 +219,7 @@ fn hand(out: &impl Print, book: Book, text: &[u8]) -> io::Result<Book>
     ensures { IfOk result (λ after. Good after) }
 {
     let step = book.take(text);
-    let answer = step.answer;
-    tell_answer(out, answer)?;
+    tell_answer(out, step.answer)?;
     say(out, step.moved as u64)?;
     Ok(step.book)
 }

@@ -1,7 +1,5 @@
 -- What the program keeps true of its book. Assumes nothing: these are definitions.
 use Rattle.std.specs.Prelude.{ℕ, ◌≤◌, List, ◌≡◌, length, take}
-use Rattle.decimal.specs.Decimal.{number}
-use Rattle.decimal.specs.Limits.{Within}
 use Rattle.edit.specs.Buffer.{buffer_words, entries_in}
 use Rattle.edit.specs.declared.Side.{Side}
 use Rattle.edit.specs.declared.Side.TheVariants.{Bids, Asks}
@@ -12,8 +10,6 @@ use Rattle.level.specs.declared.Levels.{Levels}
 use Rattle.checksum.specs.Carried.{piece_of, Carries}
 use Rattle.side.specs.Applying.{EntryWithin}
 use Rattle.checksum_vectors.specs.declared.Book.{Book}
-use Rattle.checksum_vectors.specs.declared.MaybeNumbers.{MaybeNumbers}
-use Rattle.checksum_vectors.specs.declared.MaybeNumbers.TheVariants.{Numbers, Nothing}
 
 pub record ValidSide (text : SumText) (side : Side) (levels : Levels) : Type 0 where
   pub good : Good side levels
@@ -23,11 +19,6 @@ pub record Valid (b : Book) : Type 0 where
   pub shallow : b.depth ≤ 100
   pub bids : ValidSide b.text Bids b.bids
   pub asks : ValidSide b.text Asks b.asks
-
--- The numbers of an entry keep the limits of decimals, if they were read.
-abbrev pub Readable : MaybeNumbers → Type 0
-Readable (Numbers price size) = Within (number price) × Within (number size)
-Readable Nothing = Unit
 
 -- n entries at the front of a buffer.
 pub record Filled (buffer : List ℕ) (n : ℕ) : Type 0 where

@@ -7,14 +7,12 @@
 #![tactic(auto)]
 
 ghost use Rattle.std.specs.Prelude.{◌≡◌, ◌≤◌, length, IfOk};
-ghost use Rattle.decimal.specs.Decimal.{number};
-ghost use Rattle.decimal.specs.Limits.{Within};
 ghost use Rattle.edit.specs.Buffer.{buffer_words};
 ghost use Rattle.level.specs.Kept.{max_levels, max_words};
 ghost use Rattle.side.specs.Applying.{Given};
-ghost use Rattle.checksum_vectors.specs.Book.{Valid, ValidSide, Readable};
+ghost use Rattle.checksum_vectors.specs.Book.{Valid, ValidSide};
 
-use decimal::{Decimal, Parsed, ParsedWhole};
+use decimal::Decimal;
 use edit::{BUFFER_WORDS, Side};
 use level::{Level, Levels};
 use lines::{LINE_END, find};
@@ -22,7 +20,7 @@ use reading::read_full;
 use settings::SumText;
 use std::io;
 
-const BLANK: u8 = 32;
+const BLANK: u8 = b' ';
 
 // The longest input.
 const INPUT: usize = 65536;
@@ -44,13 +42,6 @@ struct Book {
     asks: Levels,
 }
 
-// The numbers of an entry, if they can be read.
-#[derive(Clone, Copy)]
-enum MaybeNumbers {
-    Numbers(Decimal, Decimal),
-    Nothing,
-}
-
 fn main(rt: HostRuntime) -> io::Result<()> {
     let mut text = [0; INPUT];
     let n = read_full(&mut rt.stdin(), &mut text)?;
@@ -59,6 +50,7 @@ fn main(rt: HostRuntime) -> io::Result<()> {
 
 fn run_lines(out: &impl Print, s: &[u8]) -> io::Result<()> {
     let mut book = new_book(SumText::Stripped, 10, 10);
+    // By an index: what each line keeps of the book did not close over `split_inclusive`.
     let mut at = 0;
     while at < s.len() {
         let end = find(s, at, LINE_END);
@@ -85,47 +77,32 @@ fn run_line(out: &impl Print, book: Book, s: &[u8]) -> io::Result<Book>
     requires { Valid book }
     ensures { IfOk result (λ after. Valid after) }
 {
-    if s.len() == 0 {
+    if s.is_empty() {
         say(out, b"no line\n")?;
         return Ok(book);
     }
-    let kind = s[0];
-    if kind == 75 {
-        return start(out, SumText::Stripped, 10, s);
+    match s[0] {
+        b'K' => start(out, SumText::Stripped, 10, s),
+        b'M' => start(out, SumText::Interleaved, edition_sum(s), s),
+        b'b' => with_side(out, book, Side::Bids, s),
+        b'a' => with_side(out, book, Side::Asks, s),
+        _ => {
+            show(out, book)?;
+            Ok(book)
+        }
     }
-    if kind == 77 {
-        return start(out, SumText::Interleaved, edition_sum(s), s);
+}
+
+// The book after a message's entries for one side.
+fn with_side(out: &impl Print, mut book: Book, side: Side, s: &[u8]) -> io::Result<Book>
+    requires { Valid book }
+    ensures { IfOk result (λ after. Valid after) }
+{
+    match side {
+        Side::Bids => book.bids = run_side(out, book.bids, side, book.text, book.depth, s)?,
+        Side::Asks => book.asks = run_side(out, book.asks, side, book.text, book.depth, s)?,
     }
-    if kind == 98 {
-        return with_bids(out, book, s);
-    }
-    if kind == 97 {
-        return with_asks(out, book, s);
-    }
-    show(out, book)?;
     Ok(book)
-}
-
-fn with_bids(out: &impl Print, book: Book, s: &[u8]) -> io::Result<Book>
-    requires { Valid book }
-    ensures { IfOk result (λ after. Valid after) }
-{
-    let text = book.text;
-    let bids = run_side(out, book.bids, Side::Bids, text, book.depth, s)?;
-    let mut after = book;
-    after.bids = bids;
-    Ok(after)
-}
-
-fn with_asks(out: &impl Print, book: Book, s: &[u8]) -> io::Result<Book>
-    requires { Valid book }
-    ensures { IfOk result (λ after. Valid after) }
-{
-    let text = book.text;
-    let asks = run_side(out, book.asks, Side::Asks, text, book.depth, s)?;
-    let mut after = book;
-    after.asks = asks;
-    Ok(after)
 }
 
 // A new book of the depth that a line gives, or 10 where it gives none up to 100.
@@ -134,9 +111,8 @@ fn start(out: &impl Print, text: SumText, summed: usize, s: &[u8]) -> io::Result
 {
     let end = find(s, 0, BLANK);
     let depth = read_depth(s, end);
-    let from = 0;
     if end < s.len() {
-        say(out, &s[from..end])?;
+        say(out, &s[..end])?;
     }
     say(out, b" ")?;
     say_number(out, depth as u64)?;
@@ -146,13 +122,7 @@ fn start(out: &impl Print, text: SumText, summed: usize, s: &[u8]) -> io::Result
 
 // M2 sums 25 levels a side, M and M1 all.
 fn edition_sum(s: &[u8]) -> usize {
-    if s.len() < 2 {
-        return 100;
-    }
-    if s[1] == b'2' {
-        return 25;
-    }
-    100
+    if 1 < s.len() && s[1] == b'2' { 25 } else { 100 }
 }
 
 // The depth behind the blank.
@@ -163,13 +133,8 @@ fn read_depth(s: &[u8], blank: usize) -> usize
         return 10;
     }
     match decimal::parse_whole(&s[blank + 1..]) {
-        ParsedWhole::Number(n) => {
-            if n <= 100 {
-                return n as usize;
-            }
-            10
-        }
-        ParsedWhole::Refused => 10,
+        Some(n) if n <= 100 => n as usize,
+        _ => 10,
     }
 }
 
@@ -201,11 +166,7 @@ fn run_side(
         &table,
     );
     say_number(out, applied.count as u64)?;
-    if applied.replaced {
-        say(out, b" 1\n")?;
-    } else {
-        say(out, b" 0\n")?;
-    }
+    say(out, if applied.replaced { b" 1\n" } else { b" 0\n" })?;
     Ok(Levels {
         words,
         count: applied.left,
@@ -218,8 +179,7 @@ fn read_entries(s: &[u8], side: Side, buffer: &mut [u64; BUFFER_WORDS]) -> usize
     ensures { Given side buffer.new result }
 {
     let mut at = 1;
-    let mut k = 0;
-    while k < MAX_ENTRIES {
+    for k in 0..MAX_ENTRIES {
         if s.len() <= at {
             return k;
         }
@@ -230,37 +190,16 @@ fn read_entries(s: &[u8], side: Side, buffer: &mut [u64; BUFFER_WORDS]) -> usize
         }
         let size_from = price_end + 1;
         let size_end = find(s, size_from, BLANK);
-        match read_numbers(&s[price_from..price_end], &s[size_from..size_end]) {
-            MaybeNumbers::Numbers(price, size) => {
-                edit::put(buffer, k, side, price, size);
-                k += 1;
-                at = size_end;
-            }
-            MaybeNumbers::Nothing => {
-                return k;
-            }
-        }
+        let Some(price) = decimal::parse(&s[price_from..price_end]) else {
+            return k;
+        };
+        let Some(size) = decimal::parse(&s[size_from..size_end]) else {
+            return k;
+        };
+        edit::put(buffer, k, side, price, size);
+        at = size_end;
     }
-    k
-}
-
-fn read_numbers(price: &[u8], size: &[u8]) -> MaybeNumbers
-    ensures { Readable result }
-{
-    match decimal::parse(price) {
-        Parsed::Number(p) => read_size(p, size),
-        Parsed::Refused => MaybeNumbers::Nothing,
-    }
-}
-
-fn read_size(price: Decimal, size: &[u8]) -> MaybeNumbers
-    requires { Within (number price) }
-    ensures { Readable result }
-{
-    match decimal::parse(size) {
-        Parsed::Number(z) => MaybeNumbers::Numbers(price, z),
-        Parsed::Refused => MaybeNumbers::Nothing,
-    }
+    MAX_ENTRIES
 }
 
 fn show(out: &impl Print, book: Book) -> io::Result<()>
@@ -282,8 +221,7 @@ fn sum_of(book: Book) -> u32
     let asks = book.asks;
     let mut table = [0; TABLE];
     crc32::fill_table(&mut table);
-    let text = book.text;
-    match text {
+    match book.text {
         SumText::Stripped => checksum::k_checksum(
             book.summed,
             &bids.words,

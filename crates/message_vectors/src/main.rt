@@ -10,11 +10,11 @@
 // crate, by tools/message_vectors.py.
 #![tactic(auto)]
 
-ghost use Rattle.std.specs.Prelude.{◌≡◌, ◌≤◌, length};
+ghost use Rattle.std.specs.Prelude.{◌≡◌, length};
 ghost use Rattle.edit.specs.Buffer.{buffer_words};
 
 use answer::number_of;
-use decimal::{Decimal, ParsedWhole};
+use decimal::Decimal;
 use edit::{BUFFER_WORDS, MAX_BUFFERED, Side};
 use layout::{Outline, is_snapshot};
 use line_text::read_settings;
@@ -23,18 +23,17 @@ use reading::read_full;
 use settings::Dialect;
 use std::io;
 
-const BLANK: u8 = 32;
+const BLANK: u8 = b' ';
 
 // The longest message with blanks at its end.
 const MAX_PADDED: usize = 40000;
 
 // Settings; the name is a part of the input.
 #[derive(Clone, Copy)]
-struct Config {
+struct Config<'a> {
     dialect: Dialect,
     depth: usize,
-    from: usize,
-    to: usize,
+    name: &'a [u8],
 }
 
 fn main(rt: HostRuntime) -> io::Result<()> {
@@ -51,163 +50,104 @@ fn empty_table() -> [u8; 262144]
 
 fn run_lines(out: &impl Print, s: &[u8]) -> io::Result<()> {
     let mut terms = no_terms();
-    let mut i = 0;
-    while i < s.len() {
-        let e = find(s, i, LINE_END);
-        terms = run_line(out, s, terms, i, e)?;
+    // By an index: settings that refer to an earlier line did not close over `split_inclusive`.
+    let mut at = 0;
+    while at < s.len() {
+        let end = find(s, at, LINE_END);
+        terms = run_line(out, terms, &s[at..end])?;
         write(out, b"\n")?;
-        if s.len() <= e {
-            return Ok(());
-        }
-        i = e + 1;
+        at = end + 1;
     }
     Ok(())
 }
 
-fn no_terms() -> Config {
+fn no_terms<'a>() -> Config<'a> {
     Config {
         dialect: Dialect::Unknown,
         depth: 0,
-        from: 0,
-        to: 0,
+        name: b"",
     }
 }
 
-// Runs the line from `from` to `to`, and answers the settings for the next one.
-fn run_line(out: &impl Print, s: &[u8], terms: Config, from: usize, to: usize) -> io::Result<Config>
-    requires { (from ≤ to) × (to ≤ length s.now) }
-{
-    if to - from < 2 {
-        write(out, &s[from..to])?;
+// Runs a line, and answers the settings for the next one.
+fn run_line<'a>(out: &impl Print, terms: Config<'a>, line: &'a [u8]) -> io::Result<Config<'a>> {
+    if line.len() < 2 {
+        write(out, line)?;
         return Ok(terms);
     }
-    let c = s[from];
-    let start = from + 2;
-    if c == b'<' {
-        run_message(out, s, terms, &s[start..to])?;
-        return Ok(terms);
-    }
-    if c == b'+' {
-        run_padded(out, s, terms, start, to)?;
-        return Ok(terms);
-    }
-    write(out, &s[from..to])?;
-    if c == b'=' {
-        return Ok(read_terms(s, start, to));
+    let text = &line[2..];
+    match line[0] {
+        b'<' => tell(out, terms, text)?,
+        b'+' => run_padded(out, terms, text)?,
+        b'=' => {
+            write(out, line)?;
+            return Ok(read_terms(text));
+        }
+        _ => write(out, line)?,
     }
     Ok(terms)
 }
 
-fn read_terms(s: &[u8], from: usize, to: usize) -> Config
-    requires { (from ≤ to) × (to ≤ length s.now) }
-{
-    let first = read_settings(&s[from..to]);
-    let dialect = first.dialect;
-    let name = first.name;
-    if to - from < name {
+fn read_terms(s: &[u8]) -> Config {
+    let first = read_settings(s);
+    if s.len() < first.name {
         return no_terms();
     }
     Config {
-        dialect,
+        dialect: first.dialect,
         depth: first.depth,
-        from: from + name,
-        to,
+        name: &s[first.name..],
     }
 }
 
 // The whole number that a text writes, or 0 where it writes none.
 fn whole(s: &[u8]) -> usize {
-    match decimal::parse_whole(s) {
-        ParsedWhole::Number(n) => n as usize,
-        ParsedWhole::Refused => 0,
-    }
+    decimal::parse_whole(s).unwrap_or(0) as usize
 }
 
-fn run_padded(out: &impl Print, s: &[u8], terms: Config, from: usize, to: usize) -> io::Result<()>
-    requires { (from ≤ to) × (to ≤ length s.now) }
-{
-    let end = find(s, from, BLANK);
-    if to <= end {
+// A length, a blank, and a message that is told with blanks at its end up to that length.
+fn run_padded(out: &impl Print, terms: Config, s: &[u8]) -> io::Result<()> {
+    let end = find(s, 0, BLANK);
+    if s.len() <= end {
         return Ok(());
     }
-    let start = end + 1;
-    let most = whole(&s[from..end]);
-    let padded = pad(&s[start..to]);
-    run_front(out, s, terms, &padded, most)
-}
-
-// Runs the message that the first bytes of a text are.
-fn run_front(
-    out: &impl Print,
-    s: &[u8],
-    terms: Config,
-    text: &[u8],
-    most: usize,
-) -> io::Result<()> {
-    let from = 0;
-    if most <= text.len() {
-        run_message(out, s, terms, &text[from..most])?;
+    let most = whole(&s[..end]);
+    let padded = pad(&s[end + 1..]);
+    if most <= MAX_PADDED {
+        tell(out, terms, &padded[..most])?;
     }
     Ok(())
 }
 
 // A text with blanks past it, as far as it fits.
-fn pad(text: &[u8]) -> [u8; 40000]
+fn pad(text: &[u8]) -> [u8; MAX_PADDED]
     ensures { 40000 ≡ length result }
 {
-    let mut padded = [BLANK; 40000];
-    for i in 0..text.len() {
-        if MAX_PADDED <= i {
-            return padded;
-        }
-        padded[i] = text[i];
-    }
+    let mut padded = [BLANK; MAX_PADDED];
+    let n = text.len().min(MAX_PADDED);
+    padded[..n].copy_from_slice(&text[..n]);
     padded
 }
 
-fn run_message(out: &impl Print, s: &[u8], terms: Config, text: &[u8]) -> io::Result<()> {
-    let from = terms.from;
-    let to = terms.to;
-    if from <= to {
-        if to <= s.len() {
-            let dialect = terms.dialect;
-            tell(out, dialect, terms.depth, &s[from..to], text)?;
-        }
-    }
-    Ok(())
-}
-
-fn tell(
-    out: &impl Print,
-    dialect: Dialect,
-    depth: usize,
-    name: &[u8],
-    text: &[u8],
-) -> io::Result<()> {
-    match message::read(dialect, depth, name, text) {
+fn tell(out: &impl Print, terms: Config, text: &[u8]) -> io::Result<()> {
+    match message::read(terms.dialect, terms.depth, terms.name, text) {
         Err(answer) => write_number(out, number_of(answer))?,
-        Ok(outline) => tell_outline(out, outline, is_linked(dialect))?,
+        Ok(outline) => tell_outline(out, outline, is_linked(terms.dialect))?,
     }
-    tell_entries(out, dialect, depth, name, text)?;
-    tell_bad(out, dialect, depth, name, text)
+    tell_entries(out, terms, text)?;
+    tell_bad(out, terms, text)
 }
 
 // The entries of a message that passes, as the buffer has them.
-fn tell_entries(
-    out: &impl Print,
-    dialect: Dialect,
-    depth: usize,
-    name: &[u8],
-    text: &[u8],
-) -> io::Result<()> {
-    if settings::is_good(dialect, depth, name) {
-        let mut buffer = [0; BUFFER_WORDS];
-        match message::read_open(dialect, depth, name, text, &mut buffer) {
-            Err(_) => {}
-            Ok(outline) => tell_both(out, &buffer, outline.bids, outline.asks)?,
-        }
+fn tell_entries(out: &impl Print, terms: Config, text: &[u8]) -> io::Result<()> {
+    if !settings::is_good(terms.dialect, terms.depth, terms.name) {
+        return Ok(());
     }
-    Ok(())
+    let mut buffer = [0; BUFFER_WORDS];
+    match message::read_open(terms.dialect, terms.depth, terms.name, text, &mut buffer) {
+        Err(_) => Ok(()),
+        Ok(outline) => tell_both(out, &buffer, outline.bids, outline.asks),
+    }
 }
 
 fn tell_both(
@@ -218,10 +158,8 @@ fn tell_both(
 ) -> io::Result<()>
     requires { length buffer.now ≡ buffer_words }
 {
-    if bids <= MAX_BUFFERED {
-        if asks <= MAX_BUFFERED {
-            tell_first(out, buffer, bids + asks)?;
-        }
+    if bids <= MAX_BUFFERED && asks <= MAX_BUFFERED {
+        tell_first(out, buffer, bids + asks)?;
     }
     Ok(())
 }
@@ -230,13 +168,9 @@ fn tell_both(
 fn tell_first(out: &impl Print, buffer: &[u64; BUFFER_WORDS], n: usize) -> io::Result<()>
     requires { length buffer.now ≡ buffer_words }
 {
-    for k in 0..n {
-        if MAX_BUFFERED <= k {
-            return Ok(());
-        }
+    for k in 0..n.min(MAX_BUFFERED) {
         let entry = edit::entry_in(buffer, k);
-        let side = entry.side;
-        write_letter(out, side)?;
+        write_letter(out, entry.side)?;
         write_decimal(out, entry.price)?;
         write_decimal(out, entry.size)?;
     }
@@ -259,20 +193,14 @@ fn write_decimal(out: &impl Print, a: Decimal) -> io::Result<()> {
 }
 
 // Where the first bad decimal lies, and its text.
-fn tell_bad(
-    out: &impl Print,
-    dialect: Dialect,
-    depth: usize,
-    name: &[u8],
-    text: &[u8],
-) -> io::Result<()> {
-    let part = message::bad_place(dialect, depth, name, text);
+fn tell_bad(out: &impl Print, terms: Config, text: &[u8]) -> io::Result<()> {
+    let part = message::bad_place(terms.dialect, terms.depth, terms.name, text);
     write(out, b" bad ")?;
     write_number(out, part.from as u64)?;
     write(out, b" ")?;
     write_number(out, part.to as u64)?;
-    let bad = message::bad_decimal(dialect, depth, name, text);
-    if 0 < bad.len() {
+    let bad = message::bad_decimal(terms.dialect, terms.depth, terms.name, text);
+    if !bad.is_empty() {
         write(out, b" ")?;
         write(out, bad)?;
     }
@@ -282,19 +210,14 @@ fn tell_bad(
 // Whether an update names the sequence number before its own.
 fn is_linked(dialect: Dialect) -> bool {
     match dialect {
-        Dialect::K => false,
         Dialect::M(edition) => settings::is_linked(edition),
-        Dialect::Unknown => false,
+        Dialect::K | Dialect::Unknown => false,
     }
 }
 
 fn tell_outline(out: &impl Print, outline: Outline, linked: bool) -> io::Result<()> {
-    let kind = outline.kind;
-    if is_snapshot(kind) {
-        write(out, b"0 snapshot")?;
-    } else {
-        write(out, b"0 update")?;
-    }
+    let snapshot = is_snapshot(outline.kind);
+    write(out, if snapshot { b"0 snapshot" } else { b"0 update" })?;
     write(out, b" bids ")?;
     write_number(out, outline.bids as u64)?;
     write(out, b" asks ")?;
@@ -305,10 +228,7 @@ fn tell_outline(out: &impl Print, outline: Outline, linked: bool) -> io::Result<
     }
     write(out, b" number ")?;
     write_number(out, outline.number)?;
-    if linked {
-        if is_snapshot(kind) {
-            return Ok(());
-        }
+    if linked && !snapshot {
         write(out, b" previous ")?;
         write_number(out, outline.previous)?;
     }

@@ -1,10 +1,10 @@
--- `run_lines` ends: each line ends past where it begins; and the book stays good.
-use Rattle.std.proofs.Common.{length, ◌-◌, ◌≤◌}
+-- `run_lines` ends: each line ends past its start; and the book stays good.
+use Rattle.std.proofs.Common.{length, ◌-◌, ◌+◌, ◌≤◌}
 use Rattle.book.specs.Shown.{Good}
 use Rattle.book_vectors.proofs.run_lines.Given as goal
 
-abbrev pub invariant-loop-i : goal.invariant-loop-i
-invariant-loop-i g l = Good l.book × (l.opening ≤ length l.s)
+abbrev pub invariant-loop-at : goal.invariant-loop-at
+invariant-loop-at g l = (l.at ≤ length l.s + 1) × Good l.book
 
-abbrev pub decreases-loop-i : goal.decreases-loop-i
-decreases-loop-i g l = length l.s - l.i
+abbrev pub decreases-loop-at : goal.decreases-loop-at
+decreases-loop-at g l = length l.s + 1 - l.at

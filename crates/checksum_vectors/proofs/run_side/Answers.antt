@@ -4,8 +4,5 @@ use Rattle.edit.specs.Buffer.{entries_in}
 use Rattle.checksum_vectors.proofs.Valid.{applied-fine}
 use Rattle.checksum_vectors.proofs.run_side.Goals as goal
 
-pub returns-in_ok-say : goal.returns-in_ok-say
-returns-in_ok-say g c = applied-fine c.args.text c.args.side c.args.depth (take c.read_entries-n.result (entries_in c.read_entries-n.new.buffer)) c.args.levels c.requires.0 c.read_entries-n.ensures.within c.apply-applied.ensures
-
-pub returns-in_ok-say-2 : goal.returns-in_ok-say-2
-returns-in_ok-say-2 g c = applied-fine c.args.text c.args.side c.args.depth (take c.read_entries-n.result (entries_in c.read_entries-n.new.buffer)) c.args.levels c.requires.0 c.read_entries-n.ensures.within c.apply-applied.ensures
+pub returns : goal.returns
+returns g c = applied-fine c.args.text c.args.side c.args.depth (take c.read_entries-n.result (entries_in c.read_entries-n.new.buffer)) c.args.levels c.requires.0 c.read_entries-n.ensures.within c.apply-applied.ensures

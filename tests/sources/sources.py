@@ -2,7 +2,7 @@
 
 The path is found from the calls. It starts at every public function of the crate `checksum`, which makes a level's piece (`level_of`) and
 sums a book (`k_checksum`, `m_checksum`), and goes on with every function that one on the path calls, through `use` lines, `mod`s and
-methods, whatever the crate. A call that cannot be found is an error. So is a function outside the path and the crates of the CRC that
+methods, whatever the crate. A call that cannot be found is an error, but for the library's methods on numbers, orders and Options. So is a function outside the path and the crates of the CRC that
 calls `piece` or `crc32` itself, if it stands in a crate that `book` stands on: it would sum a text elsewhere. Only filling a table is free.
 
 Of every file that has a function on the path, each array is named, with its element, its length and where it stands. It counts if it
@@ -33,7 +33,10 @@ SUMMING, FREE = ("piece", "crc32"), {("crc32", "fill_table")}
 SEVERAL = {"absorb", "absorb8", "crc", "run"}
 SIZES = {"u8": 1, "i8": 1, "bool": 1, "u16": 2, "i16": 2, "u32": 4, "i32": 4, "f32": 4}
 SIZES |= dict.fromkeys(("u64", "i64", "usize", "isize", "f64", ""), 8)
-WORDS = {"if", "while", "match", "return", "loop", "for", "in", "fn", "as", "let", "else"}
+WORDS = {"if", "while", "match", "return", "loop", "for", "in", "fn", "as", "let", "else", "Some", "Ok", "Err"}
+NUMBERS = {"std", "u8", "u16", "u32", "u64", "usize"}
+# The library's methods that functions on the path call: on numbers, orders and Options, which hold no array.
+LIBRARY = {"len", "min", "max", "cmp", "is_eq", "is_ge", "is_gt", "is_lt", "is_some", "is_none", "unwrap_or"}
 NAME = r"[A-Za-z_]\w*"
 
 
@@ -159,13 +162,13 @@ class Tree:
     def find(self, crate, name, owner=None):
         return [f for f in self.functions if f.source.crate == crate and f.name == name and (owner is None or f.owner == owner)]
 
-    def called(self, f):
-        """The functions that a function calls: all of that name in the crate that the call names."""
+    def called(self, f, on_path=True):
+        """The functions that a function calls: all of that name in the crate that the call names. Off the path the library's methods are free."""
         source, found = f.source, []
         body = f.text[f.text.index(")"):]
         for m in re.finditer(rf"(\.\s*)?((?:{NAME}::)*)({NAME})\s*\(", body):
             method, path, name = m[1], m[2].split("::")[:-1], m[3]
-            if name in WORDS or (method and name == "len"):
+            if name in WORDS:
                 continue
             if method:
                 near = self.below(source.crate) | {source.crate}
@@ -174,8 +177,10 @@ class Tree:
                 crate, path = self.crate_of(source, path, name)
                 owner = path[-1] if path and path[-1] in self.type_names else None
                 hits = self.find(crate, name, owner) or ([] if owner else self.find(crate, name))
-                if not hits and (owner or name in self.type_names or (path and path[0] in ("std", "u32", "u64"))):
+                if not hits and (owner or name in self.type_names or (path and path[0] in NUMBERS)):
                     continue  # a variant or a tuple struct, or a function of the kit on numbers
+            if not hits and method and (name in LIBRARY or not on_path):
+                continue
             if not hits:
                 raise Refused(f"{source.path}:{source.line(f.start)}: {f} calls {m[0].strip()}..), and no source has it")
             found += hits
@@ -199,7 +204,7 @@ class Tree:
         for f in self.functions:
             if f in path or f.source.crate not in self.below(BOOK) | {BOOK} or f.source.crate.startswith("crc32"):
                 continue
-            for g in self.called(f):
+            for g in self.called(f, on_path=False):
                 if g.source.crate in SUMMING and g.source.crate != f.source.crate and (g.source.crate, g.name) not in FREE:
                     yield f"{f.source.path}:{f.source.line(f.start)}: {f} calls {g}, outside the path from `{START}`"
 

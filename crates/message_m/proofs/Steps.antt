@@ -6,7 +6,8 @@ use mathlib.Core.List.{List, [], ◌∷◌}
 use mathlib.Core.Bool.{Bool, true, false, ◌&&◌, ◌||◌, cond}
 use Prim.Native.Nat.{ℕ, suc, ◌+◌, ◌≤◌}
 use native.Mathlib.Omega.{arith}
-use borrow.Author.Tests.{eq-eqb, ne_eqb, eqb-true}
+use borrow.Author.Tests.{eqb-true}
+use denote.Enum.Declared.{tag_of}
 use lib.Dec.{eqb}
 use lib.ListN.{length}
 use Rattle.text.specs.Text.{ascii, byte_at}
@@ -19,6 +20,7 @@ use Rattle.json_values.specs.Json.{Span, Pair, elements, value}
 use Rattle.json_values.specs.Names.{means}
 use Rattle.json_values.proofs.Bounds.{value_in}
 use Rattle.json_values.proofs.Laws.{value-array}
+use Rattle.json_values.specs.Which.{which}
 use Rattle.json_values.proofs.Which.{numbered, meant, one-meant, which-meant}
 use Rattle.entries.specs.Places.{and_also, contents, array_at, object_at}
 use Rattle.entries.specs.Rows.{Entry, sided_at}
@@ -32,34 +34,60 @@ use Rattle.layout.specs.MemberSpans.{few_more, with_member_span, on_hit}
 use Rattle.layout.specs.declared.MemberSpan.{MemberSpan}
 use Rattle.layout.proofs.MemberSpans.{hit-no, hit-yes}
 use Rattle.layout.proofs.Objects.{contents-broken}
-use Rattle.message_m.specs.Collected.{with_held, tally_with, more_data, data_from, data_of, Added, our_names, key_of, held_of, body_held, more_body, more_members, Placed}
+use Rattle.message_m.specs.Collected.{with_held, tally_with, more_data, data_from, data_of, Added, key_of, is_key, held_of, body_held, more_body, more_members, Placed}
 use Rattle.message_m.specs.declared.Data.{Data}
 use Rattle.message_m.specs.declared.Body.{Body}
 use Rattle.message_m.specs.declared.Members.{Members}
+use Rattle.message_m.specs.declared.Key.{Key}
+use Rattle.message_m.specs.declared.Key.TheVariants as keys
+use Rattle.message_m.specs.contracts.Key.{the_type}
 
 -- ---- an end as a number
 pub end-read : {e : ℕ} {r x : Option ℕ} → e ≡ unwrap_or r 0 → r ≡ x → e ≡ end_of x
 end-read {e} {r} p q = p ∙ end-or-zero r ∙ ap end_of q
 
 -- ---- which of our names it is
--- the tests by number are the tests by name
-pub record Keyed (s : List ℕ) (a : Span) (k : ℕ) : Type 0 where
-  pub channel : eqb k 1 ≡ means s a (ascii "channel")
-  pub product : eqb k 2 ≡ means s a (ascii "product")
-  pub kind : eqb k 3 ≡ means s a (ascii "type")
-  pub body : eqb k 4 ≡ means s a (ascii "data")
-  pub checksum : eqb k 5 ≡ means s a (ascii "checksum")
-  pub gsn : eqb k 6 ≡ means s a (ascii "gsn")
-  pub previous : eqb k 7 ≡ means s a (ascii "prev_gsn")
+-- our names, in the order of the variants of `Key`
+abbrev our_names : List (List ℕ)
+our_names = ascii "channel" ∷ ascii "product" ∷ ascii "type" ∷ ascii "data" ∷ ascii "checksum" ∷ ascii "gsn" ∷ ascii "prev_gsn" ∷ []
+
+-- a variant's place in that order, from 1 on, and 0 for `Other`
+tag-is : (s : List ℕ) (a : Span) → tag_of the_type (key_of s a) ≡ which s a 1 our_names
+unfolding key_of
+tag-is s a =
+    go (means s a (ascii "channel")) (means s a (ascii "product")) (means s a (ascii "type")) (means s a (ascii "data")) (means s a (ascii "checksum")) (means s a (ascii "gsn"))
+    (means s a (ascii "prev_gsn"))
+  where
+    go : (c p t d k g f : Bool)
+        → tag_of the_type (cond c keys.Channel (cond p keys.Product (cond t keys.Type (cond d keys.Data (cond k keys.Checksum (cond g keys.Number (cond f keys.Previous keys.Other)))))))
+        ≡ cond c 1 (cond p 2 (cond t 3 (cond d 4 (cond k 5 (cond g 6 (cond f 7 0))))))
+    go true p t d k g f = refl
+    go false true t d k g f = refl
+    go false false true d k g f = refl
+    go false false false true k g f = refl
+    go false false false false true g f = refl
+    go false false false false false true f = refl
+    go false false false false false false true = refl
+    go false false false false false false false = refl
+
+-- the tests by variant are the tests by name
+pub record Keyed (s : List ℕ) (a : Span) (k : Key) : Type 0 where
+  pub channel : is_key k keys.Channel ≡ means s a (ascii "channel")
+  pub product : is_key k keys.Product ≡ means s a (ascii "product")
+  pub kind : is_key k keys.Type ≡ means s a (ascii "type")
+  pub body : is_key k keys.Data ≡ means s a (ascii "data")
+  pub checksum : is_key k keys.Checksum ≡ means s a (ascii "checksum")
+  pub gsn : is_key k keys.Number ≡ means s a (ascii "gsn")
+  pub previous : is_key k keys.Previous ≡ means s a (ascii "prev_gsn")
 
 pub keyed : (s : List ℕ) (a : Span) → Keyed s a (key_of s a)
-unfolding key_of
 keyed s a =
-    let h : numbered (key_of s a) 1 our_names ≡ meant s a our_names = which-meant s a our_names refl 1 (omega arith) in
+    let h : numbered (tag_of the_type (key_of s a)) 1 our_names ≡ meant s a our_names =
+    ap (λ (n : ℕ). numbered n 1 our_names) (tag-is s a) ∙ which-meant s a our_names refl 1 (omega arith) in
     record { channel = cc; product = cc; kind = cc; body = cc; checksum = cc; gsn = cc; previous = cc }
 
-pub data-key : (s : List ℕ) (a : Span) (k : ℕ) → k ≡ key_of s a → eqb k 4 ≡ means s a (ascii "data")
-data-key s a k h = ap (λ (n : ℕ). eqb n 4) h ∙ (keyed s a).body
+pub data-key : (s : List ℕ) (a : Span) (k : Key) → k ≡ key_of s a → is_key k keys.Data ≡ means s a (ascii "data")
+data-key s a k h = ap (λ (n : Key). is_key n keys.Data) h ∙ (keyed s a).body
 
 -- ---- a side of `data`
 
@@ -180,19 +208,19 @@ data-end s t a = go (object_at 15 s a)
 body-made : {e f : ℕ} {k m : MemberSpan} {c d : Data} → e ≡ f → k ≡ m → c ≡ d → ◌≡◌ {A = Body} (record { end = e; mark = k; last = c }) (record { end = f; mark = m; last = d })
 body-made p q r = rw (p, q, r)
 
-module _ (s : List ℕ) (b : Body) (a : Span) (k n : ℕ) where
-  pub body-data : k ≡ n → (d : Data) → d ≡ data_of s b.last.tally a → (m : MemberSpan) → m ≡ with_member_span b.mark (record { from = a.from; to = d.end })
-      → ◌≡◌ {A = Body} (record { end = d.end; mark = m; last = d }) (more_body s (eqb k n) b a)
+module _ (s : List ℕ) (b : Body) (a : Span) (hit : Bool) where
+  pub body-data : hit ≡ true → (d : Data) → d ≡ data_of s b.last.tally a → (m : MemberSpan) → m ≡ with_member_span b.mark (record { from = a.from; to = d.end })
+      → ◌≡◌ {A = Body} (record { end = d.end; mark = m; last = d }) (more_body s hit b a)
   unfolding more_body
   body-data y d h m g =
       let e : d.end ≡ a.to = ap (λ (x : Data). x.end) h ∙ data-end s b.last.tally a in
-      body-made e (g ∙ ap (λ (t : ℕ). with_member_span b.mark (record { from = a.from; to = t })) e ∙ sym (hit-yes (eqb k n) with_member_span b.mark a (eq-eqb k n y)))
-      (h ∙ sym (hit-yes (eqb k n) (λ d v. data_of s d.tally v) b.last a (eq-eqb k n y)))
+      body-made e (g ∙ ap (λ (t : ℕ). with_member_span b.mark (record { from = a.from; to = t })) e ∙ sym (hit-yes hit with_member_span b.mark a y))
+      (h ∙ sym (hit-yes hit (λ d v. data_of s d.tally v) b.last a y))
 
-  pub body-other : (k ≡ n → ⊥) → {e : ℕ} → e ≡ a.to → ◌≡◌ {A = Body} (record { end = e; mark = b.mark; last = b.last }) (more_body s (eqb k n) b a)
+  pub body-other : hit ≡ false → {e : ℕ} → e ≡ a.to → ◌≡◌ {A = Body} (record { end = e; mark = b.mark; last = b.last }) (more_body s hit b a)
   unfolding more_body
   body-other y h =
-      body-made h (sym (hit-no (eqb k n) with_member_span b.mark a (ne_eqb k n y))) (sym (hit-no (eqb k n) (λ d v. data_of s d.tally v) b.last a (ne_eqb k n y)))
+      body-made h (sym (hit-no hit with_member_span b.mark a y)) (sym (hit-no hit (λ d v. data_of s d.tally v) b.last a y))
 
 -- what a member adds
 pub body-held : (s : List ℕ) (hit : Bool) (x : Option (List Entry)) (a : Span) → hit ≡ true → held_of s x (object_at 15 s a) ≡ body_held s hit x a
@@ -204,18 +232,18 @@ unfolding body_held
 body-passed s hit x a h = sym (rw h)
 
 -- ---- all members, part by part; each part but `data` takes the end from the body
-module _ (name s : List ℕ) (met : Members) (n : Span) (at to key : ℕ) (b : Body) (is : key ≡ key_of s n)
-    (made : b ≡ more_body s (eqb key 4) met.body (record { from = at; to = to })) where
+module _ (name s : List ℕ) (met : Members) (n : Span) (at to : ℕ) (key : Key) (b : Body) (is : key ≡ key_of s n)
+    (made : b ≡ more_body s (is_key key keys.Data) met.body (record { from = at; to = to })) where
   abbrev v : Span
   v = record { from = at; to = b.end }
 
-  abbrev hits : (i : ℕ) → MemberSpan → MemberSpan
-  hits i k = on_hit (eqb key i) with_member_span k v
+  abbrev hits : Key → MemberSpan → MemberSpan
+  hits i k = on_hit (is_key key i) with_member_span k v
 
   pub members-made : (o p : Bool) (c q k u g f : MemberSpan)
-      → o ≡ (met.is_book || (eqb key 1 && means s v (ascii "book")))
-      → p ≡ (met.is_product || (eqb key 2 && means s v name))
-      → c ≡ hits 1 met.channel → q ≡ hits 2 met.product → k ≡ hits 3 met.kind → u ≡ hits 5 met.checksum → g ≡ hits 6 met.gsn → f ≡ hits 7 met.previous
+      → o ≡ (met.is_book || (is_key key keys.Channel && means s v (ascii "book")))
+      → p ≡ (met.is_product || (is_key key keys.Product && means s v name))
+      → c ≡ hits keys.Channel met.channel → q ≡ hits keys.Product met.product → k ≡ hits keys.Type met.kind → u ≡ hits keys.Checksum met.checksum → g ≡ hits keys.Number met.gsn → f ≡ hits keys.Previous met.previous
       → ◌≡◌ {A = Members} (record { body = b; is_book = o; is_product = p; channel = c; product = q; kind = k; checksum = u; gsn = g; previous = f })
       (more_members name s met (record { name = n; value = record { from = at; to = to } }))
   unfolding more_members more_body

@@ -1,11 +1,11 @@
 -- What one walk over a message of dialect M collects, member by member, and what is told of the message in the end.
 -- Assumes nothing: these are definitions.
-use Rattle.std.specs.Prelude.{ℕ, ◌≤◌, ◌≡◌, Bool, true, false, ◌&&◌, ◌||◌, cond, List, [], ◌∷◌, eqb, length, None, Option, Some}
+use Rattle.std.specs.Prelude.{ℕ, ◌≤◌, ◌≡◌, Bool, true, false, ◌&&◌, ◌||◌, cond, List, eqb, length, None, Option, Some}
+use denote.Enum.Bare.{sameb}
 use Rattle.text.specs.Text.{ascii}
 use Rattle.edit.specs.Buffer.{buffer_words}
 use Rattle.edit.specs.declared.Side.TheVariants.{Bids, Asks}
 use Rattle.json_values.specs.Json.{Span, Pair}
-use Rattle.json_values.specs.Which.{which}
 use Rattle.json_values.specs.Names.{means}
 use Rattle.json_values.specs.Fold.{fold_from}
 use Rattle.entries.specs.Places.{and_then, and_also, object_at, whole_at, checksum_at}
@@ -25,6 +25,9 @@ use Rattle.message_m.specs.LayoutM.{kind_at}
 use Rattle.message_m.specs.declared.Data.{Data}
 use Rattle.message_m.specs.declared.Body.{Body}
 use Rattle.message_m.specs.declared.Members.{Members}
+use Rattle.message_m.specs.declared.Key.{Key}
+use Rattle.message_m.specs.declared.Key.TheVariants as keys
+use Rattle.message_m.specs.contracts.Key.{the_type}
 
 -- ---- the value of a member `data`
 
@@ -85,37 +88,20 @@ pub record MoreData (s : List ℕ) (d : Data) (m : Pair) (before after : List �
 
 -- ---- the members of the message
 
--- Our names, each as a number.
-abbrev pub other_key : ℕ
-other_key = 0
+-- Which of our names a string means.
+unfoldable pub key_of : List ℕ → Span → Key
+key_of s a =
+    cond (means s a (ascii "channel")) keys.Channel
+    (cond (means s a (ascii "product")) keys.Product
+    (cond (means s a (ascii "type")) keys.Type
+    (cond (means s a (ascii "data")) keys.Data
+    (cond (means s a (ascii "checksum")) keys.Checksum
+    (cond (means s a (ascii "gsn")) keys.Number
+    (cond (means s a (ascii "prev_gsn")) keys.Previous keys.Other))))))
 
-abbrev pub channel_key : ℕ
-channel_key = 1
-
-abbrev pub product_key : ℕ
-product_key = 2
-
-abbrev pub type_key : ℕ
-type_key = 3
-
-abbrev pub data_key : ℕ
-data_key = 4
-
-abbrev pub checksum_key : ℕ
-checksum_key = 5
-
-abbrev pub gsn_key : ℕ
-gsn_key = 6
-
-abbrev pub previous_key : ℕ
-previous_key = 7
-
--- Our names, in the order of these numbers, and which of them a string means.
-abbrev pub our_names : List (List ℕ)
-our_names = ascii "channel" ∷ ascii "product" ∷ ascii "type" ∷ ascii "data" ∷ ascii "checksum" ∷ ascii "gsn" ∷ ascii "prev_gsn" ∷ []
-
-unfoldable pub key_of : List ℕ → Span → ℕ
-key_of s a = which s a channel_key our_names
+-- Whether two of our names are the same, which `==` tells.
+abbrev pub is_key : Key → Key → Bool
+is_key = sameb the_type
 
 unfoldable pub more_body : List ℕ → Bool → Body → Span → Body
 more_body s hit b a = record { end = a.to; mark = on_hit hit with_member_span b.mark a; last = on_hit hit (λ d v. data_of s d.tally v) b.last a }

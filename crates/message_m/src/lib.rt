@@ -18,7 +18,7 @@ ghost use Rattle.edit.specs.Buffer.{buffer_words};
 ghost use Rattle.entries.specs.Tally.{met as count, Met};
 ghost use Rattle.layout.specs.Scan.{Scanned, not_framed};
 ghost use Rattle.message_m.specs.LayoutM.{envelope_m};
-ghost use Rattle.message_m.specs.Collected.{no_data, MoreData, DataRead, channel_key, product_key, data_key, key_of, MoreBody, no_members, MoreMembers, numbers_in, body_in, outline_in, linked_outline, scan_in, Placed};
+ghost use Rattle.message_m.specs.Collected.{no_data, MoreData, DataRead, key_of, is_key, MoreBody, no_members, MoreMembers, numbers_in, body_in, outline_in, linked_outline, scan_in, Placed};
 
 use decimal::{parse_checksum, parse_whole};
 use edit::{BUFFER_WORDS, Side};
@@ -32,21 +32,19 @@ use layout::{
 use text::byte_at;
 
 // Which of our names a member of the message has.
-const OTHER: usize = 0;
-
-const CHANNEL: usize = 1;
-
-const PRODUCT: usize = 2;
-
-const TYPE: usize = 3;
-
-const DATA: usize = 4;
-
-const CHECKSUM: usize = 5;
-
-const GSN: usize = 6;
-
-const PREVIOUS: usize = 7;
+#[derive(Clone, Copy, Debug, PartialEq, Eq)]
+enum Key {
+    Other,
+    Channel,
+    Product,
+    Type,
+    Data,
+    Checksum,
+    // The member `gsn`.
+    Number,
+    // The member `prev_gsn`.
+    Previous,
+}
 
 // The value of a member `data`.
 #[derive(Clone, Copy)]
@@ -181,43 +179,43 @@ fn more_members(
         body,
         is_book: met.is_book || is_book(s, key, from, to),
         is_product: met.is_product || is_product(s, key, from, to, name),
-        channel: more_spans(met.channel, key, CHANNEL, from, to),
-        product: more_spans(met.product, key, PRODUCT, from, to),
-        kind: more_spans(met.kind, key, TYPE, from, to),
-        checksum: more_spans(met.checksum, key, CHECKSUM, from, to),
-        gsn: more_spans(met.gsn, key, GSN, from, to),
-        previous: more_spans(met.previous, key, PREVIOUS, from, to),
+        channel: more_spans(met.channel, key, Key::Channel, from, to),
+        product: more_spans(met.product, key, Key::Product, from, to),
+        kind: more_spans(met.kind, key, Key::Type, from, to),
+        checksum: more_spans(met.checksum, key, Key::Checksum, from, to),
+        gsn: more_spans(met.gsn, key, Key::Number, from, to),
+        previous: more_spans(met.previous, key, Key::Previous, from, to),
     }
 }
 
 // Which of our names the string from `from` to `to` means.
 #[tactic(auto, unfolding(crate::specs::Collected::key_of))]
-fn key_of(s: &[u8], from: usize, to: usize) -> usize
+fn key_of(s: &[u8], from: usize, to: usize) -> Key
     ensures { result ≡ key_of s.now (record { from = from; to = to }) }
 {
     if is_name(s, from, to, b"channel") {
-        CHANNEL
+        Key::Channel
     } else if is_name(s, from, to, b"product") {
-        PRODUCT
+        Key::Product
     } else if is_name(s, from, to, b"type") {
-        TYPE
+        Key::Type
     } else if is_name(s, from, to, b"data") {
-        DATA
+        Key::Data
     } else if is_name(s, from, to, b"checksum") {
-        CHECKSUM
+        Key::Checksum
     } else if is_name(s, from, to, b"gsn") {
-        GSN
+        Key::Number
     } else if is_name(s, from, to, b"prev_gsn") {
-        PREVIOUS
+        Key::Previous
     } else {
-        OTHER
+        Key::Other
     }
 }
 
 // The members of one name, and one member more.
-#[tactic(auto, using(std::proofs::lemmas::Bool::Decides::nat_tests), unfolding(layout::specs::MemberSpans::on_hit))]
-fn more_spans(mark: MemberSpan, key: usize, name: usize, from: usize, to: usize) -> MemberSpan
-    ensures { result ≡ on_hit (eqb key name) with_member_span mark (record { from = from; to = to }) }
+#[tactic(auto, unfolding(layout::specs::MemberSpans::on_hit))]
+fn more_spans(mark: MemberSpan, key: Key, name: Key, from: usize, to: usize) -> MemberSpan
+    ensures { result ≡ on_hit (is_key key name) with_member_span mark (record { from = from; to = to }) }
 {
     if key == name {
         with_member_span(mark, from, to)
@@ -227,32 +225,26 @@ fn more_spans(mark: MemberSpan, key: usize, name: usize, from: usize, to: usize)
 }
 
 // Whether the member is a `channel` that is `book`.
-fn is_book(s: &[u8], key: usize, from: usize, to: usize) -> bool
-    ensures { result ≡ (eqb key channel_key && means s.now (record { from = from; to = to }) (ascii "book")) }
+fn is_book(s: &[u8], key: Key, from: usize, to: usize) -> bool
+    ensures { result ≡ (is_key key Key.Channel && means s.now (record { from = from; to = to }) (ascii "book")) }
 {
-    key == CHANNEL && is_name(s, from, to, b"book")
+    key == Key::Channel && is_name(s, from, to, b"book")
 }
 
 // Whether the member is a `product` that is the book's name.
-fn is_product(s: &[u8], key: usize, from: usize, to: usize, name: &[u8]) -> bool
-    ensures { result ≡ (eqb key product_key && means s.now (record { from = from; to = to }) name.now) }
+fn is_product(s: &[u8], key: Key, from: usize, to: usize, name: &[u8]) -> bool
+    ensures { result ≡ (is_key key Key.Product && means s.now (record { from = from; to = to }) name.now) }
 {
-    key == PRODUCT && is_name(s, from, to, name)
+    key == Key::Product && is_name(s, from, to, name)
 }
 
 // The members `data`, and one member more, whose value is read here, whatever its name.
-fn more_body(
-    s: &[u8],
-    body: Body,
-    key: usize,
-    from: usize,
-    buffer: &mut [u64; BUFFER_WORDS],
-) -> Body
+fn more_body(s: &[u8], body: Body, key: Key, from: usize, buffer: &mut [u64; BUFFER_WORDS]) -> Body
     requires { (count body.last.tally ≤ from) × (length buffer.old ≡ buffer_words) }
-    ensures { MoreBody s.now (eqb key data_key) body (record { from = from; to = end_of (value item_depth s.now from) }) buffer.old buffer.new result }
+    ensures { MoreBody s.now (is_key key Key.Data) body (record { from = from; to = end_of (value item_depth s.now from) }) buffer.old buffer.new result }
 {
     let last = body.last;
-    if key == DATA {
+    if key == Key::Data {
         let data = m_data(s, from, last.tally, buffer);
         return Body {
             end: data.end,

@@ -2,12 +2,12 @@
 -- Assumes nothing.
 use mathlib.Core.Path.{◌≡◌, ◌∙◌, ap, sym}
 use mathlib.Core.Bool.{Bool, true, false, ◌||◌, ◌&&◌}
-use lib.Dec.{eqb}
 use Rattle.text.specs.Text.{ascii}
 use Rattle.json_values.specs.Names.{means}
 use Rattle.json_tokens.specs.Ends.{end_of}
 use Rattle.json_values.specs.Json.{Span, value}
-use Rattle.message_m.specs.Collected.{body_held}
+use Rattle.message_m.specs.Collected.{body_held, is_key}
+use Rattle.message_m.specs.declared.Key.TheVariants as keys
 use Rattle.message_m.proofs.Steps.{members-made, added-as, data-key}
 use Rattle.message_m.proofs.more_members.Goals as goal
 use Rattle.message_m.proofs.more_members.Goals.{then-met, else-met, then-met-2, else-met-2}
@@ -29,11 +29,11 @@ returns c =
     let v : Span = record { from = a.from; to = end_of (value 15 s a.from) } in
     let k = c.key_of-key in
     let b = c.more_body-body in
-    let book : c.if-met.result ≡ (a.met.is_book || (eqb k.result 1 && means s (record { from = a.from; to = b.result.end }) (ascii "book"))) = elim c.if-met.branch [
+    let book : c.if-met.result ≡ (a.met.is_book || (is_key k.result keys.Channel && means s (record { from = a.from; to = b.result.end }) (ascii "book"))) = elim c.if-met.branch [
       | then-met w ↦ w.result-is ∙ w.if-met.true ∙ sym (or-true _ w.if-met.true)
       | else-met w ↦ w.result-is ∙ w.is_book.ensures ∙ sym (or-next w.if-met.false)
     ] in
-    let product : c.if-met-2.result ≡ (a.met.is_product || (eqb k.result 2 && means s (record { from = a.from; to = b.result.end }) a.name.now)) = elim c.if-met-2.branch [
+    let product : c.if-met-2.result ≡ (a.met.is_product || (is_key k.result keys.Product && means s (record { from = a.from; to = b.result.end }) a.name.now)) = elim c.if-met-2.branch [
       | then-met-2 w ↦ w.result-is ∙ w.if-met-2.true ∙ sym (or-true _ w.if-met-2.true)
       | else-met-2 w ↦ w.result-is ∙ w.is_product.ensures ∙ sym (or-next w.if-met-2.false)
     ] in

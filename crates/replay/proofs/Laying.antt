@@ -1,5 +1,5 @@
 -- Laws of a reply in its part of `out`: its words laid one after another, and the lent buffer behind them. Assumes nothing.
-use Prim.Native.Nat.{ℕ, ◌+◌, ◌-◌, ◌*◌, ◌≤◌}
+use Prim.Native.Nat.{ℕ, suc, ◌+◌, ◌-◌, ◌*◌, ◌≤◌}
 use mathlib.Core.Path.{◌≡◌, refl, ap, ap₂, ◌∙◌}
 use mathlib.Core.List.{List, [], ◌∷◌, ◌++◌, append-nil}
 use native.Mathlib.Omega.{arith}
@@ -8,8 +8,8 @@ use lib.Seq.{take_all, drop_at, length-take-le}
 use Rattle.decimal.specs.Buffer.{overlaid}
 use Rattle.writer.specs.Parts.{Put}
 use Rattle.writer.proofs.Owed.{Owed, Whole, owed_all, owed-rest, put-none}
-use Rattle.reference.specs.Reference.{Reference, Ask}
-use Rattle.replay.specs.Format.{bytes_of, words_of, reply_bytes}
+use Rattle.reference.specs.Reference.{Reference, Ask, Value, counts, level, amount, Reply, does}
+use Rattle.replay.specs.Format.{bytes_of, words_of, level_words, value_words, reply_words, reply_bytes}
 use Rattle.replay.specs.Calls.{words_in, Answered, Called}
 use Rattle.replay.specs.declared.asking.Replied.{Replied}
 use Rattle.replay.proofs.Fields.{length-bytes}
@@ -23,10 +23,21 @@ length-words (n ∷ ns) =
     let c = length-words ns in
     omega arith
 
+-- the words of a reply: its answer, and six behind it
+length_value : (v : Value) → length (value_words v) ≡ 6
+unfolding value_words level_words
+length_value (counts bids asks) = refl
+length_value (level l) = refl
+length_value (amount n) = refl
+
+length_reply : (r : Reply) → length (reply_words r) ≡ 7
+unfolding reply_words
+length_reply r = ap suc (length_value r.value)
+
 -- ---- word after word
 
-pub words-owed : (part : List ℕ) (r : Replied) → 56 ≤ length part → Whole part 0 (words_of (words_in r)) part 0 (words_of (words_in r))
-words-owed part r h = let l = length-words (words_in r) in owed_all (omega arith)
+pub words-owed : (part : List ℕ) (r : Replied) → length r.words ≡ 6 → 56 ≤ length part → Whole part 0 (words_of (words_in r)) part 0 (words_of (words_in r))
+words-owed part r six h = let l = length-words (words_in r) in owed_all (omega arith)
 
 module _ {final : List ℕ} {past : ℕ} {b : List ℕ} {at : ℕ} (n : ℕ) (ns : List ℕ) (owed : Owed final past b at (words_of (n ∷ ns))) where
   pub word_room : at + 8 ≤ length b
@@ -60,7 +71,7 @@ module _ (part : List ℕ) (h : 56 ≤ length part) where
   unfolding overlaid reply_bytes
   reply-laid {p} {ask} buffer after e r a put =
       let a' = rw (rest-is part 56) at a in
-      let l : 0 + length (words_of (words_in r)) ≡ 56 = (let w = length-words (words_in r) in omega arith) in
+      let l : 0 + length (words_of (words_in r)) ≡ 56 = (let n = ap length a'.words ∙ length_reply (does p ask (drop 56 part)) in let w = length-words (words_in r) in omega arith) in
       record {
         good = a'.good;
         same = a'.same;

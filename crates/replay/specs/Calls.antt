@@ -17,29 +17,26 @@ use Rattle.replay.specs.declared.asking.Replied.{Replied}
 -- ---- an answer of the book as a reply's words
 
 unfoldable pub step_replied : Step → Replied
-step_replied s = record { book = s.book; answer = answer_number s.answer; first = s.moved; second = 0; third = 0; fourth = 0; fifth = 0; sixth = 0 }
+step_replied s = record { book = s.book; answer = answer_number s.answer; words = s.moved ∷ 0 ∷ 0 ∷ 0 ∷ 0 ∷ 0 ∷ [] }
 
 unfoldable pub counts_replied : CountsReply → Replied
-counts_replied s = record { book = s.book; answer = answer_number s.answer; first = s.bids; second = s.asks; third = 0; fourth = 0; fifth = 0; sixth = 0 }
+counts_replied s = record { book = s.book; answer = answer_number s.answer; words = s.bids ∷ s.asks ∷ 0 ∷ 0 ∷ 0 ∷ 0 ∷ [] }
 
 unfoldable pub level_replied : LevelReply → Replied
 level_replied s =
     record {
       book = s.book;
       answer = answer_number s.answer;
-      first = digits_near (number s.price);
-      second = digits_past (number s.price);
-      third = (number s.price).decimals;
-      fourth = digits_near (number s.size);
-      fifth = digits_past (number s.size);
-      sixth = (number s.size).decimals;
+      words =
+          digits_near (number s.price) ∷ digits_past (number s.price) ∷ (number s.price).decimals
+          ∷ digits_near (number s.size) ∷ digits_past (number s.size) ∷ (number s.size).decimals ∷ [];
     }
 
 unfoldable pub number_replied : NumberReply → Replied
-number_replied s = record { book = s.book; answer = answer_number s.answer; first = s.value; second = 0; third = 0; fourth = 0; fifth = 0; sixth = 0 }
+number_replied s = record { book = s.book; answer = answer_number s.answer; words = s.value ∷ 0 ∷ 0 ∷ 0 ∷ 0 ∷ 0 ∷ [] }
 
 abbrev pub words_in : Replied → List ℕ
-words_in r = r.answer ∷ r.first ∷ r.second ∷ r.third ∷ r.fourth ∷ r.fifth ∷ r.sixth ∷ []
+words_in r = r.answer ∷ r.words
 
 -- ---- one call
 

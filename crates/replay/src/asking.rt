@@ -18,12 +18,8 @@ use text::word_at;
 pub struct Replied {
     pub book: Book,
     pub answer: u64,
-    pub first: u64,
-    pub second: u64,
-    pub third: u64,
-    pub fourth: u64,
-    pub fifth: u64,
-    pub sixth: u64,
+    // The words behind the answer.
+    pub words: [u64; 6],
 }
 
 // Makes the call that a header asks for. Each kind of call is a function of its own, which is lent the book: the copies that it makes of the book
@@ -109,12 +105,10 @@ pub fn lay_reply(reply: Replied, part: &mut [u8]) -> usize
     ensures { Put part.old 0 (words_of (words_in reply)) part.new result }
 {
     let mut end = lay_word(reply.answer, part, 0);
-    end = lay_word(reply.first, part, end);
-    end = lay_word(reply.second, part, end);
-    end = lay_word(reply.third, part, end);
-    end = lay_word(reply.fourth, part, end);
-    end = lay_word(reply.fifth, part, end);
-    lay_word(reply.sixth, part, end)
+    for word in reply.words {
+        end = lay_word(word, part, end);
+    }
+    end
 }
 
 #[tactic(auto, unfolding(crate::specs::Format::scope_of))]
@@ -145,12 +139,7 @@ fn step_replied(step: Step) -> Replied
     Replied {
         book,
         answer: number_of(answer),
-        first: step.moved as u64,
-        second: 0,
-        third: 0,
-        fourth: 0,
-        fifth: 0,
-        sixth: 0,
+        words: [step.moved as u64, 0, 0, 0, 0, 0],
     }
 }
 
@@ -162,12 +151,7 @@ fn counts_replied(counts: CountsReply) -> Replied
     Replied {
         book,
         answer: number_of(answer),
-        first: counts.bids as u64,
-        second: counts.asks as u64,
-        third: 0,
-        fourth: 0,
-        fifth: 0,
-        sixth: 0,
+        words: [counts.bids as u64, counts.asks as u64, 0, 0, 0, 0],
     }
 }
 
@@ -181,12 +165,14 @@ fn level_replied(level: LevelReply) -> Replied
     Replied {
         book,
         answer: number_of(answer),
-        first: price.digits,
-        second: price.past,
-        third: price.decimals,
-        fourth: size.digits,
-        fifth: size.past,
-        sixth: size.decimals,
+        words: [
+            price.digits,
+            price.past,
+            price.decimals,
+            size.digits,
+            size.past,
+            size.decimals,
+        ],
     }
 }
 
@@ -198,11 +184,6 @@ fn number_replied(amount: NumberReply) -> Replied
     Replied {
         book,
         answer: number_of(answer),
-        first: amount.value,
-        second: 0,
-        third: 0,
-        fourth: 0,
-        fifth: 0,
-        sixth: 0,
+        words: [amount.value, 0, 0, 0, 0, 0],
     }
 }

@@ -1,4 +1,4 @@
--- `amounted` meets its contract: field by field.
+-- `number_replied` meets its contract: field by field.
 use Rattle.replay.specs.Calls.{number_replied}
 use Rattle.replay.proofs.asking.number_replied.Goals as goal
 

@@ -4,8 +4,8 @@
     tests/stack/frames.py [LIBRARY [FUNCTION]]     target/staticlib/libreplay.a, huurqan_replay
 
 A frame is counted from above: the return address, every push, and every constant taken from the stack pointer. A frame of
-many pages is taken page by page in a loop, down to an address in r11: what that address is below counts. Calls of functions outside the library (memcpy and the like) count 512 bytes. `json_values::value_end`, which calls itself for a nested
-value and goes no deeper than 16, counts 17 times. Calls by address, a stack pointer moved by anything else than a
+many pages is taken page by page in a loop, down to an address in r11: what that address is below counts. Calls of functions outside the library (memcpy and the like) count 512 bytes. `json_values::value_end` and
+`container_end`, which call each other for a nested value and go no deeper than 16, count 17 and 16 times wherever one of them is called. Calls by address, a stack pointer moved by anything else than a
 constant, or another function that calls itself end the count with exit status 1, as do more than 48 KB: the call lends no table to sum by.
 """
 import re
@@ -13,7 +13,7 @@ import subprocess
 import sys
 
 OUTSIDE = 512
-NESTED = {"json_values::value_end": 17}
+NESTED = {"json_values::value_end": 17, "json_values::container_end": 16}
 MOST = 48 * 1024
 
 
@@ -51,7 +51,11 @@ def deepest(found, name, above=()):
     if odd:
         sys.exit(f"{name}: {odd[0]}")
     if name in NESTED:
-        frame, calls = NESTED[name] * frame, calls - {name}
+        ring = [n for n in NESTED if n in found]
+        if odd := [line for n in ring for line in found[n][2]]:
+            sys.exit(f"{name}: {odd[0]}")
+        frame = sum(NESTED[n] * found[n][0] for n in ring)
+        calls = set().union(*(found[n][1] for n in ring)) - set(NESTED)
     below = max((deepest(found, call, (*above, name)) for call in calls), default=(0, []))
     return frame + below[0], [(name, frame), *below[1]]
 

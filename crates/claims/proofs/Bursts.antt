@@ -1,6 +1,7 @@
 -- What a checksum catches, of books: a checksum text is one of bytes, and the checksum of a message that is taken is that of the book afterwards.
 -- Assumes nothing.
-use Rattle.std.specs.Prelude.{Ok}
+use Rattle.std.specs.Prelude.{Ok, Result}
+use Rattle.answer.specs.declared.Answer.{Answer}
 use Prim.Native.Nat.{ℕ, zero, suc, ◌<◌}
 use mathlib.Core.Path.{◌≡◌, sym, ◌∙◌, subst}
 use mathlib.Core.Bool.{Bool, true, false}
@@ -103,7 +104,7 @@ book-low Interleaved n bids asks = colons-low (interleaved n bids asks)
 same-printed : {m n : ℕ} → printed m ≡ printed n → m ≡ n
 same-printed e = cc
 
-same-message : {x y : Message} → Ok x ≡ Ok y → x ≡ y
+same-message : {x y : Message} → ◌≡◌ {A = Result Message Answer} (Ok x) (Ok y) → x ≡ y
 same-message e = cc
 
 pub burst-refused : BurstRefused

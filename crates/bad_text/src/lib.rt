@@ -21,9 +21,8 @@ pub extern "C" fn huurqan_bad_decimal(settings: &[u8], text: &[u8], out: &mut [u
         return 0;
     }
     let first = read_settings(settings);
-    let dialect = first.dialect;
-    let name = first.name;
-    let place = bad_place(dialect, first.depth, &settings[name..], text);
+    let name = &settings[first.name..];
+    let place = bad_place(first.dialect, first.depth, name, text);
     out[0] = place.from;
     out[1] = place.to;
     2

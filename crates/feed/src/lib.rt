@@ -32,9 +32,7 @@ pub fn open(line: &[u8]) -> Book
     ensures { Opened (line_one line.now) result }
 {
     let first = line_text::read_settings(line);
-    let dialect = first.dialect;
-    let name = first.name;
-    book::open(dialect, first.depth, &line[name..])
+    book::open(first.dialect, first.depth, &line[first.name..])
 }
 
 // Hands a book the lines that end in a text, as long as the buffer has room for the longest reply, and lays the
@@ -59,12 +57,17 @@ pub fn process_lines(book: Book, s: &[u8], table: &[u32], buffer: &mut [u8]) -> 
             };
         }
         let answered = header.take(&mut bids, &mut asks, &s[next..end], table);
-        let answer = answered.answer;
         header = answered.header;
         let counts = header.counts(Scope::Current);
-        let asked = counts.answer;
-        let live = answer::number_of(asked) == 0;
-        written = line_text::write_reply(answer, live, counts.bids, counts.asks, buffer, written);
+        let live = answer::number_of(counts.answer) == 0;
+        written = line_text::write_reply(
+            answered.answer,
+            live,
+            counts.bids,
+            counts.asks,
+            buffer,
+            written,
+        );
         next = end + 1;
     }
     Processed {

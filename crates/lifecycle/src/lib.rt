@@ -75,8 +75,7 @@ pub fn stands(lifecycle: Lifecycle, scope: Scope) -> bool
 pub fn refusal(lifecycle: Lifecycle) -> Answer
     ensures { result ≡ refusal_of (status_of lifecycle.state) }
 {
-    let state = lifecycle.state;
-    match state {
+    match lifecycle.state {
         State::Shut => Answer::Shut,
         State::Waiting | State::Live => Answer::NoSnapshot,
     }
@@ -112,16 +111,12 @@ pub fn judge(
     requires { Ruled settings lifecycle × (length buffer.old ≡ buffer_words) }
     ensures { JudgedAs settings lifecycle number s.now buffer.new result }
 {
-    let state = lifecycle.state;
-    if is_shut(state) {
+    if is_shut(lifecycle.state) {
         return Err(Answer::Shut);
     }
-    let dialect = settings.dialect;
-    let depth = settings.depth;
-    let name = settings.name;
-    let n = settings.length;
-    let outline = message::read_open(dialect, depth, &name[..n], s, buffer)?;
-    judge_update(state, rules_of(dialect), number, outline)
+    let name = &settings.name[..settings.length];
+    let outline = message::read_open(settings.dialect, settings.depth, name, s, buffer)?;
+    judge_update(lifecycle.state, rules_of(settings.dialect), number, outline)
 }
 
 // Checks 10 and 11, of a message that passes those of its text, to a book that has this sequence number.
@@ -134,8 +129,7 @@ fn judge_update(
 ) -> Result<Outline, Answer>
     ensures { result ≡ judged_update state rules number outline }
 {
-    let kind = outline.kind;
-    if is_snapshot(kind) {
+    if is_snapshot(outline.kind) {
         return Ok(outline);
     }
     match state {

@@ -58,7 +58,6 @@ pub extern "C" fn huurqan_replay(settings: &[u8], script: &[u8], out: &mut [u8])
     ensures { Replayed (line_one settings.now) script.now out.old out.new result }
 {
     let first = read_settings(settings);
-    let dialect = first.dialect;
-    let name = first.name;
-    replay(dialect, first.depth, &settings[name..], script, out)
+    let name = &settings[first.name..];
+    replay(first.dialect, first.depth, name, script, out)
 }

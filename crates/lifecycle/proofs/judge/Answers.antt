@@ -17,8 +17,8 @@ returns-then-is_shut c =
     let shut = sym c.is_shut.ensures ∙ c.if-is_shut.true in
     record { told = judged-shut a.settings a.lifecycle a.number a.s.now shut; kept = λ u. absurd (true≢false (sym shut ∙ u)) }
 
-pub slice_bounds-read_open-end : goal.slice_bounds-read_open-end
-slice_bounds-read_open-end c =
+pub slice_bounds-name-end : goal.slice_bounds-name-end
+slice_bounds-name-end c =
     let a = c.args in
     let g = c.requires.0 in
     let r = g.room in

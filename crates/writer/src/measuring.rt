@@ -19,7 +19,7 @@ pub fn k_length(depth: usize, name: &[u8], bids: Levels, asks: Levels) -> usize
     requires { WritableSide bids × WritableSide asks × (length name.now ≤ max_name) }
     ensures { result ≡ length (k_snapshot_text depth name.now bids asks) }
 {
-    let sides = side_length(true, asks) + side_length(true, bids);
+    let sides = side_length(true, &asks) + side_length(true, &bids);
     K_FRAME + sides + decimal::whole_length(depth as u64) + name.len()
 }
 
@@ -28,15 +28,15 @@ pub fn m_length(name: &[u8], bids: Levels, asks: Levels, checksum: u32, number: 
     requires { WritableSide bids × WritableSide asks × (length name.now ≤ max_name) }
     ensures { result ≡ length (m_snapshot_text name.now bids asks checksum number) }
 {
-    let sides = side_length(false, bids) + side_length(false, asks);
+    let sides = side_length(false, &bids) + side_length(false, &asks);
     let numbers = decimal::whole_length(checksum as u64) + decimal::whole_length(number);
     M_FRAME + sides + numbers + name.len()
 }
 
 // The length of the entries of a side.
-fn side_length(stamped: bool, levels: Levels) -> usize
-    requires { WritableSide levels }
-    ensures { (result ≡ length (entries stamped levels)) × (result ≤ max_side) }
+fn side_length(stamped: bool, levels: &Levels) -> usize
+    requires { WritableSide levels.now }
+    ensures { (result ≡ length (entries stamped levels.now)) × (result ≤ max_side) }
 {
     let mut n: usize = 0;
     for i in 0..levels.count {

@@ -35,12 +35,12 @@ pub const OPEN_OBJECT: u8 = b'{';
 
 pub const CLOSE_OBJECT: u8 = b'}';
 
-// Most bytes are above a space, which one test tells.
+// Most bytes are above a space, which one test tells. By `||`: of `matches!` the compiler makes one jump for each of the four.
 #[tactic(auto, using(std::proofs::lemmas::Bool::Decides::nat_tests), unfolding(crate::specs::Bytes::blank))]
 fn is_blank(c: u8) -> bool
     ensures { result ≡ blank c }
 {
-    c <= b' ' && matches!(c, b' ' | b'\t' | b'\n' | b'\r')
+    c <= b' ' && (c == b' ' || c == b'\t' || c == b'\n' || c == b'\r')
 }
 
 #[tactic(auto, using(std::proofs::lemmas::Bool::Decides::nat_tests), unfolding(crate::specs::Bytes::hex_digit, text::specs::Text::is_digit))]

@@ -117,6 +117,7 @@ fn held_value(s: &[u8], at: usize, container: Container) -> Option<usize>
 
 // Whether the string from `from` to `to`, quotes included, means the name. Most strings that do not are told by their first byte, before
 // any call is made.
+#[inline(always)]
 pub fn is_name(s: &[u8], from: usize, to: usize, name: &[u8]) -> bool
     ensures { result ≡ means s.now (record { from = from; to = to }) name.now }
 {
@@ -151,7 +152,8 @@ fn is_between(s: &[u8], first: usize, to: usize, name: &[u8]) -> bool
     spells(&s[first..last.min(s.len())], name)
 }
 
-// Whether the bytes between two quotes mean the name. Most strings have no escape, and are compared byte by byte.
+// Whether the bytes between two quotes mean the name. Most strings have no escape, and are compared byte by byte. It is a call, and `is_name` is none.
+#[inline(never)]
 fn spells(t: &[u8], name: &[u8]) -> bool
     ensures { result ≡ same (meaning 0 t.now) name.now }
 {

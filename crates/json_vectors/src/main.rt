@@ -75,8 +75,7 @@ fn line(out: &impl Print, s: &[u8]) -> io::Result<()> {
 }
 
 fn sign(out: &impl Print, s: &[u8]) -> io::Result<()> {
-    sign_of(out, s)?;
-    write(out, b" ")
+    write(out, if is_json(s) { b"+ " } else { b"- " })
 }
 
 // A string, a blank and a name. Where no string stands, nothing at the front means no name.

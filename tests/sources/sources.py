@@ -2,8 +2,9 @@
 
 The path is found from the calls. It starts at every public function of the crate `checksum`, which makes a level's piece (`level_of`) and
 sums a book (`k_checksum`, `m_checksum`), and goes on with every function that one on the path calls, through `use` lines, `mod`s and
-methods, whatever the crate. A call that cannot be found is an error, but for the library's methods on numbers, orders and Options. So is a function outside the path and the crates of the CRC that
-calls `piece` or `crc32` itself, if it stands in a crate that `book` stands on: it would sum a text elsewhere. Only filling a table is free.
+methods, whatever the crate. A call that cannot be found is an error, but for the library's methods on numbers, orders and Options, and off
+the path for those of a written list. So is a function outside the path and the crates of the CRC that calls `piece` or `crc32` itself, or
+hands a function of theirs on, if it stands in a crate that `book` stands on: it would sum a text elsewhere. Only filling a table is free.
 
 Of every file that has a function on the path, each array is named, with its element, its length and where it stands. It counts if it
 stands in a function on the path, or in a struct, an enum or a name for a type that such a function names:
@@ -37,6 +38,9 @@ WORDS = {"if", "while", "match", "return", "loop", "for", "in", "fn", "as", "let
 NUMBERS = {"std", "u8", "u16", "u32", "u64", "usize"}
 # The library's methods that functions on the path call: on numbers, orders and Options, which hold no array.
 LIBRARY = {"len", "min", "max", "cmp", "is_eq", "is_ge", "is_gt", "is_lt", "is_some", "is_none", "unwrap_or"}
+# Those that functions off the path call besides, on bytes, numbers and slices.
+ELSEWHERE = {"all", "copy_from_slice", "copy_within", "enumerate", "get", "is_ascii_digit", "is_ascii_graphic", "is_empty", "iter", "saturating_sub",
+             "trailing_zeros", "wrapping_sub"}
 NAME = r"[A-Za-z_]\w*"
 
 
@@ -163,7 +167,7 @@ class Tree:
         return [f for f in self.functions if f.source.crate == crate and f.name == name and (owner is None or f.owner == owner)]
 
     def called(self, f, on_path=True):
-        """The functions that a function calls: all of that name in the crate that the call names. Off the path the library's methods are free."""
+        """The functions that a function calls: all of that name in the crate that the call names."""
         source, found = f.source, []
         body = f.text[f.text.index(")"):]
         for m in re.finditer(rf"(\.\s*)?((?:{NAME}::)*)({NAME})\s*\(", body):
@@ -179,12 +183,18 @@ class Tree:
                 hits = self.find(crate, name, owner) or ([] if owner else self.find(crate, name))
                 if not hits and (owner or name in self.type_names or (path and path[0] in NUMBERS)):
                     continue  # a variant or a tuple struct, or a function of the kit on numbers
-            if not hits and method and (name in LIBRARY or not on_path):
+            if not hits and method and (name in LIBRARY or (not on_path and name in ELSEWHERE)):
                 continue
             if not hits:
                 raise Refused(f"{source.path}:{source.line(f.start)}: {f} calls {m[0].strip()}..), and no source has it")
             found += hits
         return found
+
+    def handed_on(self, f):
+        """The functions of `crc32` and `piece` that a function names without calling them: what they are handed to may."""
+        for m in re.finditer(rf"(?<![\w.])((?:{NAME}::)*)({NAME})\b(?!\s*(?:\(|::))", f.text[f.text.index(")"):]):
+            crate, path = self.crate_of(f.source, m[1].split("::")[:-1], m[2])
+            yield from self.find(crate, m[2]) if crate in SUMMING else ()
 
     def path(self):
         todo = [f for f in self.functions if f.source.crate == START and f.public]
@@ -204,9 +214,10 @@ class Tree:
         for f in self.functions:
             if f in path or f.source.crate not in self.below(BOOK) | {BOOK} or f.source.crate.startswith("crc32"):
                 continue
-            for g in self.called(f, on_path=False):
-                if g.source.crate in SUMMING and g.source.crate != f.source.crate and (g.source.crate, g.name) not in FREE:
-                    yield f"{f.source.path}:{f.source.line(f.start)}: {f} calls {g}, outside the path from `{START}`"
+            for how, others in (("calls", self.called(f, on_path=False)), ("hands on", self.handed_on(f))):
+                for g in others:
+                    if g.source.crate in SUMMING and g.source.crate != f.source.crate and (g.source.crate, g.name) not in FREE:
+                        yield f"{f.source.path}:{f.source.line(f.start)}: {f} {how} {g}, outside the path from `{START}`"
 
     def number(self, text):
         """The value of a length, or None where it is not constant."""

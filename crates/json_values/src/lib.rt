@@ -79,8 +79,9 @@ enum Container {
     Object,
 }
 
-// Past an array or an object, from past its bracket.
+// Past an array or an object, from past its bracket. It is inlined, so that each kind has a loop of its own.
 #[cycle(values)]
+#[inline(always)]
 fn container_end(s: &[u8], at: usize, depth: usize, container: Container) -> Option<usize>
     ensures { result ≡ container_end container (value depth s.now) s.now at }
 {

@@ -14,6 +14,8 @@ ghost use Rattle.settings.specs.Kept.{Chosen, Copied};
 // The longest name.
 pub const MAX_NAME: usize = 16;
 
+const QUOTE: u8 = b'"';
+
 #[derive(Clone, Copy, Debug, PartialEq, Eq)]
 pub enum Dialect {
     K,
@@ -174,7 +176,7 @@ pub fn are_name_bytes(name: &[u8]) -> bool
 fn is_name_byte(c: u8) -> bool
     ensures { result ≡ name_byte c }
 {
-    c.is_ascii_graphic() && c != b'"' && c != b'\\'
+    c.is_ascii_graphic() && c != QUOTE && c != b'\\'
 }
 
 fn copy_name(name: &[u8]) -> [u8; 16]

@@ -3,6 +3,7 @@
 #![tactic(auto)]
 
 ghost use Rattle.std.specs.Prelude.{◌≡◌, ◌≤◌, length, take};
+ghost use Rattle.std.specs.Ordering.{is_ge};
 ghost use Rattle.crc32.specs.Table.{ShiftTable};
 ghost use Rattle.edit.specs.Edit.{for_side, side_of};
 ghost use Rattle.edit.specs.Buffer.{entries_in};
@@ -17,6 +18,7 @@ use edit::{BUFFER_WORDS, Side};
 use level::{MAX_WORDS, level_in, price_of};
 use settings::SumText;
 use side::Applied;
+use std::cmp::Ordering;
 
 // The side after the first `count` entries of a buffer, of which `own` are for it. The side is the first `kept` levels of the words,
 // and then the first `left` of what is answered. The words past these stay as they are, and with no entries of its own all do. Levels
@@ -61,5 +63,12 @@ pub fn is_crossed(
     }
     let bid = price_of(level_in(bids, 0));
     let ask = price_of(level_in(asks, 0));
-    decimal::compare(bid, ask).is_ge()
+    is_not_below(decimal::compare(bid, ask))
+}
+
+// Whether the first of two prices, in this order by value, is not below the second.
+fn is_not_below(order: Ordering) -> bool
+    ensures { result ≡ is_ge order }
+{
+    order.is_ge()
 }

@@ -29,6 +29,6 @@ compare-requires c =
 pub returns : goal.returns
 returns c =
     let a = c.args in
-    c.is_ge.ensures
+    c.is_not_below.ensures
     ∙ ap is_ge (c.compare.ensures ∙ ap₂ order (c.price_of-bid.ensures ∙ ap level_price c.level_in.ensures) (c.price_of-ask.ensures ∙ ap level_price c.level_in-2.ensures))
     ∙ best-cross (kept_in a.bids.now a.bid_count) (kept_in a.asks.now a.ask_count) c.requires.0 c.requires.1 c.if-bid_count-eq0.false c.if-ask_count-eq0.false

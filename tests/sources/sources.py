@@ -98,6 +98,8 @@ class Source:
         self.const_spans = [m.span() for m in re.finditer(rf"\bconst {NAME}\s*:\s*(?:\[[^\]]*\]|[^=;])*=", self.code)]
         self.const_spans = [(a, self.code.index(";", b)) for a, b in self.const_spans]
         impls = [(m[1], m.end() - 1, closing(self.code, m.end() - 1)) for m in re.finditer(rf"\bimpl ({NAME})\s*\{{", self.code)]
+        if other := re.search(rf"^\s*(?:pub(?:\([^)]*\))?\s+)?(?:unsafe\s+)?(?:trait\b|impl\b(?!\s+{NAME}\s*\{{)).*", self.code, re.M):
+            raise Refused(f"{path}: {other[0].strip()!r}: a trait or an impl of one, or of a type with parameters, is not read here")
         self.functions, self.types = [], []
         for m in re.finditer(rf"(\bpub(?:\([^)]*\))?\s+)?(?:extern\s+\S+\s+)?\bfn ({NAME})", self.code):
             body = self.code.index("{", closing(self.code, self.code.index("(", m.end())))
@@ -170,7 +172,7 @@ class Tree:
         """The functions that a function calls: all of that name in the crate that the call names."""
         source, found = f.source, []
         body = f.text[f.text.index(")"):]
-        for m in re.finditer(rf"(\.\s*)?((?:{NAME}::)*)({NAME})\s*\(", body):
+        for m in re.finditer(rf"(\.\s*)?((?:{NAME}::)*)({NAME})(?:::<[^()]*?>)?\s*\(", body):
             method, path, name = m[1], m[2].split("::")[:-1], m[3]
             if name in WORDS:
                 continue
@@ -192,8 +194,11 @@ class Tree:
 
     def handed_on(self, f):
         """The functions of `crc32` and `piece` that a function names without calling them: what they are handed to may."""
-        for m in re.finditer(rf"(?<![\w.])((?:{NAME}::)*)({NAME})\b(?!\s*(?:\(|::))", f.text[f.text.index(")"):]):
-            crate, path = self.crate_of(f.source, m[1].split("::")[:-1], m[2])
+        yield from self.named(f.source, f.text[f.text.index(")"):])
+
+    def named(self, source, text):
+        for m in re.finditer(rf"(?<![\w.])((?:{NAME}::)*)({NAME})\b(?!\s*(?:\(|::(?!<)))", text):
+            crate, path = self.crate_of(source, m[1].split("::")[:-1], m[2])
             yield from self.find(crate, m[2]) if crate in SUMMING else ()
 
     def path(self):
@@ -218,6 +223,13 @@ class Tree:
                 for g in others:
                     if g.source.crate in SUMMING and g.source.crate != f.source.crate and (g.source.crate, g.name) not in FREE:
                         yield f"{f.source.path}:{f.source.line(f.start)}: {f} {how} {g}, outside the path from `{START}`"
+
+        for s in self.sources:
+            if s.crate in self.below(BOOK) | {BOOK} and not s.crate.startswith("crc32"):
+                for a, b in s.const_spans:
+                    for g in self.named(s, s.code[a:b]):
+                        if g.source.crate != s.crate:
+                            yield f"{s.path}:{s.line(a)}: a constant hands on {g}"
 
     def number(self, text):
         """The value of a length, or None where it is not constant."""

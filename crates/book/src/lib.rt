@@ -261,7 +261,12 @@ impl Book {
         requires { Good self }
         ensures { AnswersAmount self (which_number scope) result }
     {
-        self.told(scope, self.number)
+        let (answer, value) = self.told(scope, self.number);
+        NumberReply {
+            book: self,
+            answer,
+            value,
+        }
     }
 
     // How many updates were taken since the last snapshot.
@@ -269,23 +274,26 @@ impl Book {
         requires { Good self }
         ensures { AnswersAmount self (how_many_updates scope) result }
     {
-        self.told(scope, self.updates)
+        let (answer, value) = self.told(scope, self.updates);
+        NumberReply {
+            book: self,
+            answer,
+            value,
+        }
     }
 
-    // What the book tells of a number of its own.
+    // What the book tells of a number of its own: the answer, and the number where it is told. The caller makes the reply, so that the book is copied
+    // into it alone.
     #[tactic(auto, unfolding(crate::specs::Asking::told))]
-    fn told(self, scope: Scope, value: u64) -> NumberReply
-        ensures { result ≡ told self scope value }
+    fn told(&self, scope: Scope, value: u64) -> (Answer, u64)
+        ensures { record { book = self.now; answer = result.0; value = result.1 } ≡ told self.now scope value }
     {
         let lifecycle = self.lifecycle;
         if stands(lifecycle, scope) {
-            return NumberReply {
-                book: self,
-                answer: Answer::Taken,
-                value,
-            };
+            (Answer::Taken, value)
+        } else {
+            (refusal(lifecycle), 0)
         }
-        no_value(self, refusal(lifecycle))
     }
 
     // Writes the book as a snapshot at the start of the buffer; answers its length.

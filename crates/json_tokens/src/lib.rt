@@ -35,7 +35,7 @@ pub const OPEN_OBJECT: u8 = b'{';
 
 pub const CLOSE_OBJECT: u8 = b'}';
 
-// Most bytes are above a space, which one test tells. By `||`: of `matches!` the compiler makes one jump for each of the four.
+// Most bytes are above a space, which one test tells. By `||`: of `matches!` the compiler makes three jumps.
 #[tactic(auto, using(std::proofs::lemmas::Bool::Decides::nat_tests), unfolding(crate::specs::Bytes::blank))]
 fn is_blank(c: u8) -> bool
     ensures { result ≡ blank c }

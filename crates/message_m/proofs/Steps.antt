@@ -251,6 +251,29 @@ module _ (name s : List ℕ) (met : Members) (n : Span) (at to : ℕ) (key : Key
       let d : Keyed s n key = rw is (keyed s n) in
       rw (ho, hp, hc, hq, hk, hu, hg, hf, made, d.channel, d.product, d.kind, d.body, d.checksum, d.gsn, d.previous)
 
+  -- a member that has none of our names leaves all but the body as it was
+  module _ (other : is_key key keys.Other ≡ true) where
+    tag-is-0 : tag_of the_type key ≡ 0
+    tag-is-0 = eqb-true _ _ other
+
+    not-it : (i : Key) → eqb 0 (tag_of the_type i) ≡ false → is_key key i ≡ false
+    not-it i h = ap (λ (n : ℕ). eqb n (tag_of the_type i)) tag-is-0 ∙ h
+
+    same-span : (i : Key) (k : MemberSpan) → eqb 0 (tag_of the_type i) ≡ false → k ≡ hits i k
+    same-span i k h = sym (hit-no (is_key key i) with_member_span k v (not-it i h))
+
+    same-flag : (i : Key) (o q : Bool) → eqb 0 (tag_of the_type i) ≡ false → o ≡ (o || (is_key key i && q))
+    same-flag i true q h = refl
+    same-flag i false q h = sym (ap (λ (x : Bool). x && q) (not-it i h))
+
+    pub members-passed : ◌≡◌ {A = Members} (record { body = b; is_book = met.is_book; is_product = met.is_product; channel = met.channel; product = met.product; kind = met.kind; checksum = met.checksum; gsn = met.gsn; previous = met.previous })
+        (more_members name s met (record { name = n; value = record { from = at; to = to } }))
+    members-passed =
+        members-made met.is_book met.is_product met.channel met.product met.kind met.checksum met.gsn met.previous
+        (same-flag keys.Channel met.is_book (means s v (ascii "book")) refl) (same-flag keys.Product met.is_product (means s v name) refl)
+        (same-span keys.Channel met.channel refl) (same-span keys.Product met.product refl) (same-span keys.Type met.kind refl)
+        (same-span keys.Checksum met.checksum refl) (same-span keys.Number met.gsn refl) (same-span keys.Previous met.previous refl)
+
 -- the places of marks
 pub placed-more : (s : List ℕ) (hit : Bool) (k : MemberSpan) (a : Span) → Placed s k → a.from ≤ a.to → a.to ≤ length s → Placed s (on_hit hit with_member_span k a)
 unfolding on_hit with_member_span

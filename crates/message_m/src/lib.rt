@@ -174,6 +174,10 @@ fn more_members(
 {
     let key = key_of(s, first, past);
     let body = more_body(s, met.body, key, from, buffer);
+    // Of a member with another name only the end is kept; a message may have thousands of them.
+    if key == Key::Other {
+        return Members { body, ..met };
+    }
     let to = body.end;
     Members {
         body,

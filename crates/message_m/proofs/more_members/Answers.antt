@@ -8,7 +8,7 @@ use Rattle.json_tokens.specs.Ends.{end_of}
 use Rattle.json_values.specs.Json.{Span, value}
 use Rattle.message_m.specs.Collected.{body_held, is_key}
 use Rattle.message_m.specs.declared.Key.TheVariants as keys
-use Rattle.message_m.proofs.Steps.{members-made, added-as, data-key}
+use Rattle.message_m.proofs.Steps.{members-made, members-passed, added-as, data-key}
 use Rattle.message_m.proofs.more_members.Goals as goal
 use Rattle.message_m.proofs.more_members.Goals.{then-met, else-met, then-met-2, else-met-2}
 
@@ -20,6 +20,20 @@ or-next h = rw h
 
 pub more_body-body-requires : goal.more_body-body-requires
 more_body-body-requires c = let p = c.requires in (p.0, p.1)
+
+-- a member with another name
+pub returns-then-eq : goal.returns-then-eq
+returns-then-eq c =
+    let a = c.args in
+    let s = a.s.now in
+    let n : Span = record { from = a.first; to = a.past } in
+    let v : Span = record { from = a.from; to = end_of (value 15 s a.from) } in
+    let k = c.key_of-key in
+    let b = c.more_body-body in
+    record {
+      told = members-passed a.name.now s a.met n a.from (end_of (value 15 s a.from)) k.result b.result k.ensures b.ensures.told (sym c.if-eq.ensures);
+      added = added-as b.ensures.added (λ x. ap (λ (h : Bool). body_held s h x v) (data-key s n k.result k.ensures));
+    }
 
 pub returns : goal.returns
 returns c =

@@ -5,4 +5,4 @@ use Rattle.book.proofs.Asking.{number-told}
 use Rattle.book.proofs.Book.number.Goals as goal
 
 pub returns : goal.returns
-returns c = let a = c.args in subst (AnswersAmount a.self _) (sym c.told.ensures) (number-told a.self a.scope)
+returns c = let a = c.args in subst (AnswersAmount a.self _) (sym c.told-answer.ensures) (number-told a.self a.scope)

@@ -282,8 +282,8 @@ impl Book {
         }
     }
 
-    // What the book tells of a number of its own: the answer, and the number where it is told. The caller makes the reply, so that the book is copied
-    // into it alone.
+    // What the book tells of a number of its own: the answer and the number, or 0 where the question is refused. The caller makes the reply, so that the
+    // book is copied once.
     #[tactic(auto, unfolding(crate::specs::Asking::told))]
     fn told(&self, scope: Scope, value: u64) -> (Answer, u64)
         ensures { record { book = self.now; answer = result.0; value = result.1 } ≡ told self.now scope value }

@@ -8,6 +8,7 @@ use Prim.Native.Nat.{ℕ, suc, ◌+◌, ◌≤◌}
 use native.Mathlib.Omega.{arith}
 use borrow.Author.Tests.{eqb-true}
 use denote.Enum.Declared.{tag_of}
+use Rattle.std.proofs.Math.Bool.{or-false}
 use lib.Dec.{eqb}
 use lib.ListN.{length}
 use Rattle.text.specs.Text.{ascii, byte_at}
@@ -149,6 +150,11 @@ added-as {s} {a} {t} {u} {f} {g} {before} {after} h same =
           (subst (λ (y : Option (List Entry)). Tells s y u) (same x) p.0, subst (λ (y : Option (List Entry)). Kept s y after) (same x) p.1);
     }
 
+-- what a member of the message adds, by its name where the code goes by the variant
+pub member-added : {s : List ℕ} (n : Span) {a : Span} {k : Key} {t u : Tally} {before after : List ℕ} → k ≡ key_of s n → Added s a t u (λ x. body_held s (is_key k keys.Data) x a) before after
+    → Added s a t u (λ x. body_held s (means s n (ascii "data")) x a) before after
+member-added {s} n {a} {k} h g = added-as g (λ x. ap (λ (hit : Bool). body_held s hit x a) (data-key s n k h))
+
 -- .. and where the same is told
 pub added-told : {s : List ℕ} {a : Span} {t u v : Tally} {f : Option (List Entry) → Option (List Entry)} {before after : List ℕ} → v ≡ u → Added s a t u f before after → Added s a t v f before after
 added-told {s} {a} {t} {u} {v} {f} {before} {after} e h = subst (λ (x : Tally). Added s a t x f before after) (sym e) h
@@ -252,27 +258,13 @@ module _ (name s : List ℕ) (met : Members) (n : Span) (at to : ℕ) (key : Key
       rw (ho, hp, hc, hq, hk, hu, hg, hf, made, d.channel, d.product, d.kind, d.body, d.checksum, d.gsn, d.previous)
 
   -- a member that has none of our names leaves all but the body as it was
-  module _ (other : is_key key keys.Other ≡ true) where
-    tag-is-0 : tag_of the_type key ≡ 0
-    tag-is-0 = eqb-true _ _ other
-
-    not-it : (i : Key) → eqb 0 (tag_of the_type i) ≡ false → is_key key i ≡ false
-    not-it i h = ap (λ (n : ℕ). eqb n (tag_of the_type i)) tag-is-0 ∙ h
-
-    same-span : (i : Key) (k : MemberSpan) → eqb 0 (tag_of the_type i) ≡ false → k ≡ hits i k
-    same-span i k h = sym (hit-no (is_key key i) with_member_span k v (not-it i h))
-
-    same-flag : (i : Key) (o q : Bool) → eqb 0 (tag_of the_type i) ≡ false → o ≡ (o || (is_key key i && q))
-    same-flag i true q h = refl
-    same-flag i false q h = sym (ap (λ (x : Bool). x && q) (not-it i h))
-
-    pub members-passed : ◌≡◌ {A = Members} (record { body = b; is_book = met.is_book; is_product = met.is_product; channel = met.channel; product = met.product; kind = met.kind; checksum = met.checksum; gsn = met.gsn; previous = met.previous })
-        (more_members name s met (record { name = n; value = record { from = at; to = to } }))
-    members-passed =
-        members-made met.is_book met.is_product met.channel met.product met.kind met.checksum met.gsn met.previous
-        (same-flag keys.Channel met.is_book (means s v (ascii "book")) refl) (same-flag keys.Product met.is_product (means s v name) refl)
-        (same-span keys.Channel met.channel refl) (same-span keys.Product met.product refl) (same-span keys.Type met.kind refl)
-        (same-span keys.Checksum met.checksum refl) (same-span keys.Number met.gsn refl) (same-span keys.Previous met.previous refl)
+  pub members-passed : is_key key keys.Other ≡ true
+      → ◌≡◌ {A = Members} (record { body = b; is_book = met.is_book; is_product = met.is_product; channel = met.channel; product = met.product; kind = met.kind; checksum = met.checksum; gsn = met.gsn; previous = met.previous })
+      (more_members name s met (record { name = n; value = record { from = at; to = to } }))
+  unfolding more_members more_body on_hit
+  members-passed other =
+      let d : Keyed s n key = rw is (keyed s n) in
+      sym (rw (made, sym d.body, sym d.channel, sym d.product, sym d.kind, sym d.checksum, sym d.gsn, sym d.previous, eqb-true (tag_of the_type key) 0 other, or-false met.is_book, or-false met.is_product))
 
 -- the places of marks
 pub placed-more : (s : List ℕ) (hit : Bool) (k : MemberSpan) (a : Span) → Placed s k → a.from ≤ a.to → a.to ≤ length s → Placed s (on_hit hit with_member_span k a)

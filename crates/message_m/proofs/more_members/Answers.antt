@@ -1,14 +1,14 @@
 -- `message_m::more_members` meets its contract: part by part.
 -- Assumes nothing.
-use mathlib.Core.Path.{◌≡◌, ◌∙◌, ap, sym}
+use mathlib.Core.Path.{◌≡◌, ◌∙◌, sym}
 use mathlib.Core.Bool.{Bool, true, false, ◌||◌, ◌&&◌}
 use Rattle.text.specs.Text.{ascii}
 use Rattle.json_values.specs.Names.{means}
 use Rattle.json_tokens.specs.Ends.{end_of}
 use Rattle.json_values.specs.Json.{Span, value}
-use Rattle.message_m.specs.Collected.{body_held, is_key}
+use Rattle.message_m.specs.Collected.{is_key}
 use Rattle.message_m.specs.declared.Key.TheVariants as keys
-use Rattle.message_m.proofs.Steps.{members-made, members-passed, added-as, data-key}
+use Rattle.message_m.proofs.Steps.{members-made, members-passed, member-added}
 use Rattle.message_m.proofs.more_members.Goals as goal
 use Rattle.message_m.proofs.more_members.Goals.{then-met, else-met, then-met-2, else-met-2}
 
@@ -27,12 +27,11 @@ returns-then-eq c =
     let a = c.args in
     let s = a.s.now in
     let n : Span = record { from = a.first; to = a.past } in
-    let v : Span = record { from = a.from; to = end_of (value 15 s a.from) } in
     let k = c.key_of-key in
     let b = c.more_body-body in
     record {
       told = members-passed a.name.now s a.met n a.from (end_of (value 15 s a.from)) k.result b.result k.ensures b.ensures.told (sym c.if-eq.ensures);
-      added = added-as b.ensures.added (λ x. ap (λ (h : Bool). body_held s h x v) (data-key s n k.result k.ensures));
+      added = member-added n k.ensures b.ensures.added;
     }
 
 pub returns : goal.returns
@@ -40,7 +39,6 @@ returns c =
     let a = c.args in
     let s = a.s.now in
     let n : Span = record { from = a.first; to = a.past } in
-    let v : Span = record { from = a.from; to = end_of (value 15 s a.from) } in
     let k = c.key_of-key in
     let b = c.more_body-body in
     let book : c.if-met.result ≡ (a.met.is_book || (is_key k.result keys.Channel && means s (record { from = a.from; to = b.result.end }) (ascii "book"))) = elim c.if-met.branch [
@@ -57,5 +55,5 @@ returns c =
           c.if-met.result c.if-met-2.result c.more_spans.result c.more_spans-2.result c.more_spans-3.result c.more_spans-4.result c.more_spans-5.result c.more_spans-6.result
           book product
           c.more_spans.ensures c.more_spans-2.ensures c.more_spans-3.ensures c.more_spans-4.ensures c.more_spans-5.ensures c.more_spans-6.ensures;
-      added = added-as b.ensures.added (λ x. ap (λ (h : Bool). body_held s h x v) (data-key s n k.result k.ensures));
+      added = member-added n k.ensures b.ensures.added;
     }
